@@ -1,0 +1,24 @@
+// A number of cycles, or none: what the parts of a board answer when asked for their next interrupt.
+ghost use mathlib.Core.Path.{_≡_};
+ghost use Rattle.wide.specs.Deadline.{numberOf, sooner};
+use crate::number::Wide;
+
+pub enum Deadline {
+    Never,
+    At(Wide),
+}
+
+impl Deadline {
+    // The smaller of two, or the one that there is.
+    pub fn sooner(self, other: Deadline) -> Self
+        ensures { λ r. ⌜ numberOf r ≡ sooner (numberOf self) (numberOf other) ⌝ }
+    {
+        let Deadline::At(a) = self else {
+            return other;
+        };
+        let Deadline::At(b) = other else {
+            return self;
+        };
+        Deadline::At(a.least(b))
+    }
+}
