@@ -1,4 +1,12 @@
 // A timer channel of the board. Cycles become ticks at its prescaler, and ticks reach its counter.
+ghost use mathlib.Core.Path.{_≡_};
+ghost use Rattle.wide.specs.Bits.{bit};
+ghost use Rattle.channel.specs.Channel.{freshTimer, enabledOf, irqEnabledOf, lineOf, soundTimer};
+
+mod deadline;
+mod modes;
+mod prescaler;
+mod registers;
 
 // Cycles of the master clock. Only a channel's prescaler turns them into ticks.
 pub struct Cycles(pub u64);
@@ -8,3 +16,80 @@ pub struct Ticks(pub u64);
 
 // A channel's number on the board, 0 to 3.
 pub struct ChannelNumber(pub u8);
+
+impl ChannelNumber {
+    // The channel's bit in timer enable.
+    pub fn selected(self, timer_enable: u8) -> bool
+        ensures { λ r. ⌜ r ≡ bit (self .0) «timer_enable» ⌝ }
+    {
+        let n = self.0;
+        if 8 <= n {
+            return false;
+        }
+        (timer_enable >> n) % 2 == 1
+    }
+}
+
+pub struct HardwareTimer {
+    // Bits 0 and 1 the mode, 2 enable, 3 interrupt enable.
+    pub control: u8,
+    pub counter: u64,
+    pub compare: u64,
+    pub reload: u64,
+    pub prescaler: u32,
+    // The cycles since the last tick.
+    pub phase: u32,
+    pub pending: bool,
+    pub armed: bool,
+}
+
+impl HardwareTimer {
+    // A channel of the fresh board.
+    pub fn fresh() -> Self
+        ensures { λ r. ⌜ r ≡ freshTimer ⌝ }
+    {
+        HardwareTimer {
+            control: 0,
+            counter: 0,
+            compare: 0,
+            reload: 0,
+            prescaler: 0,
+            phase: 0,
+            pending: false,
+            armed: false,
+        }
+    }
+
+    pub fn enabled(self) -> bool
+        ensures { λ r. ⌜ r ≡ enabledOf (self .control) ⌝ }
+    {
+        self.control / 4 % 2 == 1
+    }
+
+    pub fn irq_enabled(self) -> bool
+        ensures { λ r. ⌜ r ≡ irqEnabledOf (self .control) ⌝ }
+    {
+        self.control / 8 % 2 == 1
+    }
+
+    // What the channel gives to the line.
+    pub fn asserted(self) -> bool
+        ensures { λ r. ⌜ r ≡ lineOf self ⌝ }
+    {
+        if self.pending {
+            self.irq_enabled()
+        } else {
+            false
+        }
+    }
+
+    pub fn sound(self) -> bool
+        ensures { λ r. ⌜ r ≡ soundTimer self ⌝ }
+    {
+        if self.control < 16 {
+            self.phase <= self.prescaler
+        } else {
+            false
+        }
+    }
+}

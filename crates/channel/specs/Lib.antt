@@ -1,0 +1,5 @@
+pub mod Channel
+pub mod Prescaler
+pub mod Modes
+pub mod Deadline
+pub mod Registers

@@ -1,0 +1,103 @@
+// A channel's deadline: the exact number of cycles until it gives an interrupt.
+ghost use mathlib.Core.Path.{_≡_};
+ghost use mathlib.Core.Bool.{_&&_, cond};
+ghost use mathlib.Core.Option.{none, some};
+ghost use Prim.Native.Nat.{_+_, _-_, _*_, _≤_};
+ghost use Rattle.wide.specs.Number.{valueOf};
+ghost use Rattle.wide.specs.Deadline.{numberOf};
+ghost use Rattle.channel.specs.Channel.{modeOf, divisor};
+ghost use Rattle.channel.specs.Modes.{distance};
+ghost use Rattle.channel.specs.Deadline.{ticksUp, ticksToGo, toGoOf, waiting, deadlineOf};
+use crate::HardwareTimer;
+use crate::Ticks;
+use wide::deadline::Deadline;
+use wide::number::Wide;
+
+// The ticks to go: none, or one more than a word can hold.
+pub enum ToGo {
+    Never,
+    OneAfter(Ticks),
+}
+
+fn both(a: bool, b: bool) -> bool
+    ensures { λ r. ⌜ r ≡ (a && b) ⌝ }
+{
+    if a { b } else { false }
+}
+
+// The ticks of modes 0 and 1 up to the compare point.
+fn ticks_up(counter: u64, compare: u64) -> ToGo
+    ensures { λ r. ⌜ toGoOf r ≡ some (ticksUp counter compare) ⌝ }
+{
+    if counter < compare {
+        ToGo::OneAfter(Ticks(compare - counter - 1))
+    } else {
+        ToGo::OneAfter(Ticks(0))
+    }
+}
+
+// The ticks of mode 2 to the compare point, round past the largest word.
+fn ticks_round(counter: u64, compare: u64, armed: bool) -> ToGo
+    ensures { λ r. ⌜ toGoOf r ≡ cond armed (some (distance counter compare)) none ⌝ }
+{
+    if armed {
+        let difference = std::num::wrapping_sub_u64(compare, counter);
+        ToGo::OneAfter(Ticks(std::num::wrapping_sub_u64(difference, 1)))
+    } else {
+        ToGo::Never
+    }
+}
+
+impl HardwareTimer {
+    fn ticks_to_go(self) -> ToGo
+        ensures { λ r. ⌜ toGoOf r ≡ ticksToGo (modeOf (self .control)) (self .counter) (self .compare) (self .armed) ⌝ }
+    {
+        let counter = self.counter;
+        let compare = self.compare;
+        let control = self.control;
+        let armed = self.armed;
+        let mode = control % 4;
+        match mode {
+            0 => ticks_up(counter, compare),
+            1 => ticks_up(counter, compare),
+            2 => ticks_round(counter, compare, armed),
+            _ => ToGo::Never,
+        }
+    }
+
+    // The cycles of n ticks and one more.
+    fn cycles_of(self, n: Ticks) -> Wide
+        requires { ⌜ self .phase ≤ self .prescaler ⌝ }
+        ensures { λ r. ⌜ valueOf r ≡ divisor self - self .phase + n .0 * divisor self ⌝ }
+    {
+        let phase = self.phase;
+        let prescaler = self.prescaler;
+        let v = prescaler as u64 + 1;
+        let first = Wide::from_word(v - phase as u64);
+        first.sum(Wide::product(n.0, v))
+    }
+
+    // Whether the channel, whose bit in timer enable is `selected`, has an interrupt to come.
+    fn waits(self, selected: bool) -> bool
+        ensures { λ r. ⌜ r ≡ waiting selected self ⌝ }
+    {
+        both(
+            both(both(self.enabled(), selected), self.irq_enabled()),
+            !self.pending,
+        )
+    }
+
+    // The exact deadline of the channel, whose bit in timer enable is `selected`.
+    pub fn cycles_until_match(self, selected: bool) -> Deadline
+        requires { ⌜ self .phase ≤ self .prescaler ⌝ }
+        ensures { λ r. ⌜ numberOf r ≡ deadlineOf selected self ⌝ }
+    {
+        if self.waits(selected) {
+            let ToGo::OneAfter(n) = self.ticks_to_go() else {
+                return Deadline::Never;
+            };
+            return Deadline::At(self.cycles_of(n));
+        }
+        Deadline::Never
+    }
+}

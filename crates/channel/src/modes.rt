@@ -1,0 +1,130 @@
+// What ticks do to a channel in each of its modes.
+ghost use mathlib.Core.Path.{_≡_};
+ghost use Prim.Native.Nat.{_+_, _≤_, min};
+ghost use lib.Dec.{leb};
+ghost use Rattle.wide.specs.Number.{largest};
+ghost use Rattle.channel.specs.Channel.{setPending, clearEnable};
+ghost use Rattle.channel.specs.Modes.{oneShot, reloaded, matched, periodic, distance, freeRunning, ticked};
+use crate::HardwareTimer;
+use crate::Ticks;
+
+// The sum, or the largest word where it is larger.
+fn saturating_add(a: u64, b: u64) -> u64
+    ensures { λ r. ⌜ r ≡ min (a + b) largest ⌝ }
+{
+    if u64::MAX - a < b { u64::MAX } else { a + b }
+}
+
+impl HardwareTimer {
+    // Pending set and enable cleared.
+    fn fired(mut self) -> Self
+        ensures { λ r. ⌜ r ≡ clearEnable (setPending self) ⌝ }
+    {
+        let control = self.control;
+        self.pending = true;
+        self.control = control / 8 * 8 + control % 4;
+        self
+    }
+
+    fn advance_one_shot(mut self, t: u64) -> Self
+        ensures { λ r. ⌜ r ≡ oneShot t self ⌝ }
+    {
+        let counter = self.counter;
+        let compare = self.compare;
+        if compare <= counter {
+            return self.fired();
+        }
+        if compare - counter <= t {
+            self.counter = compare;
+            return self.fired();
+        }
+        self.counter = counter + t;
+        self
+    }
+
+    // A periodic channel at its compare point or past it. The next point lies past the counter by what the remainder
+    // leaves of a period.
+    fn reloaded(mut self) -> Self
+        requires { ⌜ self .compare ≤ self .counter ⌝ }
+        ensures { λ r. ⌜ r ≡ reloaded self ⌝ }
+    {
+        let counter = self.counter;
+        let compare = self.compare;
+        let reload = self.reload;
+        if reload == 0 {
+            return self.fired();
+        }
+        let gap = reload - (counter - compare) % reload;
+        if u64::MAX - counter < gap {
+            return self.fired();
+        }
+        self.compare = counter + gap;
+        self.pending = true;
+        self
+    }
+
+    fn matched(self) -> Self
+        ensures { λ r. ⌜ r ≡ matched self ⌝ }
+    {
+        let counter = self.counter;
+        let compare = self.compare;
+        if compare <= counter {
+            self.reloaded()
+        } else {
+            self
+        }
+    }
+
+    fn advance_periodic(mut self, t: u64) -> Self
+        ensures { λ r. ⌜ r ≡ periodic t self ⌝ }
+    {
+        let counter = self.counter;
+        self.counter = saturating_add(counter, t);
+        self.matched()
+    }
+
+    // Whether t ticks reach the compare point. A distance of 0 means 2^64, which no t reaches.
+    fn reaches(self, t: u64) -> bool
+        ensures { λ r. ⌜ r ≡ leb (distance (self .counter) (self .compare)) t ⌝ }
+    {
+        let counter = self.counter;
+        let compare = self.compare;
+        let distance = std::num::wrapping_sub_u64(compare, counter);
+        if distance == 0 {
+            return false;
+        }
+        distance <= t
+    }
+
+    fn advance_free_running(mut self, t: u64) -> Self
+        ensures { λ r. ⌜ r ≡ freeRunning t self ⌝ }
+    {
+        let counter = self.counter;
+        let hit = self.reaches(t);
+        self.counter = std::num::wrapping_add_u64(counter, t);
+        if self.armed {
+            if hit {
+                self.pending = true;
+                self.armed = false;
+            }
+        }
+        self
+    }
+
+    pub fn advance(self, ticks: Ticks) -> Self
+        ensures { λ r. ⌜ r ≡ ticked (ticks .0) self ⌝ }
+    {
+        let control = self.control;
+        let t = ticks.0;
+        if t == 0 {
+            return self;
+        }
+        let mode = control % 4;
+        match mode {
+            0 => self.advance_one_shot(t),
+            1 => self.advance_periodic(t),
+            2 => self.advance_free_running(t),
+            _ => self,
+        }
+    }
+}

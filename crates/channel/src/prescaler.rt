@@ -1,0 +1,55 @@
+// The prescaler: the only place where cycles become ticks.
+ghost use mathlib.Core.Path.{_≡_};
+ghost use Prim.Native.Nat.{_≤_};
+ghost use Rattle.channel.specs.Prescaler.{ticksOf, phaseAfter, advanced};
+use crate::Cycles;
+use crate::HardwareTimer;
+use crate::Ticks;
+
+// What the prescaler makes of a number of cycles.
+struct Scaled {
+    ticks: Ticks,
+    phase: u32,
+}
+
+impl HardwareTimer {
+    // The cycles up to the first tick are taken off, so that no sum is larger than a word.
+    fn scale(self, cycles: Cycles) -> Scaled
+        requires { ⌜ self .phase ≤ self .prescaler ⌝ }
+        ensures { λ r. ⌜ (r .ticks .0 ≡ ticksOf (cycles .0) self) × (r .phase ≡ phaseAfter (cycles .0) self) ⌝ }
+    {
+        let phase = self.phase;
+        let prescaler = self.prescaler;
+        let v = prescaler as u64 + 1;
+        let c = cycles.0;
+        let first = v - phase as u64;
+        if c < first {
+            return Scaled {
+                ticks: Ticks(0),
+                phase: phase + c as u32,
+            };
+        }
+        let rest = c - first;
+        Scaled {
+            ticks: Ticks(rest / v + 1),
+            phase: (rest % v) as u32,
+        }
+    }
+
+    // Cycles arrive at the channel, whose bit in timer enable is `selected`.
+    pub fn advance_cycles(self, selected: bool, cycles: Cycles) -> Self
+        requires { ⌜ self .phase ≤ self .prescaler ⌝ }
+        ensures { λ r. ⌜ r ≡ advanced selected (cycles .0) self ⌝ }
+    {
+        if !self.enabled() {
+            return self;
+        }
+        if !selected {
+            return self;
+        }
+        let s = self.scale(cycles);
+        let mut h = self;
+        h.phase = s.phase;
+        h.advance(s.ticks)
+    }
+}
