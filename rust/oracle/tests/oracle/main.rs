@@ -1,0 +1,14 @@
+//! Tests of the oracle, one module for a part of document 01.
+
+mod clock;
+mod controller;
+mod demand;
+mod generated;
+mod list;
+mod originals;
+mod program;
+mod registers;
+mod rules;
+mod settings;
+mod soundness;
+mod support;

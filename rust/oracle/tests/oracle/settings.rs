@@ -1,0 +1,321 @@
+//! Document 01's settings A to J, and the wrong readings that it names.
+
+use oracle::board::Board;
+use oracle::call::{Answer, Call};
+use oracle::fields::Fields;
+use oracle::generate::Random;
+
+use crate::support::*;
+
+/// The answers of a list on a fresh board, every call of which must be accepted.
+fn answers(calls: &[Call]) -> Vec<u8> {
+    let list = encode(calls);
+    let (outcome, answers, _) = run_fresh(&list);
+    assert_eq!(
+        (outcome.calls, outcome.refusal, outcome.list_bytes),
+        (calls.len(), 0, list.len())
+    );
+    answers
+}
+
+fn writes(bytes: &[(u16, u8)]) -> Vec<Call> {
+    bytes
+        .iter()
+        .map(|&(address, byte)| Call::Write { address, byte })
+        .collect()
+}
+
+/// The records of empty answers to as many writes.
+fn written(count: usize) -> Vec<u8> {
+    [0x03, 0, 0].repeat(count)
+}
+
+fn deadline_record(exact: u128, capped: u64) -> Vec<u8> {
+    [&[0x05, 0, 25, 1][..], &exact.to_be_bytes(), &capped.to_be_bytes()].concat()
+}
+
+#[test]
+fn a_one_shot_with_prescaler() {
+    // Channel 0 is at offset 0x400, address 0x280: compare low, prescaler, control; timer enable at address 4.
+    let mut calls = writes(&[(0x293, 10), (0x2A3, 2), (0x283, 12), (0x007, 1)]);
+    calls.extend([
+        Call::Deadline,
+        Call::Advance { cycles: 29 },
+        Call::Advance { cycles: 1 },
+        Call::ControllerRead { address: 1 },
+    ]);
+    let expected = [
+        &written(4)[..],
+        &deadline_record(30, 30),
+        &[0x04, 0, 1, 0],
+        &[0x04, 0, 1, 1],
+        &[0x08, 0, 1, 8],
+    ];
+    assert_eq!(answers(&calls), expected.concat());
+}
+
+#[test]
+fn b_periodic_passes_three_periods() {
+    let mut fields = running(1);
+    fields.channels[0].compare = 10;
+    fields.channels[0].reload = 4;
+    let after = fields_after(&fields, Call::Advance { cycles: 19 });
+    assert_eq!((after.channels[0].counter, after.channels[0].compare), (19, 22));
+    assert!(after.channels[0].pending && after.channels[0].enabled());
+}
+
+#[test]
+fn c_periodic_at_the_top() {
+    for (reload, compare, enabled) in [(1, u64::MAX, true), (4, u64::MAX - 1, false)] {
+        let mut fields = running(1);
+        fields.channels[0].counter = u64::MAX - 2;
+        fields.channels[0].compare = u64::MAX - 1;
+        fields.channels[0].reload = reload;
+        let channel = fields_after(&fields, Call::Advance { cycles: 1 }).channels[0];
+        assert_eq!(
+            (channel.counter, channel.compare, channel.enabled()),
+            (u64::MAX - 1, compare, enabled)
+        );
+        assert!(channel.pending);
+    }
+}
+
+#[test]
+fn d_free_running_at_distance_0_goes_round() {
+    let mut fields = running(2);
+    fields.channels[0].armed = true;
+    let mut board = Board::from_fields(&fields);
+    assert_eq!(deadline(&mut board), Some(1 << 64));
+    assert!(!advance(&mut board, u64::MAX));
+    assert!(advance(&mut board, 1));
+    assert_eq!(board.fields().channels[0].counter, 0);
+}
+
+#[test]
+fn e_free_running_with_the_largest_prescaler() {
+    let mut fields = running(2);
+    fields.channels[0].armed = true;
+    fields.channels[0].prescaler = u32::MAX;
+    let mut board = Board::from_fields(&fields);
+    assert_eq!(deadline(&mut board), Some(1 << 96));
+    let skipped = accepted(&mut board, Call::Skip);
+    assert_eq!(
+        skipped,
+        Answer::Skip {
+            passed: u64::MAX,
+            line: false
+        }
+    );
+}
+
+#[test]
+fn f_alarm_after_two_seconds() {
+    // Alarm high at address 0x98, low at 0x94, alarm enable at 0x9C.
+    let mut calls = writes(&[
+        (0x98, 0),
+        (0x99, 0),
+        (0x9A, 0),
+        (0x9B, 0),
+        (0x94, 0),
+        (0x95, 0),
+        (0x96, 0),
+        (0x97, 2),
+        (0x9F, 1),
+    ]);
+    calls.extend([
+        Call::Deadline,
+        Call::Advance { cycles: 95_999_999 },
+        Call::Advance { cycles: 1 },
+    ]);
+    let expected = [
+        &written(9)[..],
+        &deadline_record(96_000_000, 96_000_000),
+        &[0x04, 0, 1, 0],
+        &[0x04, 0, 1, 1],
+    ];
+    assert_eq!(answers(&calls), expected.concat());
+}
+
+#[test]
+fn g_clock_at_its_top() {
+    let fields = Fields {
+        seconds: u64::MAX,
+        ..Fields::fresh()
+    };
+    for (cycles, subsecond) in [(47_999_999, 47_999_999), (48_000_000, 0)] {
+        let after = fields_after(&fields, Call::Advance { cycles });
+        assert_eq!((after.seconds, after.subsecond), (u64::MAX, subsecond));
+    }
+}
+
+#[test]
+fn h_lowest_enabled_pending_source() {
+    for (enable, number) in [(0x0200, 9), (0x0220, 5)] {
+        let mut board = Board::from_fields(&Fields {
+            controller_pending: 1 << 5 | 1 << 9,
+            controller_enable: enable,
+            ..Fields::fresh()
+        });
+        assert_eq!(
+            accepted(&mut board, Call::Output),
+            Answer::Output { valid: true, number }
+        );
+    }
+}
+
+#[test]
+fn i_seven_bytes_do_not_commit() {
+    // Clock control at address 0x80, seconds low at 0x88, high at 0x8C.
+    let seven = [
+        (0x83, 3),
+        (0x8C, 1),
+        (0x8D, 1),
+        (0x8E, 1),
+        (0x8F, 1),
+        (0x88, 1),
+        (0x89, 1),
+        (0x8A, 1),
+    ];
+    let (outcome, _, board) = run_fresh(&encode(&writes(&seven)));
+    assert_eq!((outcome.calls, outcome.refusal), (8, 0));
+    let expected = Fields {
+        clock_control: 3,
+        seconds_shadow: 0x0101_0101_0101_0100,
+        seconds_mask: 0x7F,
+        ..Fields::fresh()
+    };
+    assert_eq!(board.fields(), expected);
+
+    let eight = [&writes(&seven)[..], &writes(&[(0x8B, 1)])].concat();
+    let (_, _, board) = run_fresh(&encode(&eight));
+    let committed = Fields {
+        seconds: 0x0101_0101_0101_0101,
+        seconds_shadow: 0x0101_0101_0101_0101,
+        seconds_mask: 0,
+        ..expected
+    };
+    assert_eq!(board.fields(), committed);
+}
+
+#[test]
+fn j_empty_list() {
+    let (outcome, answers, board) = run_fresh(&[]);
+    assert_eq!(outcome, Default::default());
+    assert!(answers.is_empty());
+    assert_eq!(board.fields(), Fields::fresh());
+}
+
+#[test]
+fn wrong_low_count_latched() {
+    let mut fields = running(2);
+    fields.channels[0].counter = 0x1_FFFF_FFFF;
+    let mut board = Board::from_fields(&fields);
+    // Count low at address 0x288, high at 0x28C.
+    assert_eq!(read(&mut board, 0x288), 0xFF);
+    advance(&mut board, 1);
+    let low: Vec<u8> = (0x288..0x28C)
+        .skip(1)
+        .map(|address| read(&mut board, address))
+        .collect();
+    assert_eq!(low, [0, 0, 0], "the low word is live");
+    let high: Vec<u8> = (0x28C..0x290).map(|address| read(&mut board, address)).collect();
+    assert_eq!(high, [0, 0, 0, 1], "the high word is latched");
+    assert_eq!(read(&mut board, 0x28F), 2, "byte 3 freed the latch");
+}
+
+#[test]
+fn wrong_compare_of_a_disabled_channel_moved() {
+    // Neither control's enable alone nor timer enable alone makes it run; phase stays too.
+    for (control, timer_enable) in [(9, 1), (13, 0), (13, 14)] {
+        let mut fields = running(1);
+        fields.channels[0].control = control;
+        fields.channels[0].compare = 5;
+        fields.channels[0].reload = 3;
+        fields.channels[0].prescaler = 7;
+        fields.channels[0].phase = 4;
+        fields.timer_enable = timer_enable;
+        let after = fields_after(&fields, Call::Advance { cycles: 1_000 });
+        assert_eq!(after.channels, fields.channels);
+    }
+    // One that the advance itself switches off keeps its compare: setting C with reload 4.
+}
+
+#[test]
+fn wrong_pending_from_a_steady_level() {
+    let mut board = Board::fresh();
+    let raise = Call::Source { number: 5, level: 1 };
+    accepted(&mut board, raise);
+    assert_eq!(board.fields().controller_pending, 1 << 5);
+    accepted(
+        &mut board,
+        Call::ControllerWrite {
+            address: 1,
+            byte: 1 << 5,
+        },
+    );
+    accepted(&mut board, raise);
+    assert_eq!(board.fields().controller_pending, 0);
+
+    // The same of the line, which the board sets after every call.
+    let mut fields = running(0);
+    fields.channels[0].compare = 1;
+    let mut board = Board::from_fields(&fields);
+    assert!(advance(&mut board, 1));
+    assert_eq!(board.fields().controller_pending, 1 << 3);
+    accepted(
+        &mut board,
+        Call::ControllerWrite {
+            address: 1,
+            byte: 1 << 3,
+        },
+    );
+    assert!(advance(&mut board, 1));
+    assert_eq!(board.fields().controller_pending, 0);
+}
+
+#[test]
+fn wrong_subsecond_1_kept_when_the_clock_is_switched_off() {
+    let fields = Fields {
+        subsecond: 1,
+        ..Fields::fresh()
+    };
+    let after = fields_after(&fields, Call::Write { address: 0x83, byte: 0 });
+    assert_eq!((after.clock_control, after.seconds, after.subsecond), (0, 0, 0));
+    // By way of nanoseconds 3 cycles are 62.5 ns, cut to 62, and these are 2.976 cycles, cut to 2.
+    let fields = Fields { subsecond: 3, ..fields };
+    let after = fields_after(&fields, Call::Write { address: 0x83, byte: 0 });
+    assert_eq!(after.subsecond, 2);
+    let fields = Fields { subsecond: 6, ..fields };
+    let after = fields_after(&fields, Call::Write { address: 0x83, byte: 0 });
+    assert_eq!(after.subsecond, 6, "6 cycles are 125 ns exactly");
+}
+
+#[test]
+fn skip_of_a_high_line_or_without_deadline_changes_nothing() {
+    let mut random = Random::new(0);
+    let mut seen = [0; 3];
+    for _ in 0..20_000 {
+        let fields = random.sound_fields();
+        let mut board = Board::from_fields(&fields);
+        let deadline = deadline(&mut board);
+        let Answer::Skip { passed, line } = accepted(&mut board, Call::Skip) else {
+            panic!()
+        };
+        let after = board.fields();
+        assert_eq!(line, after.line());
+        match deadline {
+            _ if fields.line() => assert_eq!((passed, after), (0, fields)),
+            None => assert_eq!((passed, after), (0, fields)),
+            Some(exact) => {
+                assert_eq!(u128::from(passed), exact.min(u128::from(u64::MAX)));
+                assert_eq!(after, fields_after(&fields, Call::Advance { cycles: passed }));
+            }
+        }
+        seen[if fields.line() {
+            0
+        } else {
+            1 + usize::from(deadline.is_some())
+        }] += 1;
+    }
+    assert!(seen.iter().all(|&count| count > 500), "{seen:?}");
+}

@@ -1,0 +1,195 @@
+//! Sound: each clause of document 01, what is refused without it, and that every call keeps it.
+
+use oracle::board::Board;
+use oracle::call::Call;
+use oracle::fields::Fields;
+use oracle::list::{run, Outcome};
+
+use crate::support::*;
+
+/// One call of each tag, which a sound board accepts.
+const CALLS: [Call; 10] = [
+    Call::HostTime {
+        seconds: 1,
+        nanoseconds: 2,
+    },
+    Call::Read { address: 3 },
+    Call::Write { address: 0x83, byte: 2 },
+    Call::Advance { cycles: 1 },
+    Call::Deadline,
+    Call::Skip,
+    Call::Source { number: 4, level: 1 },
+    Call::ControllerRead { address: 1 },
+    Call::ControllerWrite { address: 5, byte: 255 },
+    Call::Output,
+];
+
+type Edit = fn(&mut Fields);
+
+/// For each clause an edit of the fresh board that breaks it and the nearest that does not.
+const CLAUSES: [(&str, Edit, Edit); 19] = [
+    (
+        "control",
+        |f| f.channels[3].control = 16,
+        |f| f.channels[3].control = 15,
+    ),
+    (
+        "phase",
+        |f| f.channels[1].phase = 1,
+        |f| (f.channels[1].phase, f.channels[1].prescaler) = (1, 1),
+    ),
+    (
+        "phase at the top",
+        |f| (f.channels[2].phase, f.channels[2].prescaler) = (u32::MAX, u32::MAX - 1),
+        |f| (f.channels[2].phase, f.channels[2].prescaler) = (u32::MAX, u32::MAX),
+    ),
+    ("timer enable", |f| f.timer_enable = 16, |f| f.timer_enable = 15),
+    ("clock control", |f| f.clock_control = 8, |f| f.clock_control = 7),
+    ("alarm enable", |f| f.alarm_enable = 2, |f| f.alarm_enable = 1),
+    ("subsecond", |f| f.subsecond = 48_000_000, |f| f.subsecond = 47_999_999),
+    (
+        "offset nanoseconds",
+        |f| f.offset_nanoseconds = 1_000_000_000,
+        |f| f.offset_nanoseconds = 999_999_999,
+    ),
+    (
+        "host nanoseconds",
+        |f| f.host_nanoseconds = 1_000_000_000,
+        |f| f.host_nanoseconds = 999_999_999,
+    ),
+    (
+        "negative zero",
+        |f| f.offset_negative = true,
+        |f| (f.offset_negative, f.offset_nanoseconds) = (true, 1),
+    ),
+    ("seconds mask", |f| f.seconds_mask = 255, |f| f.seconds_mask = 254),
+    ("alarm mask", |f| f.alarm_mask = 255, |f| f.alarm_mask = 254),
+    ("poll", |f| f.poll = 48_000, |f| f.poll = 47_999),
+    (
+        "alarm pending and armed",
+        |f| (f.alarm_pending, f.alarm_armed, f.alarm) = (true, true, 1),
+        |f| (f.alarm_pending, f.alarm) = (true, 1),
+    ),
+    (
+        "armed alarm at seconds",
+        |f| f.alarm_armed = true,
+        |f| (f.alarm_armed, f.alarm) = (true, 1),
+    ),
+    (
+        "armed alarm below seconds",
+        |f| (f.alarm_armed, f.alarm, f.seconds, f.clock_control) = (true, 1, 2, 3),
+        |f| (f.alarm_armed, f.alarm, f.seconds, f.clock_control) = (true, 1, 2, 5),
+    ),
+    (
+        "level of a high line",
+        |f| (f.channels[0].pending, f.channels[0].control) = (true, 8),
+        |f| (f.channels[0].pending, f.channels[0].control, f.controller_levels) = (true, 8, 8),
+    ),
+    (
+        "level of a low line",
+        |f| (f.controller_levels, f.channels[0].pending, f.alarm_enable) = (8, true, 1),
+        |f| (f.controller_levels, f.channels[0].pending, f.alarm_enable) = (0xFFF7, true, 1),
+    ),
+    (
+        "empty latch",
+        |f| f.clock_high_latch.value = 1,
+        |f| (f.clock_high_latch.held, f.clock_high_latch.value) = (true, 1),
+    ),
+];
+
+#[test]
+fn a_board_that_is_not_sound_is_refused_with_1() {
+    for (name, unsound, sound) in CLAUSES {
+        let mut fields = Fields::fresh();
+        unsound(&mut fields);
+        assert!(!fields.sound(), "{name}");
+        let mut board = Board::from_fields(&fields);
+        for call in CALLS {
+            let reply = board.call(call);
+            assert_eq!(
+                (reply.refusal, reply.answer),
+                (1, call.zero_answer()),
+                "{name}, {call:?}"
+            );
+        }
+        // 1 comes before every refusal of the call's own and of the list.
+        assert_eq!(board.call(Call::Source { number: 16, level: 2 }).refusal, 1);
+        for list in [&[][..], &[1], &encode(&CALLS)] {
+            let mut buffer = [0xEE; 100];
+            let refused = Outcome {
+                refusal: 1,
+                ..Outcome::default()
+            };
+            assert_eq!(run(&mut board, list, &mut buffer), refused);
+            assert_eq!(buffer, [0xEE; 100]);
+        }
+        assert_eq!(board.fields(), fields, "{name}");
+
+        let mut fields = Fields::fresh();
+        sound(&mut fields);
+        assert!(fields.sound(), "{name}");
+        for call in CALLS {
+            assert_eq!(Board::from_fields(&fields).call(call).refusal, 0, "{name}, {call:?}");
+        }
+    }
+    // The clauses on an empty latch hold of each latch.
+    let edits: [Edit; 5] = [
+        |f| f.clock_low_latch.value = 1,
+        |f| f.count_latches[0].value = 1,
+        |f| f.count_latches[1].value = 1,
+        |f| f.count_latches[2].value = 1,
+        |f| f.count_latches[3].value = 1,
+    ];
+    for edit in edits {
+        let mut fields = Fields::fresh();
+        edit(&mut fields);
+        assert!(!fields.sound());
+    }
+}
+
+#[test]
+fn the_fresh_board_is_document_01s() {
+    assert_eq!(Board::fresh().fields(), Fields::fresh());
+    assert!(Board::fresh().sound());
+}
+
+#[test]
+fn fields_are_set_and_read_back() {
+    for (mut random, fields) in sound_boards(20_000) {
+        let board = Board::from_fields(&fields);
+        assert!(fields.sound());
+        assert_eq!(board.fields(), fields);
+        // Reading leaves the controller as it is.
+        assert_eq!(board.fields(), fields);
+        let mut any = Fields::fresh();
+        any.controller_levels = random.word() as u16;
+        any.offset_nanoseconds = random.word() as u32;
+        assert_eq!(Board::from_fields(&any).fields(), any);
+    }
+}
+
+#[test]
+fn every_call_keeps_a_sound_board_sound() {
+    let mut accepted = [0; 11];
+    let mut refused = [0; 11];
+    for (mut random, fields) in sound_boards(60_000) {
+        let mut board = Board::from_fields(&fields);
+        for _ in 0..4 {
+            let before = board.fields();
+            let call = random.call();
+            let reply = board.call(call);
+            let after = board.fields();
+            assert!(after.sound(), "{before:?} {call:?} {after:?}");
+            if reply.refusal == 0 {
+                accepted[usize::from(call.tag())] += 1;
+                deadline(&mut board);
+            } else {
+                refused[usize::from(reply.refusal)] += 1;
+                assert_eq!((reply.answer, after), (call.zero_answer(), before));
+            }
+        }
+    }
+    assert!(accepted[1..].iter().all(|&count| count > 10_000), "{accepted:?}");
+    assert!(refused[6..].iter().all(|&count| count > 500), "{refused:?}");
+    assert_eq!(refused[..6], [0; 6]);
+}

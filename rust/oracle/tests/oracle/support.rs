@@ -1,0 +1,109 @@
+//! Short forms that the tests share.
+
+use oracle::board::Board;
+use oracle::call::{Answer, Call};
+use oracle::fields::Fields;
+use oracle::generate::Random;
+use oracle::list::{run, Outcome};
+
+/// Cycles a second and cycles from poll to poll, as document 01 gives them.
+pub const F: u32 = 48_000_000;
+pub const POLL: u32 = 48_000;
+/// Nanoseconds in a second.
+pub const SECOND: i128 = 1_000_000_000;
+
+/// The answer of a call that must be accepted.
+pub fn accepted(board: &mut Board, call: Call) -> Answer {
+    let reply = board.call(call);
+    assert_eq!(reply.refusal, 0, "{call:?}");
+    reply.answer
+}
+
+/// The line after an advance.
+pub fn advance(board: &mut Board, cycles: u64) -> bool {
+    match accepted(board, Call::Advance { cycles }) {
+        Answer::Line(line) => line,
+        other => panic!("{other:?}"),
+    }
+}
+
+pub fn read(board: &mut Board, address: u16) -> u8 {
+    match accepted(board, Call::Read { address }) {
+        Answer::Byte(byte) => byte,
+        other => panic!("{other:?}"),
+    }
+}
+
+pub fn write(board: &mut Board, address: u16, byte: u8) {
+    accepted(board, Call::Write { address, byte });
+}
+
+pub fn host_time(board: &mut Board, seconds: u64, nanoseconds: u32) {
+    accepted(board, Call::HostTime { seconds, nanoseconds });
+}
+
+/// The fields after a call that must be accepted.
+pub fn fields_after(fields: &Fields, call: Call) -> Fields {
+    let mut board = Board::from_fields(fields);
+    accepted(&mut board, call);
+    board.fields()
+}
+
+/// The exact deadline; the 64-bit deadline must be the smaller of it and 2^64 - 1.
+pub fn deadline(board: &mut Board) -> Option<u128> {
+    match accepted(board, Call::Deadline) {
+        Answer::Deadline {
+            present: true,
+            exact,
+            capped,
+        } => {
+            assert_eq!(u128::from(capped), exact.min(u128::from(u64::MAX)));
+            Some(exact)
+        }
+        Answer::Deadline {
+            present: false,
+            exact: 0,
+            capped: 0,
+        } => None,
+        other => panic!("{other:?}"),
+    }
+}
+
+/// The fresh board with channel 0 running in a mode, interrupts enabled.
+pub fn running(mode: u8) -> Fields {
+    let mut fields = Fields::fresh();
+    fields.channels[0].control = 12 + mode;
+    fields.timer_enable = 1;
+    fields
+}
+
+/// Puts the signed offset into its three fields.
+pub fn set_offset(fields: &mut Fields, offset: i128) {
+    let magnitude = offset.unsigned_abs();
+    fields.offset_negative = offset < 0;
+    fields.offset_seconds = (magnitude / SECOND as u128) as u64;
+    fields.offset_nanoseconds = (magnitude % SECOND as u128) as u32;
+}
+
+/// A list of the calls.
+pub fn encode(calls: &[Call]) -> Vec<u8> {
+    calls.iter().flat_map(Call::encode).collect()
+}
+
+/// Runs a list on a fresh board; gives the outcome, the answers and the board.
+pub fn run_fresh(list: &[u8]) -> (Outcome, Vec<u8>, Board) {
+    let mut board = Board::fresh();
+    let mut buffer = vec![0; 32_768];
+    let outcome = run(&mut board, list, &mut buffer);
+    buffer.truncate(outcome.answer_bytes);
+    (outcome, buffer, board)
+}
+
+/// Random sound boards, the same each time.
+pub fn sound_boards(count: usize) -> impl Iterator<Item = (Random, Fields)> {
+    (0..count as u64).map(|seed| {
+        let mut random = Random::new(seed);
+        let fields = random.sound_fields();
+        (random, fields)
+    })
+}
