@@ -1,9 +1,10 @@
 -- A channel's part of document 01, 'Registers and latches': 'offsets, read values and write effects as in `read_register`
 -- and `write_byte`'. A register is given by its offset in the channel's block; it has four bytes, most significant first.
-use Prim.Native.Nat.{ℕ, _+_, _-_, _*_, _/_, _%_, _^_}
+use Prim.Native.Nat.{ℕ, _+_, _-_, _*_, _%_}
 use mathlib.Core.Bool.{Bool, true, false, cond}
 use lib.Dec.{eqb}
-use Rattle.wide.specs.Bits.{bit}
+use Rattle.wide.specs.Bits.{bit, flagOf}
+use Rattle.wide.specs.Words.{lowWord, highWord}
 use Rattle.wide.specs.Fields.{withByte}
 use Rattle.channel.specs.declared.HardwareTimer.{HardwareTimer}
 use Rattle.channel.specs.Channel.{
@@ -47,17 +48,6 @@ abbrev pub prescalerAt : ℕ
 prescalerAt = 0x20
 
 -- ---- what they read as
-
--- a flag as a number
-abbrev pub flagOf : Bool → ℕ
-flagOf b = cond b 1 0
-
--- the words of a field of eight bytes
-abbrev pub lowWord : ℕ → ℕ
-lowWord n = n % 2 ^ 32
-
-abbrev pub highWord : ℕ → ℕ
-highWord n = n / 2 ^ 32
 
 -- the word that a register reads as; 0 where there is none
 unfoldable pub wordOf : ℕ → HardwareTimer → ℕ

@@ -1,6 +1,6 @@
 // A channel's deadline: the exact number of cycles until it gives an interrupt.
 ghost use mathlib.Core.Path.{_≡_};
-ghost use mathlib.Core.Bool.{_&&_, cond};
+ghost use mathlib.Core.Bool.{cond};
 ghost use mathlib.Core.Option.{none, some};
 ghost use Prim.Native.Nat.{_+_, _-_, _*_, _≤_};
 ghost use Rattle.wide.specs.Number.{valueOf};
@@ -11,18 +11,13 @@ ghost use Rattle.channel.specs.Deadline.{ticksUp, ticksToGo, toGoOf, wai
 use crate::HardwareTimer;
 use crate::Ticks;
 use wide::deadline::Deadline;
+use wide::flags::both;
 use wide::number::Wide;
 
 // The ticks to go: none, or one more than a word can hold.
 pub enum ToGo {
     Never,
     OneAfter(Ticks),
-}
-
-fn both(a: bool, b: bool) -> bool
-    ensures { λ r. ⌜ r ≡ (a && b) ⌝ }
-{
-    if a { b } else { false }
 }
 
 // The ticks of modes 0 and 1 up to the compare point.

@@ -1,28 +1,14 @@
 // The words that a channel's registers read as, and what a byte written to them does.
 ghost use mathlib.Core.Path.{_≡_};
 ghost use Prim.Native.Nat.{_+_, _*_, _<_};
+ghost use Rattle.wide.specs.Bits.{flagOf};
 ghost use Rattle.wide.specs.Fields.{withByte};
 ghost use Rattle.channel.specs.Channel.{enabledOf, withCounter, withReload};
-ghost use Rattle.channel.specs.Registers.{flagOf, lowWord, highWord, wordOf, controlWritten, compareWritten, prescalerWritten, byteWritten};
+ghost use Rattle.channel.specs.Registers.{wordOf, controlWritten, compareWritten, prescalerWritten, byteWritten};
 use crate::HardwareTimer;
-
-fn low_word(n: u64) -> u32
-    ensures { λ r. ⌜ r ≡ lowWord n ⌝ }
-{
-    (n % 0x1_0000_0000) as u32
-}
-
-fn high_word(n: u64) -> u32
-    ensures { λ r. ⌜ r ≡ highWord n ⌝ }
-{
-    (n / 0x1_0000_0000) as u32
-}
-
-fn flag(b: bool) -> u32
-    ensures { λ r. ⌜ (r ≡ flagOf b) × (r < 2) ⌝ }
-{
-    if b { 1 } else { 0 }
-}
+use wide::flags::pair;
+use wide::words::high;
+use wide::words::low;
 
 impl HardwareTimer {
     // Offsets of the registers in the channel's block.
@@ -47,7 +33,7 @@ impl HardwareTimer {
     fn status(self) -> u32
         ensures { λ r. ⌜ r ≡ flagOf (enabledOf (self .control)) + 2 * flagOf (self .pending) ⌝ }
     {
-        flag(self.enabled()) + 2 * flag(self.pending)
+        pair(self.enabled(), self.pending)
     }
 
     // The word of the register at an offset in the channel's block.
@@ -57,12 +43,12 @@ impl HardwareTimer {
         match register {
             Self::CTRL => self.control as u32,
             Self::STATUS => self.status(),
-            Self::COUNT_LO => low_word(self.counter),
-            Self::COUNT_HI => high_word(self.counter),
-            Self::COMPARE_LO => low_word(self.compare),
-            Self::COMPARE_HI => high_word(self.compare),
-            Self::RELOAD_LO => low_word(self.reload),
-            Self::RELOAD_HI => high_word(self.reload),
+            Self::COUNT_LO => low(self.counter),
+            Self::COUNT_HI => high(self.counter),
+            Self::COMPARE_LO => low(self.compare),
+            Self::COMPARE_HI => high(self.compare),
+            Self::RELOAD_LO => low(self.reload),
+            Self::RELOAD_HI => high(self.reload),
             Self::PRESCALER => self.prescaler,
             _ => 0,
         }

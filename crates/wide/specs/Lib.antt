@@ -2,3 +2,4 @@ pub mod Bits
 pub mod Number
 pub mod Deadline
 pub mod Fields
+pub mod Words

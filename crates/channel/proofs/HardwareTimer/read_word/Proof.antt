@@ -11,23 +11,23 @@ cast-result c = search needs
 status-requires : tie.Need-status-requires
 status-requires c κs = search needs
 
-low-word-requires : tie.Need-low-word-requires
-low-word-requires c κs = search needs
+low-requires : tie.Need-low-requires
+low-requires c κs = search needs
 
-high-word-requires : tie.Need-high-word-requires
-high-word-requires c κs = search needs
+high-requires : tie.Need-high-requires
+high-requires c κs = search needs
 
-low-word-requires-2 : tie.Need-low-word-requires-2
-low-word-requires-2 c κs = search needs
+low-requires-2 : tie.Need-low-requires-2
+low-requires-2 c κs = search needs
 
-high-word-requires-2 : tie.Need-high-word-requires-2
-high-word-requires-2 c κs = search needs
+high-requires-2 : tie.Need-high-requires-2
+high-requires-2 c κs = search needs
 
-low-word-requires-3 : tie.Need-low-word-requires-3
-low-word-requires-3 c κs = search needs
+low-requires-3 : tie.Need-low-requires-3
+low-requires-3 c κs = search needs
 
-high-word-requires-3 : tie.Need-high-word-requires-3
-high-word-requires-3 c κs = search needs
+high-requires-3 : tie.Need-high-requires-3
+high-requires-3 c κs = search needs
 
 returns : tie.Need-returns
 unfolding wordOf
@@ -39,27 +39,27 @@ returns-2 c = rw (c .before .match .keys2) (c .status .ensures)
 
 returns-3 : tie.Need-returns-3
 unfolding wordOf
-returns-3 c = rw (c .before .match .keys3) (c .low-word .ensures)
+returns-3 c = rw (c .before .match .keys3) (c .low .ensures)
 
 returns-4 : tie.Need-returns-4
 unfolding wordOf
-returns-4 c = rw (c .before .match .keys4) (c .high-word .ensures)
+returns-4 c = rw (c .before .match .keys4) (c .high .ensures)
 
 returns-5 : tie.Need-returns-5
 unfolding wordOf
-returns-5 c = rw (c .before .match .keys5) (c .low-word2 .ensures)
+returns-5 c = rw (c .before .match .keys5) (c .low2 .ensures)
 
 returns-6 : tie.Need-returns-6
 unfolding wordOf
-returns-6 c = rw (c .before .match .keys6) (c .high-word2 .ensures)
+returns-6 c = rw (c .before .match .keys6) (c .high2 .ensures)
 
 returns-7 : tie.Need-returns-7
 unfolding wordOf
-returns-7 c = rw (c .before .match .keys7) (c .low-word3 .ensures)
+returns-7 c = rw (c .before .match .keys7) (c .low3 .ensures)
 
 returns-8 : tie.Need-returns-8
 unfolding wordOf
-returns-8 c = rw (c .before .match .keys8) (c .high-word3 .ensures)
+returns-8 c = rw (c .before .match .keys8) (c .high3 .ensures)
 
 returns-9 : tie.Need-returns-9
 unfolding wordOf
@@ -86,12 +86,12 @@ read-word-spec =
     (tie.spec
     cast-result
     status-requires
-    low-word-requires
-    high-word-requires
-    low-word-requires-2
-    high-word-requires-2
-    low-word-requires-3
-    high-word-requires-3
+    low-requires
+    high-requires
+    low-requires-2
+    high-requires-2
+    low-requires-3
+    high-requires-3
     returns
     returns-2
     returns-3

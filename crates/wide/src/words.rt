@@ -1,0 +1,15 @@
+// The two 32-bit words of a number of 64 bits, which registers read as.
+ghost use mathlib.Core.Path.{_≡_};
+ghost use Rattle.wide.specs.Words.{lowWord, highWord};
+
+pub fn low(n: u64) -> u32
+    ensures { λ r. ⌜ r ≡ lowWord n ⌝ }
+{
+    (n % 0x1_0000_0000) as u32
+}
+
+pub fn high(n: u64) -> u32
+    ensures { λ r. ⌜ r ≡ highWord n ⌝ }
+{
+    (n / 0x1_0000_0000) as u32
+}
