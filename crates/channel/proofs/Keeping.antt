@@ -9,6 +9,7 @@ use Rattle.wide.specs.Number.{largest}
 use Rattle.wide.proofs.Choices.{choose}
 use Rattle.channel.specs.declared.HardwareTimer.{HardwareTimer}
 use Rattle.channel.specs.Channel.{
+  TimerFits,
   modeOf,
   irqEnabledOf,
   disabled,
@@ -29,11 +30,6 @@ use Rattle.channel.specs.Modes.{
   tickedIn,
   ticked,
 }
-
--- what the types of a machine channel say
-pub record TimerFits (h : HardwareTimer) : Type 0 where
-  pub counter : h .counter < 2 ^ 64
-  pub compare : h .compare < 2 ^ 64
 
 irq-kept : (n : ℕ) → irqEnabledOf (disabled n) ≡ irqEnabledOf n
 unfolding irqEnabledOf disabled

@@ -25,7 +25,7 @@ use Rattle.wide.specs.Deadline.{due}
 use Rattle.wide.proofs.Choices.{choose, either, leb-same}
 use Rattle.wide.proofs.Deadlines.{due-later, Positive, due-zero, due-is, due-never}
 use Rattle.channel.specs.declared.HardwareTimer.{HardwareTimer}
-use Rattle.channel.specs.Channel.{modeOf, irqEnabledOf, divisor, lineOf, withCounter, soundTimer}
+use Rattle.channel.specs.Channel.{TimerFits, modeOf, irqEnabledOf, divisor, lineOf, withCounter, soundTimer}
 use Rattle.channel.specs.Prescaler.{runs, ticksOf, phaseAfter, advanced}
 use Rattle.channel.specs.Modes.{
   nextCompare,
@@ -39,7 +39,7 @@ use Rattle.channel.specs.Modes.{
   ticked,
 }
 use Rattle.channel.specs.Deadline.{ticksToGo, inCycles, deadlineOf}
-use Rattle.channel.proofs.Keeping.{TimerFits, Kept}
+use Rattle.channel.proofs.Keeping.{Kept}
 use Rattle.channel.proofs.Distances.{distance-positive, distance-after}
 use Rattle.channel.proofs.Prescaling.{due-in-cycles, ticks-add}
 use Rattle.channel.proofs.Sound.{start, advance-kept, advance-phase, advanced-fits, advanced-sound, sound-phase}

@@ -10,7 +10,7 @@ use Rattle.wide.specs.Bits.{bit}
 use Rattle.wide.specs.Fields.{withByte}
 use Rattle.wide.proofs.Choices.{choose, and-parts, and-join}
 use Rattle.channel.specs.declared.HardwareTimer.{HardwareTimer}
-use Rattle.channel.specs.Channel.{freshTimer, divisor, soundTimer, withPhase, withFlags}
+use Rattle.channel.specs.Channel.{TimerFits, freshTimer, divisor, soundTimer, withPhase, withFlags}
 use Rattle.channel.specs.Prescaler.{runs, ticksOf, phaseAfter, advanced}
 use Rattle.channel.specs.Modes.{ticked}
 use Rattle.channel.specs.Registers.{
@@ -26,7 +26,6 @@ use Rattle.channel.specs.Registers.{
   prescalerWritten,
   byteWritten,
 }
-pub use Rattle.channel.proofs.Keeping.{TimerFits}
 use Rattle.channel.proofs.Keeping.{Kept, ticked-keeps}
 
 -- the clauses, taken apart and joined

@@ -1,10 +1,15 @@
 -- A channel's fields, its control bits, soundness and part of the line, as document 01 has them. The setters are what the
 -- other rules are written with.
-use Prim.Native.Nat.{ℕ, _+_, _*_, _/_, _%_}
+use Prim.Native.Nat.{ℕ, _+_, _*_, _/_, _%_, _^_, _<_}
 use mathlib.Core.Bool.{Bool, true, false, _&&_}
 use lib.Dec.{ltb}
 use Rattle.wide.specs.Bits.{bit}
 use Rattle.channel.specs.declared.HardwareTimer.{HardwareTimer}
+
+-- what the types of a machine channel say of the words that its laws are about
+pub record TimerFits (h : HardwareTimer) : Type 0 where
+  pub counter : h .counter < 2 ^ 64
+  pub compare : h .compare < 2 ^ 64
 
 -- 'A fresh board ..: everything zero'
 abbrev pub freshTimer : HardwareTimer

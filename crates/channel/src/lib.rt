@@ -1,7 +1,7 @@
 // A timer channel of the board. Cycles become ticks at its prescaler, and ticks reach its counter.
 ghost use mathlib.Core.Path.{_≡_};
 ghost use Rattle.wide.specs.Bits.{bit};
-ghost use Rattle.channel.specs.Channel.{freshTimer, enabledOf, irqEnabledOf, lineOf, soundTimer};
+ghost use Rattle.channel.specs.Channel.{freshTimer, enabledOf, irqEnabledOf, lineOf, soundTimer, TimerFits};
 
 mod deadline;
 mod modes;
@@ -83,8 +83,9 @@ impl HardwareTimer {
         }
     }
 
+    // The contract also says that a channel's words are words, which the laws of its deadline ask of it.
     pub fn sound(self) -> bool
-        ensures { λ r. ⌜ r ≡ soundTimer self ⌝ }
+        ensures { λ r. ⌜ (r ≡ soundTimer self) × TimerFits self ⌝ }
     {
         if self.control < 16 {
             self.phase <= self.prescaler

@@ -1,6 +1,6 @@
 // Conditions joined without a branch in the caller, and flags as a number.
 ghost use mathlib.Core.Path.{_≡_};
-ghost use mathlib.Core.Bool.{_&&_, _||_};
+ghost use mathlib.Core.Bool.{_&&_, _||_, Bool·beq};
 ghost use Prim.Native.Nat.{_+_, _*_};
 ghost use Rattle.wide.specs.Bits.{flagOf};
 
@@ -14,6 +14,12 @@ pub fn either(a: bool, b: bool) -> bool
     ensures { λ r. ⌜ r ≡ (a || b) ⌝ }
 {
     if a { true } else { b }
+}
+
+pub fn same(a: bool, b: bool) -> bool
+    ensures { λ r. ⌜ r ≡ Bool·beq a b ⌝ }
+{
+    if a { b } else { !b }
 }
 
 // Two flags as a number: the first its bit 0, the second its bit 1.

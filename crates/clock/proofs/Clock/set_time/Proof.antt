@@ -1,0 +1,63 @@
+-- `Clock::set_time` meets its contract. Assumes nothing.
+use Prim.Native.Nat.{ℕ}
+use mathlib.Core.Path.{sym, ap, _∙_}
+use native.Mathlib.Omega.{arith}
+use Rattle.wide.specs.Number.{valueOf}
+use Rattle.clock.proofs.Durations.{low-word-is, high-word-is}
+use Rattle.clock.proofs.Branches.{set-word, set-past}
+use Rattle.clock.specs.Clock.{clockRate, inNanoseconds}
+use Rattle.clock.specs.Registers.{setTime}
+use borrow.Author.Needs.{needs}
+use Rattle.clock.proofs.Clock.set_time.Statement.{statement}
+use Rattle.clock.proofs.Clock.set_time.Tie as tie
+
+cast-n : tie.Need-cast-n
+cast-n c = search needs
+
+mul-own-time-set : tie.Need-mul-own-time-set
+mul-own-time-set c = search needs
+
+cast-own-time-set : tie.Need-cast-own-time-set
+cast-own-time-set c = search needs
+
+div-own-time-set : tie.Need-div-own-time-set
+div-own-time-set c = search needs
+
+cast-own-time-set-2 : tie.Need-cast-own-time-set-2
+cast-own-time-set-2 c = search needs
+
+own-time-set-requires : tie.Need-own-time-set-requires
+own-time-set-requires c κs = search needs
+
+returns : tie.Need-returns
+returns c =
+    let a = c .before .before .before .args in
+    let w = a .time .seconds in
+    let n = a .time .nanoseconds in
+    c .own-time-set .ensures
+    ∙ set-word clockRate (w .low) n (a .self) (c .before .before .before .pre) (omega arith)
+    ∙ ap (λ (s : ℕ). setTime clockRate (inNanoseconds s n) (a .self)) (sym (low-word-is w (c .before .if1 .taken)))
+
+own-time-set-requires-2 : tie.Need-own-time-set-requires-2
+own-time-set-requires-2 c κs = search needs
+
+returns-2 : tie.Need-returns-2
+returns-2 c =
+    let a = c .before .before .before .args in
+    c .own-time-set2 .ensures
+    ∙ set-past clockRate (valueOf (a .time .seconds)) (a .time .nanoseconds) (a .self) (c .before .before .before .pre)
+    (high-word-is (a .time .seconds) (c .before .if1 .left))
+
+pub set-time-spec : {M : Type 1} → statement M
+set-time-spec =
+    tie.close
+    (tie.spec
+    cast-n
+    mul-own-time-set
+    cast-own-time-set
+    div-own-time-set
+    cast-own-time-set-2
+    own-time-set-requires
+    returns
+    own-time-set-requires-2
+    returns-2)

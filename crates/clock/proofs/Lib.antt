@@ -1,0 +1,10 @@
+pub mod Soundness
+pub mod Law
+mod Settings
+mod Tests
+mod Durations
+mod Periods
+mod Marks
+mod Branches
+mod Cases
+mod Ranges

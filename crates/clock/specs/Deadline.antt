@@ -1,0 +1,29 @@
+-- Document 01, 'The line, source 3 and the deadline': the clock's part. Line and deadline are document 01's terms.
+use Prim.Native.Nat.{ℕ, _-_, _*_}
+use mathlib.Core.Bool.{Bool, cond, not, _&&_, _||_}
+use mathlib.Core.Option.{Option, none, some}
+use lib.Dec.{leb}
+use Rattle.wide.specs.Bits.{bit}
+use Rattle.wide.specs.Deadline.{due}
+use Rattle.clock.specs.declared.Clock.{Clock}
+use Rattle.clock.specs.Clock.{ownTime}
+
+-- 'the alarm is pending and enabled'
+abbrev pub clockLine : Clock → Bool
+clockLine k = k .alarm .pending && bit 0 (k .alarm .enable)
+
+-- 'The clock, enabled, not realtime, alarm enabled, armed, not pending'
+abbrev pub awaited : Clock → Bool
+awaited k =
+    ownTime (k .control) && (bit 0 (k .alarm .enable) && (k .alarm .armed && not (k .alarm .pending)))
+
+-- 'has (alarm − seconds) × F − subsecond, or 1 where alarm ≤ seconds'
+unfoldable pub clockDeadline : ℕ → Clock → Option ℕ
+clockDeadline rate k =
+    cond (awaited k)
+    (some (cond (leb (k .alarm .seconds) (k .seconds)) 1 ((k .alarm .seconds - k .seconds) * rate - k .subsecond)))
+    none
+
+-- the clock has its line high after t cycles, if nothing but advances and host times comes between
+unfoldable pub clockDue : ℕ → Clock → ℕ → Bool
+clockDue rate k t = clockLine k || due (clockDeadline rate k) t

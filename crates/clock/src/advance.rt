@@ -1,0 +1,117 @@
+// The alarm check, and an advance of the clock.
+ghost use mathlib.Core.Path.{_≡_};
+ghost use Prim.Native.Nat.{_+_, _/_, _%_, _^_, _<_, _≤_};
+ghost use Rattle.clock.specs.Clock.{clockRate, alarmReached, checkAlarm, movedTime};
+ghost use Rattle.clock.specs.Clock.{polled, endAdvance, advanceClock};
+ghost use Rattle.clock.specs.Sound.{Timed};
+use crate::Alarm;
+use crate::Clock;
+use crate::from_host;
+use crate::has_bit;
+use crate::own_time;
+use channel::Cycles;
+use wide::flags::both;
+
+// Whole periods, and the cycles left.
+struct Periods {
+    whole: u64,
+    rest: u64,
+}
+
+// Cycles that follow `part` of a period. The sum of the two may pass a word, so it is not formed.
+fn elapsed(part: u32, cycles: Cycles, period: u64) -> Periods
+    requires { ⌜ (1 < period) × (period ≤ 2 ^ 32) ⌝ }
+    ensures { λ r. ⌜ (r .whole ≡ (part + cycles .0) / period) × (r .rest ≡ (part + cycles .0) % period) ⌝ }
+{
+    let c = cycles.0;
+    let sum = part as u64 + c % period;
+    Periods {
+        whole: c / period + sum / period,
+        rest: sum % period,
+    }
+}
+
+impl Clock {
+    fn alarm_reached(self) -> bool
+        requires { ⌜ Timed clockRate self ⌝ }
+        ensures { λ r. ⌜ r ≡ alarmReached clockRate self ⌝ }
+    {
+        let alarm = self.alarm.seconds;
+        let armed = self.alarm.armed;
+        let pending = self.alarm.pending;
+        let reached = alarm <= self.time_seconds();
+        both(
+            has_bit(self.control, Self::ENABLE),
+            both(armed, both(!pending, reached)),
+        )
+    }
+
+    pub fn check_alarm(self) -> Self
+        requires { ⌜ Timed clockRate self ⌝ }
+        ensures { λ r. ⌜ r ≡ checkAlarm clockRate self ⌝ }
+    {
+        let enable = self.alarm.enable;
+        let seconds = self.alarm.seconds;
+        if self.alarm_reached() {
+            return self.with_alarm(Alarm {
+                enable,
+                seconds,
+                pending: true,
+                armed: false,
+            });
+        }
+        self
+    }
+
+    fn moved_time(self, cycles: Cycles) -> Self
+        requires { ⌜ self .subsecond < clockRate ⌝ }
+        ensures { λ r. ⌜ r ≡ movedTime clockRate (cycles .0) self ⌝ }
+    {
+        let seconds = self.seconds;
+        if both(own_time(self.control), 0 < cycles.0) {
+            let e = elapsed(self.subsecond, cycles, Self::RATE);
+            let whole = e.whole;
+            let rest = e.rest;
+            if u64::MAX - seconds < whole {
+                return self.with_time(u64::MAX, 0);
+            }
+            return self.with_time(seconds + whole, rest as u32);
+        }
+        self
+    }
+
+    // The end of an advance on a clock that runs from host time and waits for its alarm.
+    fn polled(self, cycles: Cycles) -> Self
+        requires { ⌜ Timed clockRate self ⌝ }
+        ensures { λ r. ⌜ r ≡ polled clockRate (self .poll + cycles .0) self ⌝ }
+    {
+        let e = elapsed(self.poll, cycles, Self::POLL_LIMIT);
+        let whole = e.whole;
+        let rest = e.rest;
+        let k = self.with_poll(rest as u32);
+        if whole == 0 {
+            return k;
+        }
+        k.check_alarm()
+    }
+
+    fn end_advance(self, cycles: Cycles) -> Self
+        requires { ⌜ Timed clockRate self ⌝ }
+        ensures { λ r. ⌜ r ≡ endAdvance clockRate (cycles .0) self ⌝ }
+    {
+        let armed = self.alarm.armed;
+        let pending = self.alarm.pending;
+        let waits = both(armed, both(!pending, 0 < cycles.0));
+        if both(from_host(self.control), waits) {
+            return self.polled(cycles);
+        }
+        self.with_poll(0).check_alarm()
+    }
+
+    pub fn advance(self, cycles: Cycles) -> Self
+        requires { ⌜ Timed clockRate self ⌝ }
+        ensures { λ r. ⌜ r ≡ advanceClock clockRate (cycles .0) self ⌝ }
+    {
+        self.moved_time(cycles).end_advance(cycles)
+    }
+}

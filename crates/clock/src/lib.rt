@@ -1,0 +1,194 @@
+// The board's clock: its time from cycles or from host time, its alarm, and the bytes of its registers.
+ghost use mathlib.Core.Path.{_≡_};
+ghost use Prim.Native.Nat.{_<_, _/_, _%_};
+ghost use lib.Dec.{eqb};
+ghost use Rattle.clock.specs.Fields.{withControl, withTime, withOffset, withAlarm, withShadow};
+ghost use Rattle.clock.specs.Fields.{withPoll, withAlarmShadow, withHost, freshClock};
+ghost use Rattle.clock.specs.Clock.{fromHost, ownTime};
+use wide::flags::both;
+
+pub mod advance;
+pub mod control;
+pub mod deadline;
+pub mod registers;
+pub mod sound;
+pub mod time;
+
+// What is added to host time: sign and magnitude.
+pub struct Offset {
+    pub negative: bool,
+    pub seconds: u64,
+    pub nanoseconds: u32,
+}
+
+pub struct Alarm {
+    pub enable: u8,
+    pub seconds: u64,
+    pub pending: bool,
+    pub armed: bool,
+}
+
+// The bytes of a register of eight that are written but not yet committed: the mask has a bit for each.
+pub struct Shadow {
+    pub value: u64,
+    pub mask: u8,
+}
+
+pub struct HostTime {
+    pub seconds: u64,
+    pub nanoseconds: u32,
+}
+
+pub struct Clock {
+    pub control: u8,
+    pub seconds: u64,
+    pub subsecond: u32,
+    pub offset: Offset,
+    pub alarm: Alarm,
+    pub shadow: Shadow,
+    pub poll: u32,
+    pub alarm_shadow: Shadow,
+    pub host: HostTime,
+}
+
+// A bit of n is set, the bit that counts for unit.
+fn has_bit(n: u8, unit: u8) -> bool
+    requires { ⌜ 0 < unit ⌝ }
+    ensures { λ r. ⌜ r ≡ eqb (n / unit % 2) 1 ⌝ }
+{
+    n / unit % 2 == 1
+}
+
+// A control value says that the clock runs from host time.
+fn from_host(control: u8) -> bool
+    ensures { λ r. ⌜ r ≡ fromHost control ⌝ }
+{
+    both(
+        has_bit(control, Clock::ENABLE),
+        has_bit(control, Clock::REALTIME),
+    )
+}
+
+// A control value says that cycles move the clock.
+fn own_time(control: u8) -> bool
+    ensures { λ r. ⌜ r ≡ ownTime control ⌝ }
+{
+    let realtime = has_bit(control, Clock::REALTIME);
+    both(has_bit(control, Clock::ENABLE), !realtime)
+}
+
+impl Alarm {
+    // The bit of the alarm's enable.
+    const IRQ_ENABLE: u8 = 1;
+
+    // The bit of an acknowledge byte that clears pending.
+    const ACK: u8 = 1;
+}
+
+impl Shadow {
+    // The mask with all eight bytes written.
+    const FULL: u8 = 255;
+}
+
+impl Clock {
+    // Cycles of a second.
+    pub const RATE: u64 = 48_000_000;
+
+    // Cycles between two alarm checks of a clock that runs from host time.
+    pub const POLL_LIMIT: u64 = Self::RATE / 1_000;
+
+    pub const NANOS_PER_SECOND: u32 = 1_000_000_000;
+
+    // Bits of control.
+    pub const ENABLE: u8 = 1;
+
+    pub const SET_ENABLE: u8 = 2;
+
+    pub const REALTIME: u8 = 4;
+
+    // The clock of a fresh board.
+    pub fn fresh() -> Self
+        ensures { λ r. ⌜ r ≡ freshClock ⌝ }
+    {
+        Clock {
+            control: 1,
+            seconds: 0,
+            subsecond: 0,
+            offset: Offset {
+                negative: false,
+                seconds: 0,
+                nanoseconds: 0,
+            },
+            alarm: Alarm {
+                enable: 0,
+                seconds: 0,
+                pending: false,
+                armed: false,
+            },
+            shadow: Shadow { value: 0, mask: 0 },
+            poll: 0,
+            alarm_shadow: Shadow { value: 0, mask: 0 },
+            host: HostTime {
+                seconds: 0,
+                nanoseconds: 0,
+            },
+        }
+    }
+
+    pub fn with_host(mut self, host: HostTime) -> Self
+        ensures { λ r. ⌜ r ≡ withHost host self ⌝ }
+    {
+        self.host = host;
+        self
+    }
+
+    fn with_alarm(mut self, alarm: Alarm) -> Self
+        ensures { λ r. ⌜ r ≡ withAlarm alarm self ⌝ }
+    {
+        self.alarm = alarm;
+        self
+    }
+
+    fn with_control(mut self, control: u8) -> Self
+        ensures { λ r. ⌜ r ≡ withControl control self ⌝ }
+    {
+        self.control = control;
+        self
+    }
+
+    fn with_time(mut self, seconds: u64, subsecond: u32) -> Self
+        ensures { λ r. ⌜ r ≡ withTime seconds subsecond self ⌝ }
+    {
+        self.seconds = seconds;
+        self.subsecond = subsecond;
+        self
+    }
+
+    fn with_offset(mut self, offset: Offset) -> Self
+        ensures { λ r. ⌜ r ≡ withOffset offset self ⌝ }
+    {
+        self.offset = offset;
+        self
+    }
+
+    fn with_shadow(mut self, shadow: Shadow) -> Self
+        ensures { λ r. ⌜ r ≡ withShadow shadow self ⌝ }
+    {
+        self.shadow = shadow;
+        self
+    }
+
+    fn with_poll(mut self, poll: u32) -> Self
+        ensures { λ r. ⌜ r ≡ withPoll poll self ⌝ }
+    {
+        self.poll = poll;
+        self
+    }
+
+    fn with_alarm_shadow(mut self, shadow: Shadow) -> Self
+        ensures { λ r. ⌜ r ≡ withAlarmShadow shadow self ⌝ }
+    {
+        self.alarm_shadow = shadow;
+        self
+    }
+}
