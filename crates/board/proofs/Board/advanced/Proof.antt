@@ -1,0 +1,56 @@
+-- `Board::advanced` meets its contract. Assumes nothing.
+use native.Mathlib.Omega.{arith}
+use Rattle.board.specs.Calls.{advancedBoard}
+use Rattle.clock.specs.Clock.{clockRate}
+use Rattle.clock.proofs.Soundness.{sound-timed}
+use Rattle.board.proofs.Soundness.{sound-facts, clock-facts}
+use borrow.Author.Needs.{needs}
+use Rattle.board.proofs.Board.advanced.Statement.{statement}
+use Rattle.board.proofs.Board.advanced.Tie as tie
+
+advance-all-requires : tie.Need-advance-all-requires
+advance-all-requires c κs = sound-facts (c .before .before .args .self) (c .before .before .pre) .timers
+
+with-timers-requires : tie.Need-with-timers-requires
+with-timers-requires c κs = search needs
+
+advance-requires : tie.Need-advance-requires
+advance-requires c κs =
+    let s = c .before .before .before .before in
+    sound-timed clockRate (s .args .self .clock)
+    (clock-facts (s .args .self)
+    (record {
+      seconds = omega (arith, s .good);
+      alarm = omega (arith, s .good);
+      shadow = omega (arith, s .good);
+      alarmShadow = omega (arith, s .good);
+    })
+    (s .pre))
+
+with-clock-requires : tie.Need-with-clock-requires
+with-clock-requires c κs = search needs
+
+wired-requires : tie.Need-wired-requires
+wired-requires c κs = search needs
+
+returns : tie.Need-returns
+unfolding advancedBoard
+returns c =
+    rw (
+      c .wired .ensures,
+      c .before .with-clock .ensures,
+      c .before .before .advance .ensures,
+      c .before .before .before .with-timers .ensures,
+      c .before .before .before .before .advance-all .ensures,
+    )
+
+pub advanced-spec : {M : Type 1} → statement M
+advanced-spec =
+    tie.close
+    (tie.spec
+    advance-all-requires
+    with-timers-requires
+    advance-requires
+    with-clock-requires
+    wired-requires
+    returns)

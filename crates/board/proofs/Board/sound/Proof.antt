@@ -1,0 +1,33 @@
+-- `Board::sound` meets its contract. Assumes nothing.
+use Rattle.board.specs.Board.{sound}
+use borrow.Author.Needs.{needs}
+use Rattle.board.proofs.Board.sound.Statement.{statement}
+use Rattle.board.proofs.Board.sound.Tie as tie
+
+sound-parts-requires : tie.Need-sound-parts-requires
+sound-parts-requires c κs = search needs
+
+line-requires : tie.Need-line-requires
+line-requires c κs = search needs
+
+same-requires : tie.Need-same-requires
+same-requires c κs = search needs
+
+both-requires : tie.Need-both-requires
+both-requires c κs = search needs
+
+returns : tie.Need-returns
+unfolding sound
+returns c = (
+  rw (
+    c .both .ensures,
+    c .before .same .ensures,
+    c .before .before .line .ensures,
+    c .before .before .before .sound-parts .ensures .0,
+  ),
+  c .before .before .before .sound-parts .ensures .1,
+)
+
+pub sound-spec : {M : Type 1} → statement M
+sound-spec =
+    tie.close (tie.spec sound-parts-requires line-requires same-requires both-requires returns)

@@ -1,0 +1,47 @@
+-- `Board::sound_parts` meets its contract. Assumes nothing.
+use native.Mathlib.Omega.{arith}
+use Rattle.board.specs.Board.{soundParts}
+use mathlib.Core.Bool.{and-true}
+use Rattle.board.proofs.Soundness.{latches-sound}
+use borrow.Author.Needs.{needs}
+use Rattle.board.proofs.Board.sound_parts.Statement.{statement}
+use Rattle.board.proofs.Board.sound_parts.Tie as tie
+
+all-sound-requires : tie.Need-all-sound-requires
+all-sound-requires c κs = search needs
+
+sound-requires : tie.Need-sound-requires
+sound-requires c κs = search needs
+
+both-requires : tie.Need-both-requires
+both-requires c κs = search needs
+
+both-requires-2 : tie.Need-both-requires-2
+both-requires-2 c κs = search needs
+
+returns : tie.Need-returns
+unfolding soundParts
+returns c =
+    let s = c .before .before .before .before .before .before in (
+      rw (
+        latches-sound (s .args .self .latches),
+        and-true,
+        c .both2 .ensures,
+        c .before .both .ensures,
+        c .before .before .sound .ensures,
+        c .before .before .before .all-sound .ensures .0,
+      ),
+      record {
+        timers = c .before .before .before .all-sound .ensures .1;
+        clock = record {
+          seconds = omega (arith, s .good);
+          alarm = omega (arith, s .good);
+          shadow = omega (arith, s .good);
+          alarmShadow = omega (arith, s .good);
+        };
+      },
+    )
+
+pub sound-parts-spec : {M : Type 1} → statement M
+sound-parts-spec =
+    tie.close (tie.spec all-sound-requires sound-requires both-requires both-requires-2 returns)

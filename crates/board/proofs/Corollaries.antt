@@ -1,0 +1,69 @@
+-- What a contract quotes of the deadline. Each theorem is about a sound machine board whose line is low, whose clock does not run
+-- from host time, and whose deadline is d. Assumes nothing.
+use Prim.Native.Nat.{ℕ, _+_, _-_, _≤_, _<_, min}
+use native.Mathlib.Omega.{arith}
+use mathlib.Core.Path.{_≡_, sym, ap, _∙_}
+use mathlib.Core.Bool.{Bool, true, false, _||_}
+use mathlib.Core.Option.{Option, some}
+use mathlib.Core.List.{List, [], _∷_}
+use lib.Dec.{leb}
+use borrow.Author.Tests.{le-leb, lt-leb}
+use Rattle.wide.specs.Number.{largest}
+use Rattle.wide.specs.Deadline.{due}
+use Rattle.wide.proofs.Choices.{leb-same}
+use Rattle.wide.proofs.Deadlines.{due-is}
+use Rattle.clock.specs.Clock.{fromHost}
+use Rattle.board.specs.declared.Board.{Board}
+use Rattle.board.specs.Board.{BoardFits, line, exactDeadline, sound}
+use Rattle.board.specs.Calls.{advancedBoard, advanceCall, skipCall, skipLength, skippedBy}
+use Rattle.board.specs.Demand.{Call, afterAll, total}
+use Rattle.board.proofs.Steps.{Good, good, boardDue, line-due, Step, advance-step}
+use Rattle.board.proofs.Demand3.{line-after}
+
+module _ (b : Board) (f : BoardFits b) (s : sound b ≡ true) (low : line b ≡ false) (o : fromHost (b .clock .control) ≡ false)
+    (d : ℕ) (given : exactDeadline b ≡ some d) where
+  -- the line after a list of calls, by its total
+  line-is : (calls : List Call) → line (afterAll calls b) ≡ leb d (total calls b)
+  line-is calls = line-after b f s low o calls ∙ ap (λ (x : Option ℕ). due x (total calls b)) given
+
+  -- after exactly D cycles, split in any way, the line is high
+  pub high-at-deadline : (calls : List Call) → total calls b ≡ d → line (afterAll calls b) ≡ true
+  high-at-deadline calls e = line-is calls ∙ le-leb d (total calls b) (omega arith)
+
+  -- one cycle before it is low
+  pub low-before-deadline : (calls : List Call) → total calls b + 1 ≡ d → line (afterAll calls b) ≡ false
+  low-before-deadline calls e = line-is calls ∙ lt-leb d (total calls b) (omega arith)
+
+  -- what is due after one advance
+  due-after : (c t : ℕ) → boardDue (advancedBoard c b) t ≡ leb d (c + t)
+  unfolding boardDue
+  due-after c t =
+      advance-step c b (good b f s) .due o t ∙ rw (low, given)
+
+  -- one advance shows the interrupt exactly where it reaches the deadline
+  pub advance-reaches : (c : ℕ) → line (advancedBoard c b) ≡ leb d c
+  advance-reaches c =
+      line-due (advancedBoard c b) (advance-step c b (good b f s) .good)
+      ∙ due-after c 0
+      ∙ leb-same d (c + 0) d c (λ p. omega arith) (λ p. omega arith)
+
+  -- below the deadline, the deadline that is left is less by the advance
+  pub deadline-falls : (c : ℕ) → c < d → exactDeadline (advancedBoard c b) ≡ some (d - c)
+  unfolding boardDue
+  deadline-falls c l =
+      due-is (exactDeadline (advancedBoard c b)) (d - c)
+      (λ t. sym (ap (λ v. v || due (exactDeadline (advancedBoard c b)) t) (advance-reaches c ∙ lt-leb d c l))
+      ∙ due-after c t
+      ∙ leb-same d (c + t) (d - c) t (λ p. omega arith) (λ p. omega arith))
+
+  -- a skip with D at most 2^64 − 1 passes D and ends with the line high, and any smaller advance would not have
+  pub skip-reaches : d ≤ largest →
+      (skipCall b .passed .0 ≡ d) × (skipCall b .line ≡ true) × (line (skipCall b .board) ≡ true)
+      × ((c : ℕ) → c < d → line (advancedBoard c b) ≡ false)
+  unfolding skipCall
+  skip-reaches l =
+      let m : min d largest ≡ d = omega arith in
+      let high : line (advancedBoard (min d largest) b) ≡ true =
+      rw m (advance-reaches d ∙ le-leb d d (omega arith)) in
+      let by : skipLength b ≡ some (min d largest) = rw (low, given) in
+      (rw (s, by) m, rw (s, by) high, rw (s, by) high, λ c k. advance-reaches c ∙ lt-leb d c k)

@@ -1,0 +1,121 @@
+-- What is promised of the deadline, proved: by the steps of a list of calls. Assumes nothing.
+use Prim.Native.Nat.{ℕ, _+_, _-_, _≤_, _<_, min}
+use native.Mathlib.Nat.{zero-add, add-zero, add-assoc}
+use native.Mathlib.Omega.{arith}
+use mathlib.Core.Path.{_≡_, refl, sym, ap, _∙_}
+use mathlib.Core.Logic.{_↔_, _⊎_, inl, inr}
+use mathlib.Core.Bool.{Bool, true, false, not, _&&_, _||_, or-false, false≢true}
+use mathlib.Core.Option.{Option, none, some}
+use mathlib.Core.List.{List, [], _∷_}
+use lib.Dec.{leb}
+use borrow.Author.Tests.{leb-true, le-leb, lt-leb}
+use Rattle.wide.specs.Number.{largest}
+use Rattle.wide.specs.Deadline.{due}
+use Rattle.clock.specs.Clock.{fromHost}
+use Rattle.board.specs.declared.Board.{Board}
+use Rattle.board.specs.Board.{BoardFits, line, exactDeadline, wordDeadline, sound}
+use Rattle.board.specs.Calls.{isPresent, orZero, givenDeadline}
+use Rattle.board.specs.Demand.{Call, after, adds, afterAll, total, source3, Rises, StaysLow, Told, Promise}
+use Rattle.board.proofs.Soundness.{facts-sound}
+use Rattle.board.proofs.Steps.{Good, good, boardDue, line-due, Step, call-step}
+
+-- every call keeps a sound board sound
+pub call-sound : (a : Call) (b : Board) → BoardFits b → sound b ≡ true → sound (after a b) ≡ true
+call-sound a b f s = facts-sound (after a b) (call-step a b (good b f s) .good .facts)
+
+-- ---- a list of calls
+
+-- y is x after c cycles in some number of calls; p is source 3's pending bit at the start
+record Ran (p : Bool) (c : ℕ) (x y : Board) : Type 0 where
+  good : Good y
+  due : (t : ℕ) → boardDue y t ≡ boardDue x (c + t)
+  source : source3 y ≡ (p || line y)
+
+-- a bit that was latched, or the line, and then a rise of the line
+latched : (p l m : Bool) → (l ≡ true → m ≡ true) → ((m && not l) || (p || l)) ≡ (p || m)
+latched true true true h = refl
+latched true true false h = refl
+latched true false true h = refl
+latched true false false h = refl
+latched false true m h = h′ m (h refl)
+  where
+    h′ : (m : Bool) → m ≡ true → ((m && not true) || (false || true)) ≡ (false || m)
+    h′ true e = refl
+    h′ false e = absurd (false≢true e)
+latched false false true h = refl
+latched false false false h = refl
+
+-- a high line is due at any time
+high-due : (b : Board) (t : ℕ) → line b ≡ true → boardDue b t ≡ true
+unfolding boardDue
+high-due b t e = rw e
+
+ran : (p : Bool) (calls : List Call) (b : Board) → Good b → fromHost (b .clock .control) ≡ false →
+    source3 b ≡ (p || line b) → Ran p (total calls b) b (afterAll calls b)
+unfolding afterAll total
+ran p [] b g o h = record { good = g; due = λ t. ap (boardDue b) (sym (zero-add t)); source = h }
+ran p (a ∷ calls) b g o h =
+    onto
+    (ran p calls y (S .good) (S .own o)
+    (S .source ∙ ap (λ v. (line y && not (line b)) || v) h ∙ latched p (line b) (line y) stays))
+  where
+    y : Board
+    y = after a b
+
+    S : Step (adds a b) b y
+    S = call-step a b g
+
+    stays : line b ≡ true → line y ≡ true
+    stays e = line-due y (S .good) ∙ S .due o 0 ∙ high-due b (adds a b + 0) e
+
+    onto : Ran p (total calls y) y (afterAll calls y) → Ran p (adds a b + total calls y) b (afterAll calls y)
+    onto R =
+        record {
+          good = R .good;
+          due = λ t.
+              R .due t
+              ∙ S .due o (total calls y + t)
+              ∙ ap (boardDue b) (sym (add-assoc (adds a b) (total calls y) t));
+          source = R .source;
+        }
+
+-- ---- the promise
+
+true-iff : (v : Bool) (a t : ℕ) → v ≡ leb a t → (v ≡ true) ↔ (a ≤ t)
+true-iff v a t e = (λ h. leb-true a t (sym e ∙ h), λ h. e ∙ le-leb a t h)
+
+or-iff : (v p : Bool) (a t : ℕ) → v ≡ (p || leb a t) → (v ≡ true) ↔ ((p ≡ true) ⊎ (a ≤ t))
+or-iff v true a t e = (λ _. inl refl, λ _. e)
+or-iff v false a t e =
+    (λ h. inr (leb-true a t (sym e ∙ h)), elim [ inl h ↦ absurd (false≢true h) | inr h ↦ e ∙ le-leb a t h ])
+
+module _ (b : Board) (f : BoardFits b) (s : sound b ≡ true) (low : line b ≡ false)
+    (o : fromHost (b .clock .control) ≡ false) (calls : List Call) where
+  R : Ran (source3 b) (total calls b) b (afterAll calls b)
+  R = ran (source3 b) calls b (good b f s) o (sym (ap (λ v. source3 b || v) low ∙ or-false (source3 b)))
+
+  -- the line after the list is what was due
+  pub line-after : line (afterAll calls b) ≡ due (exactDeadline b) (total calls b)
+  unfolding boardDue
+  line-after = line-due (afterAll calls b) (R .good) ∙ R .due 0 ∙ rw (low, add-zero)
+
+  pub source-after : source3 (afterAll calls b) ≡ (source3 b || due (exactDeadline b) (total calls b))
+  source-after = R .source ∙ ap (λ v. source3 b || v) line-after
+
+  told : (d : Option ℕ) → line (afterAll calls b) ≡ due d (total calls b) →
+      source3 (afterAll calls b) ≡ (source3 b || due d (total calls b)) →
+      Told (isPresent d) (orZero d) (orZero (wordDeadline d)) b calls
+  told none p q = record { line = p; source = q ∙ or-false (source3 b) }
+  told (some d) p q = (
+    record {
+      line = true-iff (line (afterAll calls b)) d (total calls b) p;
+      source = or-iff (source3 (afterAll calls b)) (source3 b) d (total calls b) q;
+    },
+    refl,
+  )
+
+-- the deadline that a sound board gives keeps what is promised of it
+pub demand-3 : (b : Board) → BoardFits b →
+    Promise b (isPresent (givenDeadline b)) (orZero (givenDeadline b)) (orZero (wordDeadline (givenDeadline b)))
+demand-3 b f s low o calls =
+    rw s (told b f s low o calls (exactDeadline b) (line-after b f s low o calls) (source-after b f s low o calls))

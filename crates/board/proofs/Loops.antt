@@ -1,0 +1,89 @@
+-- Laws of the two kinds of a loop over a list: one that changes each element, from the first on, and one that joins what the
+-- elements give, from the last back. Assumes nothing.
+use Prim.Native.Nat.{ℕ, zero, suc, _+_, _-_, _≤_, _<_}
+use mathlib.Core.Path.{_≡_, refl, sym, ap, _∙_}
+use mathlib.Core.Bool.{Bool, true, _&&_}
+use mathlib.Core.List.{List, [], _∷_}
+use native.Mathlib.Nat.{zero-add, suc-add, add-suc}
+use native.Mathlib.Numerals.{add-one, sub-one}
+use native.Mathlib.Omega.{arith}
+use lib.ListN.{length, getD, drop, set, drop-of-length-le}
+use lib.Seq.{drop-cons}
+use Rattle.wide.proofs.Choices.{and-parts}
+use Rattle.board.specs.Loops.{All, mapFrom, foldFrom}
+
+-- ---- joining
+
+module _ {A B : Type 0} (f : ℕ → A → B) (g : B → B → B) (z : B) where
+  -- nothing is left past the end
+  pub fold-starts : (xs : List A) (n k : ℕ) → length xs ≡ n → z ≡ foldFrom f g z k (drop n xs)
+  unfolding foldFrom
+  fold-starts xs n k e = rw (drop-of-length-le xs {i = n} (omega arith))
+
+  -- one turn: v is what the element before i gives, and a what is joined of those from i on
+  pub fold-goes : (xs : List A) (d : A) (i : ℕ) (v a : B) → 0 < i → i ≤ length xs → v ≡ f (i - 1) (getD xs (i - 1) d) →
+      a ≡ foldFrom f g z i (drop i xs) → g v a ≡ foldFrom f g z (i - 1) (drop (i - 1) xs)
+  unfolding foldFrom
+  fold-goes xs d zero v a p l e h = absurd (omega arith)
+  fold-goes xs d (suc i) v a p l e h = rw (sub-one, drop-cons xs i d l, ← h) (ap (λ (w : B). g w a) (rw sub-one at e))
+
+-- ---- changing each
+
+module _ {A : Type 0} (f : ℕ → A → A) where
+  -- the first n elements are changed; k is the index of the first
+  unfoldable pub mapTo : ℕ → ℕ → List A → List A
+  mapTo zero k xs = xs
+  mapTo (suc n) k [] = []
+  mapTo (suc n) k (x ∷ xs) = f k x ∷ mapTo n (suc k) xs
+
+  -- the next is not changed yet
+  pub next-is : (d : A) (n k : ℕ) (xs : List A) → getD (mapTo n k xs) n d ≡ getD xs n d
+  unfolding mapTo
+  next-is d zero k xs = refl
+  next-is d (suc n) k [] = refl
+  next-is d (suc n) k (x ∷ xs) = next-is d n (suc k) xs
+
+  set-next : (d : A) (n k : ℕ) (xs : List A) → n < length xs → set (mapTo n k xs) n (f (k + n) (getD xs n d)) ≡ mapTo (suc n) k xs
+  unfolding mapTo
+  set-next d n k [] h = absurd (omega arith)
+  set-next d zero k (x ∷ xs) h = ap (λ (i : ℕ). f i x ∷ xs) (omega arith)
+  set-next d (suc n) k (x ∷ xs) h =
+      ap (λ (l : List A). f k x ∷ l)
+      (ap (λ (i : ℕ). set (mapTo n (suc k) xs) n (f i (getD xs n d))) (add-suc k n ∙ sym (suc-add k n))
+      ∙ set-next d n (suc k) xs (omega arith))
+
+  -- one turn: r is the next element's change
+  pub map-goes : (d : A) (i : ℕ) (xs out : List A) (r : A) → i < length xs → out ≡ mapTo i 0 xs → r ≡ f i (getD out i d) →
+      set out i r ≡ mapTo (i + 1) 0 xs
+  map-goes d i xs out r h e q =
+      rw (q, e, next-is d i 0 xs, add-one)
+      (ap (λ (n : ℕ). set (mapTo i 0 xs) i (f n (getD xs i d))) (sym (zero-add i)) ∙ set-next d i 0 xs h)
+
+  pub map-ends : (n k : ℕ) (xs : List A) → length xs ≡ n → mapTo n k xs ≡ mapFrom f k xs
+  unfolding mapTo mapFrom
+  map-ends zero k [] e = refl
+  map-ends zero k (x ∷ xs) e = absurd (omega arith)
+  map-ends (suc n) k [] e = absurd (omega arith)
+  map-ends (suc n) k (x ∷ xs) e = ap (λ (l : List A). f k x ∷ l) (map-ends n (suc k) xs (omega arith))
+
+-- ---- a test of every element
+
+-- what is found of every element holds of each
+pub all-at : {A : Type 0} (p : A → Bool) (d : A) (xs : List A) (i k : ℕ) → i < length xs →
+    foldFrom (λ _ x. p x) _&&_ true k xs ≡ true → p (getD xs i d) ≡ true
+unfolding foldFrom
+all-at p d [] i k h e = absurd (omega arith)
+all-at p d (x ∷ xs) zero k h e = and-parts (p x) (foldFrom (λ _ y. p y) _&&_ true (suc k) xs) e .0
+all-at p d (x ∷ xs) (suc i) k h e =
+    all-at p d xs i (suc k) (omega arith) (and-parts (p x) (foldFrom (λ _ y. p y) _&&_ true (suc k) xs) e .1)
+
+-- ---- a property found of each element, from the last back
+
+module _ {A : Type 0} (P : A → Type 0) where
+  pub all-starts : (xs : List A) (n : ℕ) → length xs ≡ n → All P (drop n xs)
+  all-starts xs n e = rw (drop-of-length-le xs {i = n} (omega arith)) tt
+
+  pub all-goes : (xs : List A) (d : A) (i : ℕ) → 0 < i → i ≤ length xs → P (getD xs (i - 1) d) → All P (drop i xs) →
+      All P (drop (i - 1) xs)
+  all-goes xs d zero p l x h = absurd (omega arith)
+  all-goes xs d (suc i) p l x h = rw (sub-one, drop-cons xs i d l) (rw sub-one at x, h)

@@ -1,0 +1,219 @@
+-- One call on a sound board: it stays sound, what is due moves by the cycles that the call adds, and source 3 is latched by a rise
+-- of the line. Assumes nothing.
+use Prim.Native.Nat.{ℕ, _+_, _<_}
+use native.Mathlib.Nat.{zero-add}
+use native.Mathlib.Omega.{arith}
+use mathlib.Core.Path.{_≡_, refl, sym, ap, ap₂, _∙_}
+use mathlib.Core.Bool.{Bool, true, false, cond, not, _&&_, _||_, and-not-self}
+use mathlib.Core.Option.{Option}
+use lib.Dec.{leb}
+use borrow.Author.Tests.{leb-false}
+use Rattle.wide.specs.Bits.{bit}
+use Rattle.wide.specs.Deadline.{due}
+use Rattle.wide.proofs.Choices.{either}
+use Rattle.wide.proofs.Deadlines.{due-sooner}
+use Rattle.clock.specs.declared.HostTime.{HostTime}
+use Rattle.clock.specs.declared.Clock.{Clock}
+use Rattle.clock.specs.Clock.{clockRate, nanosPerSecond, fromHost, advanceClock}
+use Rattle.clock.specs.Fields.{withHost}
+use Rattle.clock.specs.Deadline.{clockLine, clockDeadline, clockDue}
+use Rattle.clock.proofs.Soundness.{Sound, clock-rate, facts-sound as clock-sound, sound-fits, advance-sound, host-sound}
+use Rattle.clock.proofs.Law.{advance-due as clock-advance-due, advance-own, host-due, line-due as clock-line-due}
+use Rattle.controller.proofs.Laws.{level-set, pending-set}
+use Rattle.board.specs.declared.Board.{Board}
+use Rattle.board.specs.Channels.{anyLine, soonestOf, advancedAll}
+use Rattle.board.specs.Board.{BoardFits, withTimers, withClock, line, exactDeadline, wired, sound}
+use Rattle.board.specs.Calls.{
+  hostTimeRefusal,
+  advancedBoard,
+  hostedBoard,
+  advanceCall,
+  hostTimeCall,
+}
+use Rattle.board.specs.Demand.{Call, advance, hostTime, after, adds, source3}
+use Rattle.board.proofs.FourChannels.{
+  or-swap,
+  channelsDue,
+  channels-advance-due,
+  channels-line-due,
+  channels-fits,
+  channels-sound,
+}
+use Rattle.board.proofs.Soundness.{SoundFacts, sound-facts, facts-sound, clock-facts}
+
+-- a sound machine board
+pub record Good (b : Board) : Type 0 where
+  pub fits : BoardFits b
+  pub facts : SoundFacts b
+
+pub good : (b : Board) → BoardFits b → sound b ≡ true → Good b
+good b f s = record { fits = f; facts = sound-facts b s }
+
+clock-good : (b : Board) → Good b → Sound clockRate (b .clock)
+clock-good b g = clock-facts b (g .fits .clock) (facts-sound b (g .facts))
+
+-- ---- what is due
+
+-- the line is high t cycles from here: it is now, or the deadline is reached
+unfoldable pub boardDue : Board → ℕ → Bool
+boardDue b t = line b || due (exactDeadline b) t
+
+due-parts : (b : Board) (t : ℕ) →
+    boardDue b t ≡ (channelsDue (b .«timer_enable») 0 (b .timers) t || clockDue clockRate (b .clock) t)
+unfolding boardDue line exactDeadline channelsDue clockDue
+due-parts b t =
+    rw due-sooner
+    (or-swap (anyLine (b .timers)) (clockLine (b .clock)) (due (soonestOf (b .«timer_enable») (b .timers)) t)
+    (due (clockDeadline clockRate (b .clock)) t))
+
+-- the line is what is due at once
+pub line-due : (b : Board) → Good b → line b ≡ boardDue b 0
+unfolding line
+line-due b g =
+    ap₂ _||_ (channels-line-due (b .«timer_enable») 0 (b .timers) (g .fits .timers) (g .facts .timers))
+    (clock-line-due clockRate (b .clock) (clock-good b g))
+    ∙ sym (due-parts b 0)
+
+-- ---- source 3 is set to the line
+
+module _ (b : Board) where
+  wired-line : line (wired b) ≡ line b
+  unfolding line wired
+  wired-line = refl
+
+  wired-due : (t : ℕ) → boardDue (wired b) t ≡ boardDue b t
+  unfolding boardDue line exactDeadline wired
+  wired-due t = refl
+
+  pub wired-level : bit 3 (wired b .controller .levels) ≡ line (wired b)
+  unfolding wired
+  wired-level = level-set (b .controller) 3 (line b) (omega arith) ∙ sym wired-line
+
+  wired-source : source3 (wired b) ≡ ((line b && not (bit 3 (b .controller .levels))) || source3 b)
+  unfolding wired
+  wired-source = pending-set (b .controller) 3 (line b) (omega arith)
+
+-- ---- steps
+
+-- y is x after c cycles: it is sound, and where the clock does not run from host time, what is due and latched is told
+pub record Step (c : ℕ) (x y : Board) : Type 0 where
+  pub good : Good y
+  pub own : fromHost (x .clock .control) ≡ false → fromHost (y .clock .control) ≡ false
+  pub due : fromHost (x .clock .control) ≡ false → (t : ℕ) → boardDue y t ≡ boardDue x (c + t)
+  pub source : source3 y ≡ ((line y && not (line x)) || source3 x)
+
+module _ (c : ℕ) (b : Board) (g : Good b) where
+  -- before source 3 is set
+  abbrev moved : Board
+  moved = withClock (advanceClock clockRate c (b .clock)) (withTimers (advancedAll (b .«timer_enable») c (b .timers)) b)
+
+  moved-clock : Sound clockRate (moved .clock)
+  moved-clock = advance-sound clockRate clock-rate c (b .clock) (clock-good b g)
+
+  pub advance-step : Step c b (advancedBoard c b)
+  unfolding advancedBoard wired
+  advance-step =
+      record {
+        good = record {
+          fits = record {
+            timers = channels-fits (b .«timer_enable») c 0 (b .timers) (g .fits .timers);
+            clock = sound-fits clockRate (moved .clock) moved-clock;
+          };
+          facts = record {
+            timers = channels-sound (b .«timer_enable») c 0 (b .timers) (g .fits .timers) (g .facts .timers);
+            enable = g .facts .enable;
+            clock = clock-sound clockRate (moved .clock) moved-clock;
+            level = wired-level moved;
+          };
+        };
+        own = advance-own clockRate c (b .clock) (clock-good b g);
+        due = λ o t.
+            wired-due moved t
+            ∙ due-parts moved t
+            ∙ ap₂ _||_
+            (channels-advance-due (b .«timer_enable») c 0 (b .timers) (g .fits .timers) (g .facts .timers) t)
+            (clock-advance-due clockRate c (b .clock) (clock-good b g) o t)
+            ∙ sym (due-parts b (c + t));
+        source =
+            wired-source moved
+            ∙ ap (λ v. (line moved && not v) || source3 b) (g .facts .level)
+            ∙ ap (λ v. (v && not (line b)) || source3 b) (sym (wired-line moved));
+      }
+
+module _ (h : HostTime) (b : Board) (small : h .nanoseconds < nanosPerSecond) (g : Good b) where
+  abbrev told : Board
+  told = withClock (withHost h (b .clock)) b
+
+  told-clock : Sound clockRate (told .clock)
+  told-clock = host-sound clockRate h (b .clock) small (clock-good b g)
+
+  told-due : (t : ℕ) → boardDue told t ≡ boardDue b t
+  told-due t =
+      due-parts told t
+      ∙ ap (λ v. channelsDue (b .«timer_enable») 0 (b .timers) t || v) (host-due clockRate h (b .clock) t)
+      ∙ sym (due-parts b t)
+
+  told-line : line told ≡ line b
+  unfolding line
+  told-line = refl
+
+  pub host-step : Step 0 b (hostedBoard h b)
+  unfolding hostedBoard wired
+  host-step =
+      record {
+        good = record {
+          fits = record { timers = g .fits .timers; clock = sound-fits clockRate (told .clock) told-clock };
+          facts = record {
+            timers = g .facts .timers;
+            enable = g .facts .enable;
+            clock = clock-sound clockRate (told .clock) told-clock;
+            level = wired-level told;
+          };
+        };
+        own = λ o. o;
+        due = λ o t. wired-due told t ∙ told-due t ∙ ap (boardDue b) (sym (zero-add t));
+        source =
+            wired-source told
+            ∙ ap (λ v. (line told && not v) || source3 b) (g .facts .level)
+            ∙ ap (λ v. (v && not (line b)) || source3 b) (sym (wired-line told));
+      }
+
+same-step : (b : Board) → Good b → Step 0 b b
+same-step b g =
+    record {
+      good = g;
+      own = λ o. o;
+      due = λ o t. ap (boardDue b) (sym (zero-add t));
+      source = sym (ap (λ v. v || source3 b) (and-not-self (line b)));
+    }
+
+-- an accepted call
+
+advance-accepted : (c : ℕ) (b : Board) → sound b ≡ true → (after (advance c) b ≡ advancedBoard c b) × (adds (advance c) b ≡ c)
+unfolding after adds advanceCall
+advance-accepted c b e = (rw (e, after), rw (e, adds))
+
+host-accepted : (h : HostTime) (b : Board) → sound b ≡ true → leb nanosPerSecond (h .nanoseconds) ≡ false →
+    after (hostTime h) b ≡ hostedBoard h b
+unfolding after hostTimeCall hostTimeRefusal
+host-accepted h b e n = rw (n, e, after)
+
+host-refused : (h : HostTime) (b : Board) → sound b ≡ true → leb nanosPerSecond (h .nanoseconds) ≡ true →
+    after (hostTime h) b ≡ b
+unfolding after hostTimeCall hostTimeRefusal
+host-refused h b e n = rw (n, e, after)
+
+host-adds : (h : HostTime) (b : Board) → adds (hostTime h) b ≡ 0
+unfolding adds
+host-adds h b = refl
+
+-- a call, refused or not
+pub call-step : (a : Call) (b : Board) → Good b → Step (adds a b) b (after a b)
+call-step (advance c) b g =
+    let e = advance-accepted c b (facts-sound b (g .facts)) in
+    rw (e .0, e .1) (advance-step c b g)
+call-step (hostTime h) b g =
+    let s = facts-sound b (g .facts) in
+    rw (host-adds h b)
+    (either (leb nanosPerSecond (h .nanoseconds)) (λ e. rw (host-refused h b s e) (same-step b g))
+    (λ e. rw (host-accepted h b s e) (host-step h b (leb-false nanosPerSecond (h .nanoseconds) e) g)))

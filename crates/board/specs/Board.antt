@@ -1,0 +1,129 @@
+-- Document 01, 'An advance arrives at the board' and 'The line, source 3 and the deadline': the board's fields, soundness, line
+-- and deadline. The terms sound, line and deadline are document 01's.
+use Prim.Native.Nat.{ℕ, min}
+use mathlib.Core.Bool.{Bool, true, false, _&&_, _||_, Bool·beq}
+use mathlib.Core.Option.{Option, none, some}
+use mathlib.Core.List.{List, [], _∷_}
+use lib.Dec.{ltb, eqb}
+use Rattle.wide.specs.Bits.{bit}
+use Rattle.wide.specs.Number.{largest}
+use Rattle.wide.specs.Deadline.{sooner}
+use Rattle.channel.specs.declared.HardwareTimer.{HardwareTimer}
+use Rattle.channel.specs.Channel.{TimerFits, freshTimer}
+use Rattle.clock.specs.declared.Clock.{Clock}
+use Rattle.clock.specs.Clock.{clockRate}
+use Rattle.clock.specs.Fields.{freshClock}
+use Rattle.clock.specs.Sound.{ClockFits, soundClock}
+use Rattle.clock.specs.Deadline.{clockLine, clockDeadline}
+use Rattle.controller.specs.declared.IrqController.{IrqController}
+use Rattle.controller.specs.Controller.{fresh, sourceSet}
+use Rattle.board.specs.declared.Latch.{Latch}
+use Rattle.board.specs.declared.Latch.the-variants.{Empty, Held}
+use Rattle.board.specs.declared.CountLatch.{CountLatch}
+use Rattle.board.specs.declared.Latches.{Latches}
+use Rattle.board.specs.declared.Board.{Board}
+use Rattle.board.specs.Loops.{All, foldFrom}
+use Rattle.board.specs.Channels.{anyLine, soonestOf, allSound}
+
+-- what the types of a machine board say of the words that its laws are about
+pub record BoardFits (b : Board) : Type 0 where
+  pub timers : All TimerFits (b .timers)
+  pub clock : ClockFits (b .clock)
+
+-- ---- fields
+
+abbrev four : {A : Type 0} → A → List A
+four a = a ∷ a ∷ a ∷ a ∷ []
+
+-- 'A fresh board is made by a constructor of the board's own: everything zero except clock control 1.'
+abbrev pub freshBoard : Board
+freshBoard =
+    record {
+      timers = four freshTimer;
+      «timer_enable» = 0;
+      clock = freshClock;
+      latches = record { counts = four (record { high = Empty }); low = Empty; high = Empty };
+      controller = fresh;
+    }
+
+abbrev pub withTimers : List HardwareTimer → Board → Board
+withTimers ts b =
+    record {
+      timers = ts;
+      «timer_enable» = b .«timer_enable»;
+      clock = b .clock;
+      latches = b .latches;
+      controller = b .controller;
+    }
+
+abbrev pub withClock : Clock → Board → Board
+withClock k b =
+    record {
+      timers = b .timers;
+      «timer_enable» = b .«timer_enable»;
+      clock = k;
+      latches = b .latches;
+      controller = b .controller;
+    }
+
+abbrev pub withController : IrqController → Board → Board
+withController q b =
+    record {
+      timers = b .timers;
+      «timer_enable» = b .«timer_enable»;
+      clock = b .clock;
+      latches = b .latches;
+      controller = q;
+    }
+
+-- a latch as document 01's 'held flag, value'
+abbrev pub heldOf : Latch → Bool
+heldOf Empty = false
+heldOf (Held v) = true
+
+abbrev pub heldValue : Latch → ℕ
+heldValue Empty = 0
+heldValue (Held v) = v
+
+-- ---- the line and the deadline
+
+-- 'The line is high if some channel has pending and interrupt enable, or the alarm is pending and enabled; else it is low.'
+unfoldable pub line : Board → Bool
+line b = anyLine (b .timers) || clockLine (b .clock)
+
+-- 'D is the smallest, or none'
+unfoldable pub exactDeadline : Board → Option ℕ
+exactDeadline b = sooner (soonestOf (b .«timer_enable») (b .timers)) (clockDeadline clockRate (b .clock))
+
+-- 'The 64-bit deadline is the smaller of D and 2^64 − 1.'
+abbrev pub wordDeadline : Option ℕ → Option ℕ
+wordDeadline none = none
+wordDeadline (some d) = some (min d largest)
+
+-- 'After every accepted call the controller's source 3 is set to the line'
+unfoldable pub wired : Board → Board
+wired b = withController (sourceSet (b .controller) 3 (line b)) b
+
+-- ---- soundness
+
+-- 'an empty latch holds 0'
+abbrev pub soundLatch : Latch → Bool
+soundLatch l = heldOf l || eqb (heldValue l) 0
+
+abbrev pub soundLatches : Latches → Bool
+soundLatches ls =
+    foldFrom (λ _ l. soundLatch (l .high)) _&&_ true 0 (ls .counts) && (soundLatch (ls .low) && soundLatch (ls .high))
+
+-- 'timer enable < 16', and the clauses of the channels, the clock and the latches
+unfoldable pub soundParts : Board → Bool
+soundParts b =
+    allSound (b .timers)
+    && (ltb (b .«timer_enable») 16 && (soundClock clockRate (b .clock) && soundLatches (b .latches)))
+
+-- 'level bit 3 equals the line'
+abbrev pub soundLevel : Board → Bool
+soundLevel b = Bool·beq (bit 3 (b .controller .levels)) (line b)
+
+-- 'A board is sound when'
+unfoldable pub sound : Board → Bool
+sound b = soundParts b && soundLevel b

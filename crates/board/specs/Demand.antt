@@ -1,0 +1,67 @@
+-- What is promised of the deadline: of a sound board with its line low and its clock not running from host time, after any list
+-- of advances and host-time calls, the line and source 3 by the deadline that the board gave.
+use Prim.Native.Nat.{ℕ, _+_, _≤_, min}
+use mathlib.Core.Path.{_≡_}
+use mathlib.Core.Logic.{_↔_, _⊎_}
+use mathlib.Core.Bool.{Bool, true, false, cond}
+use mathlib.Core.List.{List, [], _∷_}
+use lib.Dec.{eqb}
+use Rattle.wide.specs.Bits.{bit}
+use Rattle.wide.specs.Number.{largest}
+use Rattle.clock.specs.declared.HostTime.{HostTime}
+use Rattle.clock.specs.Clock.{fromHost}
+use Rattle.board.specs.declared.Board.{Board}
+use Rattle.board.specs.Board.{line, sound}
+use Rattle.board.specs.Calls.{advanceCall, hostTimeCall}
+
+-- an advance, or a host-time call
+pub data Call : Type 0 where
+  advance : ℕ → Call
+  hostTime : HostTime → Call
+
+-- the board that a call returns
+unfoldable pub after : Call → Board → Board
+after (advance c) b = advanceCall c b .board
+after (hostTime h) b = hostTimeCall h b .board
+
+-- the cycles that it adds to T: those of an accepted advance
+unfoldable pub adds : Call → Board → ℕ
+adds (advance c) b = cond (eqb (advanceCall c b .refusal) 0) c 0
+adds (hostTime h) b = 0
+
+-- 'The first gets that board, each later one the board that the call before returned.'
+unfoldable pub afterAll : List Call → Board → Board
+afterAll [] b = b
+afterAll (a ∷ calls) b = afterAll calls (after a b)
+
+-- 'T be the cycles of the accepted advances added up'
+unfoldable pub total : List Call → Board → ℕ
+total [] b = 0
+total (a ∷ calls) b = adds a b + total calls (after a b)
+
+-- 'source 3's pending bit'
+abbrev pub source3 : Board → Bool
+source3 b = bit 3 (b .controller .pending)
+
+-- with a deadline d given: 'the line is high exactly when T is at least D, and source 3's pending bit is set exactly when it was
+-- set at the start or T is at least D'
+pub record Rises (b : Board) (d : ℕ) (calls : List Call) : Type 0 where
+  pub line : (line (afterAll calls b) ≡ true) ↔ (d ≤ total calls b)
+  pub source : (source3 (afterAll calls b) ≡ true) ↔ ((source3 b ≡ true) ⊎ (d ≤ total calls b))
+
+-- 'Where no deadline is given, after every such list the line is low and that bit is as it was at the start.'
+pub record StaysLow (b : Board) (calls : List Call) : Type 0 where
+  pub line : line (afterAll calls b) ≡ false
+  pub source : source3 (afterAll calls b) ≡ source3 b
+
+-- by the members of the deadline's answer: present, D and the 64-bit deadline, 'the smaller of D and 2^64 − 1'
+abbrev pub Told : Bool → ℕ → ℕ → Board → List Call → Type 0
+Told true d word b calls = Rises b d calls × (word ≡ min d largest)
+Told false d word b calls = StaysLow b calls
+
+-- 'any sound board with its line low and its clock not running from host time .. any list of advances and host-time calls,
+-- refused ones included'
+abbrev pub Promise : Board → Bool → ℕ → ℕ → Type 0
+Promise b present d word =
+    sound b ≡ true → line b ≡ false → fromHost (b .clock .control) ≡ false →
+    (calls : List Call) → Told present d word b calls

@@ -1,0 +1,94 @@
+// The board: four channels, the clock, the latches of its registers and the controller, by value.
+ghost use mathlib.Core.Path.{_≡_};
+ghost use Rattle.board.specs.Board.{freshBoard, withTimers, withClock, withController};
+use channel::HardwareTimer;
+use clock::Clock;
+use controller::IrqController;
+
+pub mod calls;
+mod channels;
+mod deadline;
+mod line;
+mod sound;
+
+// A word of a register pair that is held for the next reads.
+pub enum Latch {
+    Empty,
+    Held(u32),
+}
+
+// The latch of a channel's high count word.
+pub struct CountLatch {
+    pub high: Latch,
+}
+
+pub struct Latches {
+    pub counts: [CountLatch; 4],
+    // The clock's seconds.
+    pub low: Latch,
+    pub high: Latch,
+}
+
+pub struct Board {
+    pub timers: [HardwareTimer; 4],
+    pub timer_enable: u8,
+    pub clock: Clock,
+    pub latches: Latches,
+    pub controller: IrqController,
+}
+
+impl Board {
+    // Cycles of a second.
+    pub const RATE: u64 = Clock::RATE;
+
+    // The bits of timer enable: one for each channel.
+    pub const TIMER_ENABLE_VALUES: u8 = 16;
+
+    // The controller's source that is set to the line.
+    pub const LINE_SOURCE: u8 = 3;
+
+    // Everything zero except clock control 1.
+    pub fn fresh() -> Self
+        ensures { λ r. ⌜ r ≡ freshBoard ⌝ }
+    {
+        let t = HardwareTimer::fresh();
+        let timers = [t; 4];
+        let l = CountLatch { high: Latch::Empty };
+        let counts = [l; 4];
+        let latches = Latches {
+            counts,
+            low: Latch::Empty,
+            high: Latch::Empty,
+        };
+        let clock = Clock::fresh();
+        let controller = IrqController::new();
+        Board {
+            timers,
+            timer_enable: 0,
+            clock,
+            latches,
+            controller,
+        }
+    }
+
+    fn with_timers(mut self, timers: [HardwareTimer; 4]) -> Self
+        ensures { λ r. ⌜ r ≡ withTimers timers self ⌝ }
+    {
+        self.timers = timers;
+        self
+    }
+
+    fn with_clock(mut self, clock: Clock) -> Self
+        ensures { λ r. ⌜ r ≡ withClock clock self ⌝ }
+    {
+        self.clock = clock;
+        self
+    }
+
+    fn with_controller(mut self, controller: IrqController) -> Self
+        ensures { λ r. ⌜ r ≡ withController controller self ⌝ }
+    {
+        self.controller = controller;
+        self
+    }
+}

@@ -1,0 +1,29 @@
+// Whether a board is sound. An empty latch holds nothing here, so the clause about it always holds.
+ghost use mathlib.Core.Path.{_≡_};
+ghost use Rattle.board.specs.Board.{BoardFits, soundParts, sound};
+use crate::Board;
+use crate::channels::all_sound;
+use wide::flags::both;
+use wide::flags::same;
+
+impl Board {
+    fn sound_parts(self) -> bool
+        ensures { λ r. ⌜ (r ≡ soundParts self) × BoardFits self ⌝ }
+    {
+        let timers = self.timers;
+        let timer_enable = self.timer_enable;
+        let clock = self.clock;
+        both(
+            all_sound(timers),
+            both(timer_enable < Self::TIMER_ENABLE_VALUES, clock.sound()),
+        )
+    }
+
+    // The contract also says that the board's words are words, which the promise of its deadline rests on.
+    pub fn sound(self) -> bool
+        ensures { λ r. ⌜ (r ≡ sound self) × BoardFits self ⌝ }
+    {
+        let levels = self.controller.levels;
+        both(self.sound_parts(), same(levels / 8 % 2 == 1, self.line()))
+    }
+}
