@@ -3,25 +3,21 @@ use Prim.Native.Nat.{ℕ, min}
 use mathlib.Core.Path.{_≡_, sym, ap, _∙_, subst}
 use mathlib.Core.Bool.{Bool, true, false, false≢true}
 use mathlib.Core.Option.{Option, none, some}
-use mathlib.Core.List.{List}
 use Rattle.wide.specs.declared.number.Wide.{Wide}
 use Rattle.wide.specs.Number.{valueOf, largest}
-use Rattle.clock.specs.Clock.{fromHost}
 use Rattle.board.specs.declared.Board.{Board}
-use Rattle.board.specs.Board.{BoardFits, line, exactDeadline, wordDeadline, wired, sound}
+use Rattle.board.specs.Board.{BoardFits, line, exactDeadline, wordDeadline, sound}
 use Rattle.board.specs.Calls.{
-  advancedBoard,
   isPresent,
   orZero,
   givenDeadline,
   notSound,
-  refusalOf,
   DeadlineCall,
   unskipped,
   skipLength,
   skippedBy,
 }
-use Rattle.board.specs.Demand.{Call, Told, Promise}
+use Rattle.board.specs.Demand.{Told, Promise}
 use Rattle.board.proofs.Soundness.{wired-sound}
 use Rattle.board.proofs.Demand3.{demand-3}
 
@@ -33,7 +29,8 @@ module _ (b : Board) (w : Wide) where
   given d s e = rw s e
 
   -- what is promised, where the deadline given is d
-  promised : (d : Option ℕ) → BoardFits b → givenDeadline b ≡ d → Promise b (isPresent d) (orZero d) (orZero (wordDeadline d))
+  promised : (d : Option ℕ) → BoardFits b → givenDeadline b ≡ d →
+      Promise b (isPresent d) (orZero d) (orZero (wordDeadline d))
   promised d f e s low o calls =
       subst (λ (x : Option ℕ). Told (isPresent x) (orZero x) (orZero (wordDeadline x)) b calls) e
       (demand-3 b f s low o calls)
@@ -56,7 +53,8 @@ module _ (b : Board) (w : Wide) where
         promised none f g,
       )
 
-  pub deadline-some : BoardFits b → sound b ≡ true → exactDeadline b ≡ some (valueOf w) → (n : ℕ) → n ≡ min (valueOf w) largest →
+  pub deadline-some : BoardFits b → sound b ≡ true → exactDeadline b ≡ some (valueOf w) → (n : ℕ) →
+      n ≡ min (valueOf w) largest →
       DeadlineHolds 0 true n
   deadline-some f s e n m =
       let g = given (some (valueOf w)) s e in (

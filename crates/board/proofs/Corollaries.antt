@@ -1,11 +1,11 @@
--- What a contract quotes of the deadline. Each theorem is about a sound machine board whose line is low, whose clock does not run
--- from host time, and whose deadline is d. Assumes nothing.
+-- What a contract quotes of the deadline. Each theorem is about a sound machine board whose line is low, whose clock
+-- does not run from host time, and whose deadline is d. Assumes nothing.
 use Prim.Native.Nat.{ℕ, _+_, _-_, _≤_, _<_, min}
 use native.Mathlib.Omega.{arith}
 use mathlib.Core.Path.{_≡_, sym, ap, _∙_}
-use mathlib.Core.Bool.{Bool, true, false, _||_}
+use mathlib.Core.Bool.{true, false, _||_}
 use mathlib.Core.Option.{Option, some}
-use mathlib.Core.List.{List, [], _∷_}
+use mathlib.Core.List.{List}
 use lib.Dec.{leb}
 use borrow.Author.Tests.{le-leb, lt-leb}
 use Rattle.wide.specs.Number.{largest}
@@ -15,12 +15,13 @@ use Rattle.wide.proofs.Deadlines.{due-is}
 use Rattle.clock.specs.Clock.{fromHost}
 use Rattle.board.specs.declared.Board.{Board}
 use Rattle.board.specs.Board.{BoardFits, line, exactDeadline, sound}
-use Rattle.board.specs.Calls.{advancedBoard, advanceCall, skipCall, skipLength, skippedBy}
+use Rattle.board.specs.Calls.{advancedBoard, skipCall, skipLength}
 use Rattle.board.specs.Demand.{Call, afterAll, total}
-use Rattle.board.proofs.Steps.{Good, good, boardDue, line-due, Step, advance-step}
+use Rattle.board.proofs.Steps.{good, boardDue, line-due, advance-step}
 use Rattle.board.proofs.Demand3.{line-after}
 
-module _ (b : Board) (f : BoardFits b) (s : sound b ≡ true) (low : line b ≡ false) (o : fromHost (b .clock .control) ≡ false)
+module _ (b : Board) (f : BoardFits b) (s : sound b ≡ true) (low : line b ≡ false)
+    (o : fromHost (b .clock .control) ≡ false)
     (d : ℕ) (given : exactDeadline b ≡ some d) where
   -- the line after a list of calls, by its total
   line-is : (calls : List Call) → line (afterAll calls b) ≡ leb d (total calls b)

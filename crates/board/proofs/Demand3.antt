@@ -1,21 +1,19 @@
 -- What is promised of the deadline, proved: by the steps of a list of calls. Assumes nothing.
-use Prim.Native.Nat.{ℕ, _+_, _-_, _≤_, _<_, min}
+use Prim.Native.Nat.{ℕ, _+_, _-_, _≤_}
 use native.Mathlib.Nat.{zero-add, add-zero, add-assoc}
-use native.Mathlib.Omega.{arith}
 use mathlib.Core.Path.{_≡_, refl, sym, ap, _∙_}
 use mathlib.Core.Logic.{_↔_, _⊎_, inl, inr}
 use mathlib.Core.Bool.{Bool, true, false, not, _&&_, _||_, or-false, false≢true}
 use mathlib.Core.Option.{Option, none, some}
 use mathlib.Core.List.{List, [], _∷_}
 use lib.Dec.{leb}
-use borrow.Author.Tests.{leb-true, le-leb, lt-leb}
-use Rattle.wide.specs.Number.{largest}
+use borrow.Author.Tests.{leb-true, le-leb}
 use Rattle.wide.specs.Deadline.{due}
 use Rattle.clock.specs.Clock.{fromHost}
 use Rattle.board.specs.declared.Board.{Board}
 use Rattle.board.specs.Board.{BoardFits, line, exactDeadline, wordDeadline, sound}
 use Rattle.board.specs.Calls.{isPresent, orZero, givenDeadline}
-use Rattle.board.specs.Demand.{Call, after, adds, afterAll, total, source3, Rises, StaysLow, Told, Promise}
+use Rattle.board.specs.Demand.{Call, after, adds, afterAll, total, source3, Told, Promise}
 use Rattle.board.proofs.Soundness.{facts-sound}
 use Rattle.board.proofs.Steps.{Good, good, boardDue, line-due, Step, call-step}
 

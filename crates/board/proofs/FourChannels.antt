@@ -1,6 +1,6 @@
--- The channels' law, over the list of them: what is due after c cycles at t is what was due at c + t. k is the number of the
--- list's first channel. Assumes nothing.
-use Prim.Native.Nat.{ℕ, zero, suc, _+_, _<_}
+-- The channels' law, over the list of them: what is due after c cycles at t is what was due at c + t. k is the number
+-- of the list's first channel. Assumes nothing.
+use Prim.Native.Nat.{ℕ, suc, _+_}
 use mathlib.Core.Path.{_≡_, refl, sym, ap₂, _∙_}
 use mathlib.Core.Bool.{Bool, true, false, _&&_, _||_, or-true}
 use mathlib.Core.Option.{Option, none}

@@ -1,10 +1,10 @@
--- What the hypotheses of the deadline's promise shut out: boards outside them, with the deadline that the rules would give and
--- what then comes of it. One table, computed. Assumes nothing.
+-- What the hypotheses of the deadline's promise shut out: boards outside them, with the deadline that the rules would
+-- give and what then comes of it. One table, computed. Assumes nothing.
 use Prim.Native.Nat.{ℕ}
 use mathlib.Core.Path.{_≡_, refl}
 use mathlib.Core.Bool.{Bool, true, false, not, _&&_}
 use mathlib.Core.Option.{Option, none, some}
-use mathlib.Core.List.{List, [], _∷_}
+use mathlib.Core.List.{[], _∷_}
 use lib.Dec.{eqb}
 use Rattle.channel.specs.declared.HardwareTimer.{HardwareTimer}
 use Rattle.channel.specs.Channel.{
@@ -105,11 +105,14 @@ pub shut-out :
     && (not (sound steady) && line (advancedBoard 30 steady) && not (source3 (advancedBoard 30 steady)))
     && (not (sound early) && gives (exactDeadline early) 0 && not (line early))
     && (sound hosted && isNone (exactDeadline hosted))
-    && (line (afterAll (nine ∷ advance 48_000 ∷ []) hosted) && not (line (afterAll (nine ∷ advance 47_999 ∷ []) hosted))))
+    && (line (afterAll (nine ∷ advance 48_000 ∷ []) hosted)
+    && not (line (afterAll (nine ∷ advance 47_999 ∷ []) hosted))))
     ≡ true
 unfolding
     enabledOf irqEnabledOf disabled soundTimer lineOf advanced ticked tickedIn oneShot ticksToGo deadlineOf shifted
-    ownNanoseconds timeOf timeSeconds alarmReached checkAlarm movedTime endAdvance advanceClock soundOffset soundAlarm clockParts
-    alarmAhead soundClock clockDeadline withBit sourceSet mapFrom foldFrom line exactDeadline wired soundParts sound advancedBoard
+    ownNanoseconds timeOf timeSeconds alarmReached checkAlarm movedTime endAdvance advanceClock soundOffset soundAlarm
+    clockParts
+    alarmAhead soundClock clockDeadline withBit sourceSet mapFrom foldFrom line exactDeadline wired soundParts sound
+    advancedBoard
     hostTimeRefusal hostedBoard advanceCall hostTimeCall after afterAll
 shut-out = refl

@@ -1,7 +1,7 @@
 -- Every direct call keeps a sound board sound. Assumes nothing.
 use Prim.Native.Nat.{ℕ}
 use mathlib.Core.Path.{_≡_, refl}
-use mathlib.Core.Bool.{Bool, true, cond}
+use mathlib.Core.Bool.{true, cond}
 use mathlib.Core.Option.{Option, none, some}
 use native.Mathlib.Omega.{arith}
 use lib.Dec.{eqb}
@@ -16,12 +16,10 @@ use Rattle.controller.specs.declared.IrqController.{IrqController}
 use Rattle.controller.specs.Controller.{sourceSet, byteWritten}
 use Rattle.board.specs.declared.Board.{Board}
 use Rattle.board.specs.declared.calls.EmptyAnswer.{EmptyAnswer}
-use Rattle.board.specs.declared.calls.SkipAnswer.{SkipAnswer}
 use Rattle.board.specs.Loops.{foldFrom}
-use Rattle.board.specs.Board.{BoardFits, freshBoard, withController, line, exactDeadline, wordDeadline, wired, sound}
+use Rattle.board.specs.Board.{BoardFits, freshBoard, withController, line, wired, sound}
 use Rattle.board.specs.Calls.{
   refusalOf,
-  hostTimeRefusal,
   sourceRefusal,
   advancedBoard,
   sourcedBoard,
@@ -38,7 +36,7 @@ use Rattle.board.specs.Calls.{
   outputCall,
 }
 use Rattle.board.specs.Demand.{advance, hostTime, after}
-use Rattle.board.proofs.Soundness.{SoundFacts, sound-facts, facts-sound, wired-sound}
+use Rattle.board.proofs.Soundness.{sound-facts, facts-sound, wired-sound}
 use Rattle.board.proofs.Steps.{good, wired-level, advance-step}
 use Rattle.board.proofs.Demand3.{call-sound}
 

@@ -1,5 +1,5 @@
--- Laws of the two kinds of a loop over a list: one that changes each element, from the first on, and one that joins what the
--- elements give, from the last back. Assumes nothing.
+-- Laws of the two kinds of a loop over a list: one that changes each element, from the first on, and one that joins
+-- what the elements give, from the last back. Assumes nothing.
 use Prim.Native.Nat.{ℕ, zero, suc, _+_, _-_, _≤_, _<_}
 use mathlib.Core.Path.{_≡_, refl, sym, ap, _∙_}
 use mathlib.Core.Bool.{Bool, true, _&&_}
@@ -43,7 +43,8 @@ module _ {A : Type 0} (f : ℕ → A → A) where
   next-is d (suc n) k [] = refl
   next-is d (suc n) k (x ∷ xs) = next-is d n (suc k) xs
 
-  set-next : (d : A) (n k : ℕ) (xs : List A) → n < length xs → set (mapTo n k xs) n (f (k + n) (getD xs n d)) ≡ mapTo (suc n) k xs
+  set-next : (d : A) (n k : ℕ) (xs : List A) → n < length xs →
+      set (mapTo n k xs) n (f (k + n) (getD xs n d)) ≡ mapTo (suc n) k xs
   unfolding mapTo
   set-next d n k [] h = absurd (omega arith)
   set-next d zero k (x ∷ xs) h = ap (λ (i : ℕ). f i x ∷ xs) (omega arith)
@@ -53,7 +54,8 @@ module _ {A : Type 0} (f : ℕ → A → A) where
       ∙ set-next d n (suc k) xs (omega arith))
 
   -- one turn: r is the next element's change
-  pub map-goes : (d : A) (i : ℕ) (xs out : List A) (r : A) → i < length xs → out ≡ mapTo i 0 xs → r ≡ f i (getD out i d) →
+  pub map-goes : (d : A) (i : ℕ) (xs out : List A) (r : A) → i < length xs → out ≡ mapTo i 0 xs →
+      r ≡ f i (getD out i d) →
       set out i r ≡ mapTo (i + 1) 0 xs
   map-goes d i xs out r h e q =
       rw (q, e, next-is d i 0 xs, add-one)

@@ -1,6 +1,6 @@
 -- What soundness says of a board, clause by clause, and back. Assumes nothing.
 use Prim.Native.Nat.{ℕ, suc, _<_}
-use mathlib.Core.Path.{_≡_, refl, sym, _∙_}
+use mathlib.Core.Path.{_≡_, refl}
 use mathlib.Core.Bool.{Bool, true, false, _&&_, Bool·beq, false≢true}
 use mathlib.Core.List.{List, [], _∷_}
 use lib.Dec.{ltb}
@@ -18,7 +18,7 @@ use Rattle.board.specs.declared.Latches.{Latches}
 use Rattle.board.specs.declared.Board.{Board}
 use Rattle.board.specs.Loops.{foldFrom}
 use Rattle.board.specs.Channels.{allSound}
-use Rattle.board.specs.Board.{soundLatch, soundLatches, soundParts, soundLevel, sound, line, wired, withController}
+use Rattle.board.specs.Board.{soundLatch, soundLatches, soundParts, soundLevel, sound, line, wired}
 
 -- ---- latches: an empty one has no value but 0
 
@@ -30,7 +30,8 @@ counts-sound : (k : ℕ) (ls : List CountLatch) → foldFrom (λ _ l. soundLatch
 unfolding foldFrom
 counts-sound k [] = refl
 counts-sound k (l ∷ ls) =
-    and-join (soundLatch (l .high)) (foldFrom (λ _ m. soundLatch (m .high)) _&&_ true (suc k) ls) (latch-sound (l .high))
+    and-join (soundLatch (l .high)) (foldFrom (λ _ m. soundLatch (m .high)) _&&_ true (suc k) ls)
+    (latch-sound (l .high))
     (counts-sound (suc k) ls)
 
 pub latches-sound : (ls : Latches) → soundLatches ls ≡ true

@@ -1,11 +1,10 @@
--- One call on a sound board: it stays sound, what is due moves by the cycles that the call adds, and source 3 is latched by a rise
--- of the line. Assumes nothing.
+-- One call on a sound board: it stays sound, what is due moves by the cycles that the call adds, and source 3 is
+-- latched by a rise of the line. Assumes nothing.
 use Prim.Native.Nat.{ℕ, _+_, _<_}
 use native.Mathlib.Nat.{zero-add}
 use native.Mathlib.Omega.{arith}
 use mathlib.Core.Path.{_≡_, refl, sym, ap, ap₂, _∙_}
-use mathlib.Core.Bool.{Bool, true, false, cond, not, _&&_, _||_, and-not-self}
-use mathlib.Core.Option.{Option}
+use mathlib.Core.Bool.{Bool, true, false, not, _&&_, _||_, and-not-self}
 use lib.Dec.{leb}
 use borrow.Author.Tests.{leb-false}
 use Rattle.wide.specs.Bits.{bit}
@@ -13,23 +12,23 @@ use Rattle.wide.specs.Deadline.{due}
 use Rattle.wide.proofs.Choices.{either}
 use Rattle.wide.proofs.Deadlines.{due-sooner}
 use Rattle.clock.specs.declared.HostTime.{HostTime}
-use Rattle.clock.specs.declared.Clock.{Clock}
 use Rattle.clock.specs.Clock.{clockRate, nanosPerSecond, fromHost, advanceClock}
 use Rattle.clock.specs.Fields.{withHost}
 use Rattle.clock.specs.Deadline.{clockLine, clockDeadline, clockDue}
-use Rattle.clock.proofs.Soundness.{Sound, clock-rate, facts-sound as clock-sound, sound-fits, advance-sound, host-sound}
+use Rattle.clock.proofs.Soundness.{
+  Sound,
+  clock-rate,
+  facts-sound as clock-sound,
+  sound-fits,
+  advance-sound,
+  host-sound,
+}
 use Rattle.clock.proofs.Law.{advance-due as clock-advance-due, advance-own, host-due, line-due as clock-line-due}
 use Rattle.controller.proofs.Laws.{level-set, pending-set}
 use Rattle.board.specs.declared.Board.{Board}
 use Rattle.board.specs.Channels.{anyLine, soonestOf, advancedAll}
 use Rattle.board.specs.Board.{BoardFits, withTimers, withClock, line, exactDeadline, wired, sound}
-use Rattle.board.specs.Calls.{
-  hostTimeRefusal,
-  advancedBoard,
-  hostedBoard,
-  advanceCall,
-  hostTimeCall,
-}
+use Rattle.board.specs.Calls.{hostTimeRefusal, advancedBoard, hostedBoard, advanceCall, hostTimeCall}
 use Rattle.board.specs.Demand.{Call, advance, hostTime, after, adds, source3}
 use Rattle.board.proofs.FourChannels.{
   or-swap,
@@ -153,10 +152,6 @@ module _ (h : HostTime) (b : Board) (small : h .nanoseconds < nanosPerSecond) (g
       ∙ ap (λ v. channelsDue (b .«timer_enable») 0 (b .timers) t || v) (host-due clockRate h (b .clock) t)
       ∙ sym (due-parts b t)
 
-  told-line : line told ≡ line b
-  unfolding line
-  told-line = refl
-
   pub host-step : Step 0 b (hostedBoard h b)
   unfolding hostedBoard wired
   host-step =
@@ -189,7 +184,8 @@ same-step b g =
 
 -- an accepted call
 
-advance-accepted : (c : ℕ) (b : Board) → sound b ≡ true → (after (advance c) b ≡ advancedBoard c b) × (adds (advance c) b ≡ c)
+advance-accepted : (c : ℕ) (b : Board) → sound b ≡ true →
+    (after (advance c) b ≡ advancedBoard c b) × (adds (advance c) b ≡ c)
 unfolding after adds advanceCall
 advance-accepted c b e = (rw (e, after), rw (e, adds))
 

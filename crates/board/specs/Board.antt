@@ -1,5 +1,5 @@
--- Document 01, 'An advance arrives at the board' and 'The line, source 3 and the deadline': the board's fields, soundness, line
--- and deadline. The terms sound, line and deadline are document 01's.
+-- Document 01, 'An advance arrives at the board' and 'The line, source 3 and the deadline': the board's fields,
+-- soundness, line and deadline. The terms sound, line and deadline are document 01's.
 use Prim.Native.Nat.{ℕ, min}
 use mathlib.Core.Bool.{Bool, true, false, _&&_, _||_, Bool·beq}
 use mathlib.Core.Option.{Option, none, some}
@@ -19,7 +19,6 @@ use Rattle.controller.specs.declared.IrqController.{IrqController}
 use Rattle.controller.specs.Controller.{fresh, sourceSet}
 use Rattle.board.specs.declared.Latch.{Latch}
 use Rattle.board.specs.declared.Latch.the-variants.{Empty, Held}
-use Rattle.board.specs.declared.CountLatch.{CountLatch}
 use Rattle.board.specs.declared.Latches.{Latches}
 use Rattle.board.specs.declared.Board.{Board}
 use Rattle.board.specs.Loops.{All, foldFrom}
@@ -87,7 +86,8 @@ heldValue (Held v) = v
 
 -- ---- the line and the deadline
 
--- 'The line is high if some channel has pending and interrupt enable, or the alarm is pending and enabled; else it is low.'
+-- 'The line is high if some channel has pending and interrupt enable, or the alarm is pending and enabled; else it is
+-- low.'
 unfoldable pub line : Board → Bool
 line b = anyLine (b .timers) || clockLine (b .clock)
 

@@ -1,5 +1,5 @@
--- The direct calls but read and write: what each answers of a board, refusals in document 01's order. 'Direct calls refuse alike
--- and return the board given, every answer member 0.'
+-- The direct calls but read and write: what each answers of a board, refusals in document 01's order. 'Direct calls
+-- refuse alike and return the board given, every answer member 0.'
 use Prim.Native.Nat.{ℕ}
 use mathlib.Core.Path.{_≡_}
 use mathlib.Core.Bool.{Bool, true, false, cond}
@@ -9,7 +9,6 @@ use Rattle.wide.specs.Number.{valueOf}
 use Rattle.clock.specs.declared.HostTime.{HostTime}
 use Rattle.clock.specs.Clock.{clockRate, nanosPerSecond, advanceClock}
 use Rattle.clock.specs.Fields.{withHost}
-use Rattle.controller.specs.declared.IrqOutput.{IrqOutput}
 use Rattle.controller.specs.Controller.{sourceSet, byteRead, byteWritten, outputOf}
 use Rattle.board.specs.declared.Board.{Board}
 use Rattle.board.specs.declared.calls.EmptyAnswer.{EmptyAnswer}

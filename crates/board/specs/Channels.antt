@@ -1,5 +1,5 @@
--- The four channels, numbered 0 to 3: each rule is a channel's rule over the list of them. A channel's bit in timer enable is
--- the bit of its number.
+-- The four channels, numbered 0 to 3: each rule is a channel's rule over the list of them. A channel's bit in timer
+-- enable is the bit of its number.
 use Prim.Native.Nat.{ℕ}
 use mathlib.Core.Bool.{Bool, true, false, _&&_, _||_}
 use mathlib.Core.Option.{Option, none}

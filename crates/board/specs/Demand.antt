@@ -1,5 +1,5 @@
--- What is promised of the deadline: of a sound board with its line low and its clock not running from host time, after any list
--- of advances and host-time calls, the line and source 3 by the deadline that the board gave.
+-- What is promised of the deadline: of a sound board with its line low and its clock not running from host time,
+-- after any list of advances and host-time calls, the line and source 3 by the deadline that the board gave.
 use Prim.Native.Nat.{ℕ, _+_, _≤_, min}
 use mathlib.Core.Path.{_≡_}
 use mathlib.Core.Logic.{_↔_, _⊎_}
@@ -43,8 +43,8 @@ total (a ∷ calls) b = adds a b + total calls (after a b)
 abbrev pub source3 : Board → Bool
 source3 b = bit 3 (b .controller .pending)
 
--- with a deadline d given: 'the line is high exactly when T is at least D, and source 3's pending bit is set exactly when it was
--- set at the start or T is at least D'
+-- with a deadline d given: 'the line is high exactly when T is at least D, and source 3's pending bit is set exactly
+-- when it was set at the start or T is at least D'
 pub record Rises (b : Board) (d : ℕ) (calls : List Call) : Type 0 where
   pub line : (line (afterAll calls b) ≡ true) ↔ (d ≤ total calls b)
   pub source : (source3 (afterAll calls b) ≡ true) ↔ ((source3 b ≡ true) ⊎ (d ≤ total calls b))
@@ -59,8 +59,8 @@ abbrev pub Told : Bool → ℕ → ℕ → Board → List Call → Type 0
 Told true d word b calls = Rises b d calls × (word ≡ min d largest)
 Told false d word b calls = StaysLow b calls
 
--- 'any sound board with its line low and its clock not running from host time .. any list of advances and host-time calls,
--- refused ones included'
+-- 'any sound board with its line low and its clock not running from host time .. any list of advances and host-time
+-- calls, refused ones included'
 abbrev pub Promise : Board → Bool → ℕ → ℕ → Type 0
 Promise b present d word =
     sound b ≡ true → line b ≡ false → fromHost (b .clock .control) ≡ false →

@@ -1,5 +1,5 @@
--- Lists of elements: a property of each, and the two kinds of a loop over them, one that changes each element and one that
--- joins what the elements give.
+-- Lists of elements: a property of each, and the two kinds of a loop over them, one that changes each element and one
+-- that joins what the elements give.
 use Prim.Native.Nat.{ℕ, suc}
 use mathlib.Core.List.{List, [], _∷_}
 

@@ -1,6 +1,6 @@
 // The four channels together: loops that apply a channel's operation to each, or join what each answers.
 ghost use mathlib.Core.Path.{_≡_};
-ghost use mathlib.Core.Bool.{true, _&&_, _||_};
+ghost use mathlib.Core.Bool.{true};
 ghost use Rattle.wide.specs.Deadline.{numberOf};
 ghost use Rattle.channel.specs.Channel.{TimerFits};
 ghost use Rattle.board.specs.Loops.{All};

@@ -1,8 +1,8 @@
 -- Laws of the distance of a free-running channel: its value, and the code's wrapped difference. Assumes nothing.
 use Prim.Native.Nat.{ℕ, _+_, _-_, _%_, _^_, _≤_, _<_}
-use mathlib.Core.Path.{_≡_, refl, sym, ap, _∙_}
+use mathlib.Core.Path.{_≡_, sym, ap}
 use mathlib.Core.Logic.{_≢_}
-use mathlib.Core.Bool.{Bool, true, false, cond}
+use mathlib.Core.Bool.{false}
 use native.Mathlib.Omega.{arith}
 use lib.Dec.{leb, ltb, eqb}
 use borrow.Author.Tests.{eqb-true, eqb-false, ltb-true, ltb-false, lt-leb}
@@ -48,5 +48,6 @@ module _ (n e : ℕ) (fn : n < 2 ^ 64) (fe : e < 2 ^ 64) where
   near-is d t f z w = ap (λ (k : ℕ). leb k t) (sym (distance-is n e d (omega arith)))
 
   -- the distance is one more than d − 1, wrapped, of its wrapped difference d
-  pub one-after-is : (d r : ℕ) → d < 2 ^ 64 → r < 2 ^ 64 → (d + n) % 2 ^ 64 ≡ e → (r + 1) % 2 ^ 64 ≡ d → r + 1 ≡ distance n e
+  pub one-after-is : (d r : ℕ) → d < 2 ^ 64 → r < 2 ^ 64 → (d + n) % 2 ^ 64 ≡ e → (r + 1) % 2 ^ 64 ≡ d →
+      r + 1 ≡ distance n e
   one-after-is d r f g w v = sym (distance-is n e (r + 1) (omega arith))

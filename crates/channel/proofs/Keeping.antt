@@ -1,5 +1,5 @@
 -- What ticks leave of a channel. Assumes nothing.
-use Prim.Native.Nat.{ℕ, zero, suc, _+_, _-_, _*_, _/_, _%_, _^_, _≤_, _<_, min, suc-le-suc}
+use Prim.Native.Nat.{ℕ, zero, suc, _+_, _-_, _*_, _/_, _%_, _^_, _<_, min, suc-le-suc}
 use native.Mathlib.Omega.{arith}
 use mathlib.Core.Path.{_≡_, refl, ap}
 use mathlib.Core.Bool.{Bool, true, false, _&&_}
@@ -83,7 +83,8 @@ module _ (h : HardwareTimer) (f : TimerFits h) where
       }
 
   -- a match with another compare point, and one that may disarm
-  again : (n m : ℕ) (armed : Bool) → n < 2 ^ 64 → m < 2 ^ 64 → Kept h (withCompare m (withFlags true armed (withCounter n h)))
+  again : (n m : ℕ) (armed : Bool) → n < 2 ^ 64 → m < 2 ^ 64 →
+      Kept h (withCompare m (withFlags true armed (withCounter n h)))
   again n m armed p q =
       record {
         prescaler = refl;

@@ -1,25 +1,14 @@
--- The channel's law for the deadline: what is due after c cycles at t is what was due at c + t, for every mode, prescaler and
--- phase; and what an advance leaves of pending and interrupt enable. Assumes nothing.
-use Prim.Native.Nat.{ℕ, zero, suc, _+_, _-_, _*_, _/_, _%_, _^_, _≤_, _<_, min}
+-- The channel's law for the deadline: what is due after c cycles at t is what was due at c + t, for every mode,
+-- prescaler and phase; and what an advance leaves of pending and interrupt enable. Assumes nothing.
+use Prim.Native.Nat.{ℕ, zero, suc, _+_, _-_, _/_, _%_, _^_, _≤_, _<_, min}
 use native.Mathlib.Nat.{div-eq-of-lt, add-zero, zero-add}
 use native.Mathlib.Omega.{arith}
 use mathlib.Core.Path.{_≡_, refl, sym, ap, _∙_}
 use mathlib.Core.Logic.{_≢_}
-use mathlib.Core.Bool.{Bool, true, false, cond, _&&_, _||_, and-false, or-false, false≢true}
+use mathlib.Core.Bool.{Bool, true, false, _&&_, _||_, and-false, or-false, false≢true}
 use mathlib.Core.Option.{Option, none, some}
 use lib.Dec.{leb, ltb, eqb}
-use borrow.Author.Tests.{
-  ltb-true,
-  ltb-false,
-  leb-true,
-  leb-false,
-  le-leb,
-  lt-leb,
-  lt-ltb,
-  le-ltb,
-  eqb-true,
-  eqb-false,
-}
+use borrow.Author.Tests.{ltb-true, leb-true, leb-false, le-leb, lt-leb, lt-ltb, le-ltb, eqb-true, eqb-false}
 use Rattle.wide.specs.Number.{largest}
 use Rattle.wide.specs.Deadline.{due}
 use Rattle.wide.proofs.Choices.{choose, either, leb-same}
@@ -38,11 +27,18 @@ use Rattle.channel.specs.Modes.{
   tickedIn,
   ticked,
 }
-use Rattle.channel.specs.Deadline.{ticksToGo, inCycles, deadlineOf}
+use Rattle.channel.specs.Deadline.{ticksToGo, deadlineOf}
 use Rattle.channel.proofs.Keeping.{Kept}
 use Rattle.channel.proofs.Distances.{distance-positive, distance-after}
 use Rattle.channel.proofs.Prescaling.{due-in-cycles, ticks-add}
-use Rattle.channel.proofs.Sound.{start, advance-kept, advance-phase, advanced-fits, advanced-sound, sound-phase}
+use Rattle.channel.proofs.Sound.{
+  start,
+  advance-kept,
+  advance-phase,
+  advanced-fits,
+  advanced-sound,
+  sound-phase,
+}
 
 -- ---- ticks to go
 
@@ -95,7 +91,8 @@ module _ (k : ℕ) (h : HardwareTimer) (p : 0 < k) (f : TimerFits h) where
       choose P (leb e n)
       (λ a. let l = leb-true e n a in
       choose P (eqb (h .reload) 0) (λ _. met refl (reached l))
-      (λ _. choose P (ltb largest (nextCompare (withCounter n h))) (λ _. met refl (reached l)) (λ _. met refl (reached l))))
+      (λ _. choose P (ltb largest (nextCompare (withCounter n h))) (λ _. met refl (reached l))
+      (λ _. met refl (reached l))))
       (λ a. let l = leb-false e n a in
       went refl refl
       (λ s. rw (lt-ltb (h .counter) e (omega arith), lt-ltb n e l)
@@ -229,14 +226,16 @@ module _ (selected : Bool) (c : ℕ) (h : HardwareTimer) (f : TimerFits h) where
       running r =
           either (irqEnabledOf (h .control))
           (λ e. either (h .pending)
-          (λ p. due-asserted selected ran t (kept .irq ∙ e) (kept .pending p) ∙ sym (due-asserted selected h (c + t) e p))
+          (λ p. due-asserted selected ran t (kept .irq ∙ e) (kept .pending p)
+          ∙ sym (due-asserted selected h (c + t) e p))
           (λ p. waiting e p r
           (is-ticked (ticksOf c h) (start selected c h f) (record { counter = f .counter; compare = f .compare }))
           ∙ sym (due-waiting selected h (c + t) e p r f q)))
           (λ e. due-quiet selected ran t (kept .irq ∙ e) ∙ sym (due-quiet selected h (c + t) e))
 
 -- the line is what is due at once
-pub line-due : (selected : Bool) (h : HardwareTimer) → TimerFits h → h .phase < divisor h → lineOf h ≡ channelDue selected h 0
+pub line-due : (selected : Bool) (h : HardwareTimer) → TimerFits h → h .phase < divisor h →
+    lineOf h ≡ channelDue selected h 0
 unfolding lineOf
 line-due selected h f q =
     either (runs selected h)
@@ -253,7 +252,8 @@ line-due selected h f q =
 
 -- ---- the law in the words of a deadline, for a sound channel that is not in the line
 
-module _ (selected : Bool) (c : ℕ) (h : HardwareTimer) (f : TimerFits h) (s : soundTimer h ≡ true) (low : lineOf h ≡ false) where
+module _ (selected : Bool) (c : ℕ) (h : HardwareTimer) (f : TimerFits h) (s : soundTimer h ≡ true)
+    (low : lineOf h ≡ false) where
   abbrev after : HardwareTimer
   after = advanced selected c h
 

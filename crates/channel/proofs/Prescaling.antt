@@ -2,9 +2,23 @@
 use Prim.Native.Nat.{ℕ, zero, suc, _+_, _-_, _*_, _/_, _%_, _^_, _≤_, _<_}
 use mathlib.Core.Path.{_≡_, refl, sym, ap, _∙_}
 use mathlib.Core.Logic.{_↔_}
-use mathlib.Core.Bool.{Bool, false}
+use mathlib.Core.Bool.{false}
 use mathlib.Core.Option.{Option, none, some}
-use native.Mathlib.Nat.{add-div-right, add-mod-right, div-eq-of-lt, mod-eq-of-lt, mod-lt, div-le-self, pow-le-pow-right, lt-of-lt-of-le, mul-le-mul, le-of-lt, le-div-iff-mul-le, mul-add-div, div-add-mod}
+use native.Mathlib.Nat.{
+  add-div-right,
+  add-mod-right,
+  div-eq-of-lt,
+  mod-eq-of-lt,
+  mod-lt,
+  div-le-self,
+  pow-le-pow-right,
+  lt-of-lt-of-le,
+  mul-le-mul,
+  le-of-lt,
+  le-div-iff-mul-le,
+  mul-add-div,
+  div-add-mod,
+}
 use native.Mathlib.Numerals.{sub-one}
 use native.Mathlib.Omega.{arith}
 use lib.Dec.{leb, ltb, lit≤}

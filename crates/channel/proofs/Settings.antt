@@ -1,8 +1,8 @@
 -- Rows of document 01's settings that are about one channel, computed from the rules. Assumes nothing.
 use Prim.Native.Nat.{ℕ, _+_, _-_, _^_}
 use mathlib.Core.Path.{_≡_, refl}
-use mathlib.Core.Bool.{Bool, true, false}
-use mathlib.Core.Option.{Option, none, some}
+use mathlib.Core.Bool.{true, false}
+use mathlib.Core.Option.{some}
 use Rattle.wide.specs.Number.{largest}
 use Rattle.channel.specs.declared.HardwareTimer.{HardwareTimer}
 use Rattle.channel.specs.Channel.{
@@ -16,7 +16,6 @@ use Rattle.channel.specs.Channel.{
   withCompare,
   withReload,
   withPrescaler,
-  withPhase,
   withFlags,
 }
 use Rattle.channel.specs.Prescaler.{advanced}

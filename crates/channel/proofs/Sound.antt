@@ -1,9 +1,9 @@
 -- Soundness of a channel, and that every operation keeps it. Assumes nothing.
-use Prim.Native.Nat.{ℕ, _+_, _-_, _%_, _^_, _≤_, _<_}
+use Prim.Native.Nat.{ℕ, _+_, _-_, _<_}
 use native.Mathlib.Nat.{mod-lt}
 use native.Mathlib.Omega.{arith}
 use mathlib.Core.Path.{_≡_, refl}
-use mathlib.Core.Bool.{Bool, true, false, _&&_}
+use mathlib.Core.Bool.{Bool, true}
 use lib.Dec.{ltb, eqb}
 use borrow.Author.Tests.{ltb-true, lt-ltb}
 use Rattle.wide.specs.Bits.{bit}
@@ -74,7 +74,8 @@ module _ (selected : Bool) (c : ℕ) (h : HardwareTimer) (f : TimerFits h) where
 -- ---- registers
 
 -- pending and armed have no part in soundness
-pub flags-sound : (h : HardwareTimer) (pending armed : Bool) → soundTimer h ≡ true → soundTimer (withFlags pending armed h) ≡ true
+pub flags-sound : (h : HardwareTimer) (pending armed : Bool) → soundTimer h ≡ true →
+    soundTimer (withFlags pending armed h) ≡ true
 unfolding soundTimer
 flags-sound h pending armed e = e
 

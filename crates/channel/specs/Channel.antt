@@ -1,5 +1,5 @@
--- A channel's fields, its control bits, soundness and part of the line, as document 01 has them. The setters are what the
--- other rules are written with.
+-- A channel's fields, its control bits, soundness and part of the line, as document 01 has them. The setters are what
+-- the other rules are written with.
 use Prim.Native.Nat.{ℕ, _+_, _*_, _/_, _%_, _^_, _<_}
 use mathlib.Core.Bool.{Bool, true, false, _&&_}
 use lib.Dec.{ltb}

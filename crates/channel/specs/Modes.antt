@@ -1,6 +1,6 @@
 -- Document 01, 'Ticks reach the channel'.
 use Prim.Native.Nat.{ℕ, zero, suc, _+_, _-_, _*_, _/_, _%_, _^_, min}
-use mathlib.Core.Bool.{Bool, true, false, cond, _&&_}
+use mathlib.Core.Bool.{true, false, cond, _&&_}
 use lib.Dec.{leb, ltb, eqb}
 use Rattle.wide.specs.Number.{largest}
 use Rattle.channel.specs.declared.HardwareTimer.{HardwareTimer}

@@ -1,7 +1,8 @@
--- A channel's part of document 01, 'Registers and latches': 'offsets, read values and write effects as in `read_register`
--- and `write_byte`'. A register is given by its offset in the channel's block; it has four bytes, most significant first.
+-- A channel's part of document 01, 'Registers and latches': 'offsets, read values and write effects as in
+-- `read_register` and `write_byte`'. A register is given by its offset in the channel's block; it has four bytes,
+-- most significant first.
 use Prim.Native.Nat.{ℕ, _+_, _-_, _*_, _%_}
-use mathlib.Core.Bool.{Bool, true, false, cond}
+use mathlib.Core.Bool.{true, false, cond}
 use lib.Dec.{eqb}
 use Rattle.wide.specs.Bits.{bit, flagOf}
 use Rattle.wide.specs.Words.{lowWord, highWord}
@@ -80,8 +81,8 @@ compareWritten n h = withFlags (h .pending) true (withCompare n h)
 abbrev pub prescalerWritten : ℕ → HardwareTimer → HardwareTimer
 prescalerWritten n h = withPhase 0 (withPrescaler n h)
 
--- byte i of a register, 0 the most significant, has 3 − i bytes below it; in the high word of a field of eight bytes, 7 − i.
--- A byte written elsewhere does nothing.
+-- byte i of a register, 0 the most significant, has 3 − i bytes below it; in the high word of a field of eight bytes,
+-- 7 − i. A byte written elsewhere does nothing.
 unfoldable pub byteWritten : ℕ → ℕ → ℕ → HardwareTimer → HardwareTimer
 byteWritten register i v h =
     cond (eqb register controlAt) (controlWritten (withByte (3 - i) v (h .control)) h)

@@ -24,7 +24,6 @@ use Rattle.wide.specs.Number.{largest}
 use Rattle.clock.specs.declared.HostTime.{HostTime}
 use Rattle.clock.specs.declared.Clock.{Clock}
 use Rattle.clock.specs.Clock.{
-  enabled,
   fromHost,
   ownTime,
   timeSeconds,

@@ -1,6 +1,5 @@
 // Bytes written to the clock's seconds, alarm and interrupt registers, and the words that registers read as.
 ghost use mathlib.Core.Path.{_≡_};
-ghost use mathlib.Core.Bool.{cond};
 ghost use Prim.Native.Nat.{_<_};
 ghost use Rattle.clock.specs.Clock.{clockRate};
 ghost use Rattle.clock.specs.Registers.{marked, shadowByte, offsetFor, commitSeconds};

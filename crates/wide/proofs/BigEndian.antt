@@ -1,6 +1,6 @@
 -- Laws of big-endian fields and of runs of stores. Assumes nothing.
 use mathlib.Core.Path.{_≡_, refl, sym, ap, _∙_, subst⁻¹}
-use mathlib.Core.List.{List, [], _∷_, _++_}
+use mathlib.Core.List.{List}
 use Prim.Native.Nat.{ℕ, zero, suc, _+_, _-_, _*_, _/_, _%_, _≤_, _<_, _^_}
 use native.Mathlib.Numerals.{add-one}
 use native.Mathlib.Omega.{arith}
@@ -66,10 +66,12 @@ module _ (j k v n : ℕ) (byte : v < 256) (room : n < 256 ^ j * 256 * 256 ^ k) w
 pub with-byte-fits : (w k v n : ℕ) → k < w → v < 256 → n < 256 ^ w → withByte k v n < 256 ^ w
 unfolding withByte
 with-byte-fits w k v n h b r =
-    let e : 256 ^ (w - 1 - k) * 256 * 256 ^ k ≡ 256 ^ w = bytes-around (w - 1 - k) k ∙ ap (λ (m : ℕ). 256 ^ m) (omega arith) in
+    let e : 256 ^ (w - 1 - k) * 256 * 256 ^ k ≡ 256 ^ w = bytes-around (w - 1 - k) k
+    ∙ ap (λ (m : ℕ). 256 ^ m) (omega arith) in
     rw e at (byte-fits (w - 1 - k) k v n b (subst⁻¹ (λ (m : ℕ). n < m) e r))
 
 -- the code's sum, u being the unit
-pub stored-fits : (u k v n : ℕ) → u ≡ 256 ^ k → k < 8 → v < 256 → n < 2 ^ 64 → (n / u / 256 * 256 + v) * u + n % u < 2 ^ 64
+pub stored-fits : (u k v n : ℕ) → u ≡ 256 ^ k → k < 8 → v < 256 → n < 2 ^ 64 →
+    (n / u / 256 * 256 + v) * u + n % u < 2 ^ 64
 unfolding withByte
 stored-fits u k v n e h b r = rw e (with-byte-fits 8 k v n h b r)

@@ -2,7 +2,15 @@
 use Prim.Native.Nat.{ℕ, _+_, _-_, _*_, _/_, _%_, _^_, _≤_, _<_}
 use mathlib.Core.Path.{_≡_, sym, ap, _∙_, subst⁻¹}
 use lib.Pow.{pow-pos}
-use native.Mathlib.Nat.{mul-le-mul, mul-le-mul-left, mul-lt-mul-of-pos-right, lt-of-le-of-lt, le-of-lt, le-add-right, div-add-mod'}
+use native.Mathlib.Nat.{
+  mul-le-mul,
+  mul-le-mul-left,
+  mul-lt-mul-of-pos-right,
+  lt-of-le-of-lt,
+  le-of-lt,
+  le-add-right,
+  div-add-mod',
+}
 use native.Mathlib.Omega.{arith}
 use Rattle.wide.specs.Number.{valueOf}
 use Rattle.wide.proofs.TwoWords.{high-fits}

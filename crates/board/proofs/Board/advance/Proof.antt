@@ -16,7 +16,11 @@ line-requires c κs = search needs
 
 returns : tie.Need-returns
 unfolding advanceCall
-returns c = rw (sym (c .before .before .before .sound .ensures .0) ∙ c .before .before .if1 .taken, c .line .ensures, c .before .advanced .ensures)
+returns c = rw (
+  sym (c .before .before .before .sound .ensures .0) ∙ c .before .before .if1 .taken,
+  c .line .ensures,
+  c .before .advanced .ensures,
+)
 
 returns-2 : tie.Need-returns-2
 unfolding advanceCall

@@ -37,7 +37,8 @@ returns-2 c =
     let s = c .before .before .before .before .before .before in
     deadline-some (s .before .args .self) (c .before .before .exact .given .0 .0) (s .sound .ensures .1)
     (sym (s .sound .ensures .0) ∙ c .before .before .before .before .before .if1 .taken)
-    (sym (c .before .before .before .before .exact-deadline .ensures) ∙ ap numberOf (c .before .before .exact .given .1))
+    (sym (c .before .before .before .before .exact-deadline .ensures)
+    ∙ ap numberOf (c .before .before .exact .given .1))
     (c .capped .result) (c .capped .ensures)
 
 from-word-requires-2 : tie.Need-from-word-requires-2

@@ -18,7 +18,12 @@ answered-requires c κs = search needs
 
 returns : tie.Need-returns
 unfolding hostTimeCall
-returns c = rw (c .answered .ensures, c .before .hosted .ensures, c .before .before .refused .ensures, c .before .before .before .host-time-refusal .ensures)
+returns c = rw (
+  c .answered .ensures,
+  c .before .hosted .ensures,
+  c .before .before .refused .ensures,
+  c .before .before .before .host-time-refusal .ensures,
+)
 
 pub host-time-spec : {M : Type 1} → statement M
 host-time-spec =

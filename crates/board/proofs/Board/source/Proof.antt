@@ -18,7 +18,12 @@ answered-requires c κs = search needs
 
 returns : tie.Need-returns
 unfolding sourceCall
-returns c = rw (c .answered .ensures, c .before .sourced .ensures, c .before .before .refused .ensures, c .before .before .before .source-refusal .ensures)
+returns c = rw (
+  c .answered .ensures,
+  c .before .sourced .ensures,
+  c .before .before .refused .ensures,
+  c .before .before .before .source-refusal .ensures,
+)
 
 pub source-spec : {M : Type 1} → statement M
 source-spec =

@@ -1,6 +1,6 @@
 -- `channels::advance_all` meets its contract. The loop has advanced the channels below i. Assumes nothing.
 use Prim.Native.Nat.{_-_, _≤_}
-use mathlib.Core.Path.{_≡_, refl, _∙_, sym, ap}
+use mathlib.Core.Path.{_≡_, refl, _∙_, ap}
 use borrow.Author.Needs.{needs}
 use native.Mathlib.Omega.{arith}
 use lib.ListN.{length, getD}
@@ -13,7 +13,8 @@ use Rattle.board.proofs.channels.advance_all.Statement.{statement}
 use Rattle.board.proofs.channels.advance_all.Tie as tie
 
 abbrev Inv-loop : tie.InvT-loop
-Inv-loop timer-enable cycles out₀ i₀ out i = (i ≤ 4) × (length out ≡ 4) × (out ≡ mapTo (λ k h. advanced (bit k timer-enable) (cycles .0) h) i 0 out₀)
+Inv-loop timer-enable cycles out₀ i₀ out i =
+    (i ≤ 4) × (length out ≡ 4) × (out ≡ mapTo (λ k h. advanced (bit k timer-enable) (cycles .0) h) i 0 out₀)
 
 abbrev μ-loop : tie.MeasureT-loop
 μ-loop timer-enable cycles out₀ i₀ out i = 4 - i
@@ -38,7 +39,8 @@ advance-cycles-requires : tie.Need-advance-cycles-requires Inv-loop μ-loop
 advance-cycles-requires c κs =
     let a = c .before .before .before .before in
     let l = c .before .before .before .loop in
-    phase-next (λ k h. advanced (bit k (a .args .timer-enable)) (a .args .cycles .0) h) (a .args .timers) (l .out) (l .i)
+    phase-next (λ k h. advanced (bit k (a .args .timer-enable)) (a .args .cycles .0) h) (a .args .timers) (l .out)
+    (l .i)
     (search needs) (a .pre) (l .inv .2)
 
 mul-out : tie.Need-mul-out Inv-loop μ-loop
@@ -61,7 +63,8 @@ loop-again c =
       search needs,
       map-goes (λ k h. advanced (bit k (a .timer-enable)) (a .cycles .0) h) freshTimer (l .i) (a .timers) (l .out)
           (c .advance-cycles .result) (search needs) (l .inv .2)
-          (c .advance-cycles .ensures ∙ ap (λ v. advanced v (a .cycles .0) (getD (l .out) (l .i) freshTimer)) (c .before .selected .ensures)),
+          (c .advance-cycles .ensures
+          ∙ ap (λ v. advanced v (a .cycles .0) (getD (l .out) (l .i) freshTimer)) (c .before .selected .ensures)),
     )
 
 returns : tie.Need-returns Inv-loop μ-loop

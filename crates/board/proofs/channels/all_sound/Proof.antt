@@ -1,9 +1,9 @@
 -- `channels::all_sound` meets its contract. The loop has joined the channels from i on. Assumes nothing.
 use Prim.Native.Nat.{_-_, _≤_}
-use mathlib.Core.Path.{_≡_, _∙_, sym, ap}
+use mathlib.Core.Path.{_≡_, _∙_}
 use borrow.Author.Needs.{needs}
 use native.Mathlib.Omega.{arith}
-use lib.ListN.{length, drop}
+use lib.ListN.{drop}
 use Rattle.channel.specs.Channel.{freshTimer}
 use mathlib.Core.Bool.{true, _&&_}
 use Rattle.channel.specs.Channel.{TimerFits, soundTimer}
@@ -13,7 +13,8 @@ use Rattle.board.proofs.channels.all_sound.Statement.{statement}
 use Rattle.board.proofs.channels.all_sound.Tie as tie
 
 abbrev Inv-loop : tie.InvT-loop
-Inv-loop timers all₀ i₀ all i = (i ≤ 4) × (all ≡ foldFrom (λ _ h. soundTimer h) _&&_ true i (drop i timers)) × All TimerFits (drop i timers)
+Inv-loop timers all₀ i₀ all i =
+    (i ≤ 4) × (all ≡ foldFrom (λ _ h. soundTimer h) _&&_ true i (drop i timers)) × All TimerFits (drop i timers)
 
 abbrev μ-loop : tie.MeasureT-loop
 μ-loop timers all₀ i₀ all i = i

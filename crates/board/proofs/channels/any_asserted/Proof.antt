@@ -1,9 +1,9 @@
 -- `channels::any_asserted` meets its contract. The loop has joined the channels from i on. Assumes nothing.
 use Prim.Native.Nat.{_-_, _≤_}
-use mathlib.Core.Path.{_≡_, _∙_, sym, ap}
+use mathlib.Core.Path.{_≡_, _∙_}
 use borrow.Author.Needs.{needs}
 use native.Mathlib.Omega.{arith}
-use lib.ListN.{length, drop}
+use lib.ListN.{drop}
 use Rattle.channel.specs.Channel.{freshTimer}
 use mathlib.Core.Bool.{false, _||_}
 use Rattle.channel.specs.Channel.{lineOf}
@@ -44,8 +44,10 @@ loop-again c =
     let l = c .before .before .before .before .loop in (
       search needs,
       c .either .ensures
-          ∙ fold-goes (λ _ h. lineOf h) _||_ false (c .before .before .before .before .before .args .t1) freshTimer (l .i)
-          (c .before .asserted .result) (l .any) (search needs) (search needs) (c .before .asserted .ensures) (l .inv .1),
+          ∙ fold-goes (λ _ h. lineOf h) _||_ false (c .before .before .before .before .before .args .t1) freshTimer
+          (l .i)
+          (c .before .asserted .result) (l .any) (search needs) (search needs) (c .before .asserted .ensures)
+          (l .inv .1),
     )
 
 returns : tie.Need-returns Inv-loop μ-loop

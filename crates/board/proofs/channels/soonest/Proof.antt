@@ -1,9 +1,9 @@
 -- `channels::soonest` meets its contract. The loop has joined the channels from i on. Assumes nothing.
 use Prim.Native.Nat.{_-_, _≤_}
-use mathlib.Core.Path.{_≡_, _∙_, sym, ap}
+use mathlib.Core.Path.{_≡_, _∙_, ap}
 use borrow.Author.Needs.{needs}
 use native.Mathlib.Omega.{arith}
-use lib.ListN.{length, drop}
+use lib.ListN.{drop}
 use Rattle.channel.specs.Channel.{freshTimer}
 use lib.ListN.{getD}
 use mathlib.Core.Option.{none}
@@ -17,7 +17,8 @@ use Rattle.board.proofs.channels.soonest.Statement.{statement}
 use Rattle.board.proofs.channels.soonest.Tie as tie
 
 abbrev Inv-loop : tie.InvT-loop
-Inv-loop timer-enable timers soonest₀ i₀ soonest i = (i ≤ 4) × (numberOf soonest ≡ foldFrom (λ k h. deadlineOf (bit k timer-enable) h) sooner none i (drop i timers))
+Inv-loop timer-enable timers soonest₀ i₀ soonest i =
+    (i ≤ 4) × (numberOf soonest ≡ foldFrom (λ k h. deadlineOf (bit k timer-enable) h) sooner none i (drop i timers))
 
 abbrev μ-loop : tie.MeasureT-loop
 μ-loop timer-enable timers soonest₀ i₀ soonest i = i
@@ -63,7 +64,9 @@ loop-again c =
       c .sooner .ensures
           ∙ fold-goes (λ k h. deadlineOf (bit k (a .timer-enable)) h) sooner none (a .t1) freshTimer (l .i)
           (numberOf (c .before .cycles-until-match .result)) (numberOf (l .soonest)) (search needs) (search needs)
-          (c .before .cycles-until-match .ensures ∙ ap (λ v. deadlineOf v (getD (a .t1) (l .i - 1) freshTimer)) (c .before .before .selected .ensures)) (l .inv .1),
+          (c .before .cycles-until-match .ensures
+          ∙ ap (λ v. deadlineOf v (getD (a .t1) (l .i - 1) freshTimer)) (c .before .before .selected .ensures))
+          (l .inv .1),
     )
 
 returns : tie.Need-returns Inv-loop μ-loop

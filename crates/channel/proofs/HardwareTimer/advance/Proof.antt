@@ -31,7 +31,8 @@ returns-3 c = simp (ne-eqb _ _ (c .before .before .if1 .left), c .before .match 
 
 returns-4 : tie.Need-returns-4
 unfolding ticked tickedIn
-returns-4 c = simp (ne-eqb _ _ (c .before .before .if1 .left), c .before .match .keys3) (c .advance-free-running .ensures)
+returns-4 c = simp (ne-eqb _ _ (c .before .before .if1 .left), c .before .match .keys3)
+    (c .advance-free-running .ensures)
 
 returns-5 : tie.Need-returns-5
 unfolding ticked tickedIn

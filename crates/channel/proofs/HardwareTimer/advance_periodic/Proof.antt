@@ -14,7 +14,8 @@ matched-requires c κs = search needs
 
 returns : tie.Need-returns
 unfolding periodic
-returns c = c .matched .ensures ∙ ap (λ n. matched (withCounter n (c .before .before .args .self))) (c .before .saturating-add .ensures)
+returns c = c .matched .ensures
+    ∙ ap (λ n. matched (withCounter n (c .before .before .args .self))) (c .before .saturating-add .ensures)
 
 pub advance-periodic-spec : {M : Type 1} → statement M
 advance-periodic-spec = tie.close (tie.spec saturating-add-requires matched-requires returns)

@@ -1,6 +1,5 @@
 -- `HardwareTimer::cycles_of` meets its contract. Assumes nothing.
 use Prim.Native.Nat.{_+_}
-use mathlib.Core.Path.{ap, _∙_}
 use Rattle.channel.proofs.Prescaling.{cycles-fit}
 use borrow.Author.Needs.{needs}
 use Rattle.channel.proofs.HardwareTimer.cycles_of.Statement.{statement}

@@ -35,7 +35,8 @@ returns-2 : tie.Need-returns-2
 unfolding deadlineOf
 returns-2 c =
     rw (
-      sym (c .before .before .before .before .before .before .waits .ensures) ∙ c .before .before .before .before .before .if1 .taken,
+      sym (c .before .before .before .before .before .before .waits .ensures)
+          ∙ c .before .before .before .before .before .if1 .taken,
       ← c .before .before .before .before .ticks-to-go .ensures,
       c .before .before .n .given .1,
       add-sub-cancel,

@@ -10,7 +10,8 @@ wrapping-sub-u64-requires c κs = search needs
 returns : tie.Need-returns
 returns c =
     let a = c .before .before .args in
-    far-is (a .self .counter) (a .self .compare) (search needs) (search needs) (a .t) (c .before .wrapping-sub-u64 .result)
+    far-is (a .self .counter) (a .self .compare) (search needs) (search needs) (a .t)
+    (c .before .wrapping-sub-u64 .result)
     (c .if1 .taken) (c .before .wrapping-sub-u64 .ensures) (search needs)
 
 returns-2 : tie.Need-returns-2

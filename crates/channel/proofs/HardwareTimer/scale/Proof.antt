@@ -35,7 +35,10 @@ div-t9 c = search needs
 add-t14 : tie.Need-add-t14
 add-t14 c =
     let a = c .before .args in
-    record { fits = later-fits (a .self .prescaler + 1) (a .self .phase) (a .cycles .0) (omega arith) (c .if1 .left) (omega arith) }
+    record {
+      fits = later-fits (a .self .prescaler + 1) (a .self .phase) (a .cycles .0) (omega arith) (c .if1 .left)
+          (omega arith);
+    }
 
 rem-t16 : tie.Need-rem-t16
 rem-t16 c = search needs

@@ -1,5 +1,4 @@
 -- `HardwareTimer::waits` meets its contract. Assumes nothing.
-use mathlib.Core.Path.{_∙_, ap}
 use borrow.Author.Needs.{needs}
 use Rattle.channel.proofs.HardwareTimer.waits.Statement.{statement}
 use Rattle.channel.proofs.HardwareTimer.waits.Tie as tie

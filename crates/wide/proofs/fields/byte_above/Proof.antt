@@ -1,7 +1,4 @@
 -- `fields::byte_above` meets its contract. Assumes nothing.
-use Prim.Native.Nat.{ℕ, _/_, _%_}
-use mathlib.Core.Path.{ap}
-use native.Mathlib.Omega.{arith}
 use borrow.Author.Needs.{needs}
 use Rattle.wide.proofs.BigEndian.{unit-pos}
 use Rattle.wide.proofs.fields.byte_above.Statement.{statement}

@@ -1,10 +1,8 @@
 -- `fields::get` meets its contract.
 use borrow.Author.Needs.{needs}
-use mathlib.Core.Path.{_≡_, refl, sym, ap, _∙_}
-use Prim.Native.Nat.{ℕ, _≤_, _+_, _*_, _<_, _^_, _-_}
+use mathlib.Core.Path.{_≡_, refl}
+use Prim.Native.Nat.{_≤_, _<_, _^_, _-_}
 use native.Mathlib.Omega.{arith}
-use native.Mathlib.Numerals.{add-one}
-use lib.ListN.{length}
 use Rattle.wide.specs.Fields.{beAt}
 use Rattle.wide.proofs.BigEndian.{be-at-more, room-64, room-more}
 use Rattle.wide.proofs.fields.get.Statement.{statement}
@@ -42,7 +40,17 @@ loop-less : tie.Need-loop-less Inv-loop μ-loop
 loop-less c = omega arith
 
 loop-again : tie.Need-loop-again Inv-loop μ-loop
-loop-again c = (omega arith, (omega (arith, room-more (c .before .before .before .loop .i)), omega (arith, be-at-more (c .before .before .before .before .before .args .s .now) (c .before .before .before .before .before .args .at) (c .before .before .before .loop .i))))
+loop-again c = (
+  omega arith,
+  (
+    omega (arith, room-more (c .before .before .before .loop .i)),
+    omega (
+      arith,
+      be-at-more (c .before .before .before .before .before .args .s .now)
+          (c .before .before .before .before .before .args .at) (c .before .before .before .loop .i),
+    ),
+  ),
+)
 
 returns : tie.Need-returns Inv-loop μ-loop
 returns c =

@@ -1,5 +1,4 @@
 -- `fields::with_byte` meets its contract. Assumes nothing.
-use Prim.Native.Nat.{_/_}
 use native.Mathlib.Nat.{div-le-self, le-add-right, lt-of-le-of-lt}
 use native.Mathlib.Omega.{arith}
 use borrow.Author.Needs.{needs}

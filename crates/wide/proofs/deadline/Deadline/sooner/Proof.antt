@@ -1,5 +1,5 @@
 -- `deadline::Deadline::sooner` meets its contract. Assumes nothing.
-use mathlib.Core.Path.{sym, ap, _∙_}
+use mathlib.Core.Path.{ap}
 use mathlib.Core.Option.{some}
 use borrow.Author.Needs.{needs}
 use Rattle.wide.proofs.deadline.Deadline.sooner.Statement.{statement}
