@@ -1,12 +1,29 @@
 -- Laws of big-endian fields and of runs of stores. Assumes nothing.
-use mathlib.Core.Path.{_≡_, refl, sym, ap, _∙_, subst⁻¹}
-use mathlib.Core.List.{List}
+use mathlib.Core.Path.{_≡_, refl, sym, ap, ap₂, _∙_, subst⁻¹}
+use mathlib.Core.List.{List, [], _∷_, _++_}
 use Prim.Native.Nat.{ℕ, zero, suc, _+_, _-_, _*_, _/_, _%_, _≤_, _<_, _^_}
 use native.Mathlib.Numerals.{add-one}
 use native.Mathlib.Omega.{arith}
-use native.Mathlib.Nat.{pow-suc, mul-suc, one-mul, pow-le-pow-right, mod-eq-of-lt, mod-lt, div-lt-iff-lt-mul}
-use lib.Arith.{digits-lt}
-use lib.ListN.{length, getD}
+use native.Mathlib.Nat.{
+  pow-suc,
+  mul-suc,
+  one-mul,
+  pow-le-pow-right,
+  mod-eq-of-lt,
+  mod-lt,
+  div-lt-iff-lt-mul,
+  add-zero,
+  zero-add,
+  add-suc,
+  suc-add,
+  add-assoc,
+  mul-comm,
+  mul-add-div,
+  div-div-eq-div-mul,
+}
+use lib.Arith.{digits-lt, digits-div}
+use lib.ListN.{length, getD, set}
+use lib.Seq.{sets}
 use lib.Pow.{pow-pos, pow-add}
 use Rattle.wide.specs.Fields.{beAt, be, withByte}
 
@@ -75,3 +92,60 @@ pub stored-fits : (u k v n : ℕ) → u ≡ 256 ^ k → k < 8 → v < 256 → n 
     (n / u / 256 * 256 + v) * u + n % u < 2 ^ 64
 unfolding withByte
 stored-fits u k v n e h b r = rw e (with-byte-fits 8 k v n h b r)
+
+-- ---- a field of two parts
+
+-- m bytes, and n bytes behind them
+pub be-at-parts : (s : List ℕ) (at m n : ℕ) → beAt s at (m + n) ≡ beAt s at m * 256 ^ n + beAt s (at + m) n
+unfolding beAt
+be-at-parts s at m zero = omega (arith, ap (beAt s at) (add-zero m))
+be-at-parts s at m (suc n) =
+    rw (add-suc, be-at-parts s at m n, pow-suc)
+    (omega (arith, ap (λ (i : ℕ). getD s i 0) (sym (add-assoc at m n))))
+
+pub be-parts : (m n v : ℕ) → be (m + n) v ≡ be m (v / 256 ^ n) ++ be n v
+unfolding be
+be-parts zero n v = rw zero-add
+be-parts (suc m) n v =
+    rw suc-add
+    (ap₂ _∷_
+    (ap (λ (u : ℕ). v / u % 256) (pow-add 256 m n ∙ mul-comm (256 ^ m) (256 ^ n))
+    ∙ ap (λ (q : ℕ). q % 256) (sym (div-div-eq-div-mul v (256 ^ n) (256 ^ m))))
+    (be-parts m n v))
+
+-- what is above the n bytes has no part in them
+be-low : (n k h l : ℕ) → be n (h * 256 ^ (n + k) + l) ≡ be n l
+unfolding be
+be-low zero k h l = refl
+be-low (suc n) k h l =
+    ap₂ _∷_ (ap (λ (v : ℕ). v / 256 ^ n % 256) above ∙ ap (λ (q : ℕ). q % 256) (mul-add-div (unit-pos n) a l) ∙ last)
+    (ap (λ (e : ℕ). be n (h * 256 ^ e + l)) (suc-add n k ∙ sym (add-suc n k)) ∙ be-low n (suc k) h l)
+  where
+    a : ℕ
+    a = h * 256 ^ k * 256
+
+    above : h * 256 ^ (suc n + k) + l ≡ 256 ^ n * a + l
+    above = rw (suc-add, pow-suc, pow-add) (omega arith)
+
+    last : (a + l / 256 ^ n) % 256 ≡ l / 256 ^ n % 256
+    last = omega arith
+
+-- sixteen bytes of two words
+pub be-two-words : (h l : ℕ) → l < 2 ^ 64 → be 16 (h * 2 ^ 64 + l) ≡ be 8 h ++ be 8 l
+be-two-words h l p =
+    be-parts 8 8 (h * 2 ^ 64 + l)
+    ∙ ap₂ _++_ (ap (be 8) (digits-div h p)) (be-low 8 0 h l)
+
+-- a run of stores, and another right behind it, are one run
+pub sets-append : {A : Type 0} (l : List A) (i : ℕ) (xs ys : List A) →
+    sets (sets l i xs) (i + length xs) ys ≡ sets l i (xs ++ ys)
+sets-append {A} l i [] ys = rw add-zero
+sets-append {A} l i (x ∷ xs) ys = rw (add-suc, ← suc-add) (sets-append (set l i x) (suc i) xs ys)
+
+-- sixteen bytes are stored as two words
+pub sets-two-words : (s : List ℕ) (at h l : ℕ) → l < 2 ^ 64 →
+    sets (sets s at (be 8 h)) (at + 8) (be 8 l) ≡ sets s at (be 16 (h * 2 ^ 64 + l))
+sets-two-words s at h l p =
+    ap (λ (n : ℕ). sets (sets s at (be 8 h)) (at + n) (be 8 l)) (sym (length-be 8 h))
+    ∙ sets-append s at (be 8 h) (be 8 l)
+    ∙ ap (sets s at) (sym (be-two-words h l p))

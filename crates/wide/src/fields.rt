@@ -1,9 +1,11 @@
-// Big-endian fields of one to eight bytes, read from a slice and written into one.
+// Big-endian fields of one to eight bytes, and of sixteen, read from a slice and written into one.
 ghost use mathlib.Core.Path.{_≡_};
 ghost use Prim.Native.Nat.{_+_, _≤_, _<_, _^_, _/_, _%_};
 ghost use lib.ListN.{length};
 ghost use lib.Seq.{sets};
+ghost use Rattle.wide.specs.Number.{valueOf};
 ghost use Rattle.wide.specs.Fields.{beAt, be, withByte};
+use crate::number::Wide;
 
 fn widened(x: u8) -> u64
     ensures { λ r. ⌜ (r ≡ x) × (r < 256) ⌝ }
@@ -62,4 +64,23 @@ pub fn with_byte(value: u64, n: usize, byte: u8) -> u64
 {
     let u = unit(n);
     (value / u / 256 * 256 + widened(byte)) * u + value % u
+}
+
+// A field of sixteen bytes is two of eight.
+pub fn get_wide(s: &[u8], at: usize) -> Wide
+    requires { ⌜ at + 16 ≤ length (now s) ⌝ }
+    ensures { λ r. ⌜ valueOf r ≡ beAt (now (s .entry)) at 16 ⌝ }
+{
+    Wide {
+        high: get(s, at, 8),
+        low: get(s, at + 8, 8),
+    }
+}
+
+pub fn put_wide(buf: &mut [u8], at: usize, value: Wide)
+    requires { ⌜ at + 16 ≤ length (now buf) ⌝ }
+    ensures { λ _. ⌜ now (buf .exit) ≡ sets (now (buf .entry)) at (be 16 (valueOf value)) ⌝ }
+{
+    put(buf, at, value.high, 8);
+    put(buf, at + 8, value.low, 8);
 }
