@@ -41,7 +41,7 @@ impl Board {
     // Cycles of a second.
     pub const RATE: u64 = Clock::RATE;
 
-    // The bits of timer enable: one for each channel.
+    // Timer enable has a bit for each channel, and so this many values.
     pub const TIMER_ENABLE_VALUES: u8 = 16;
 
     // The controller's source that is set to the line.

@@ -1,0 +1,6 @@
+mod Pending
+mod Ranges
+mod Timing
+mod Latches
+mod Channels
+pub mod Kept

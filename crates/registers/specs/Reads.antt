@@ -1,0 +1,98 @@
+-- Document 01, 'Registers and latches': a read with the latches, as `PeCTimingDevice::read` makes it. A read answers a byte
+-- and the board after it.
+use Prim.Native.Nat.{ℕ}
+use mathlib.Core.Bool.{Bool, cond}
+use lib.Dec.{eqb}
+use Rattle.wide.specs.Words.{lowWord, highWord}
+use Rattle.channel.specs.Registers.{countLowAt}
+use Rattle.clock.specs.Clock.{clockRate, timeSeconds, checkAlarm}
+use Rattle.board.specs.declared.Latch.{Latch}
+use Rattle.board.specs.declared.Latch.the-variants.{Empty, Held}
+use Rattle.board.specs.declared.Board.{Board}
+use Rattle.board.specs.declared.calls.ByteAnswer.{ByteAnswer}
+use Rattle.board.specs.Board.{withClock, heldOf, heldValue, wired}
+use Rattle.registers.specs.Registers.{
+  secondsLowAt,
+  inChannels,
+  within,
+  byteOf,
+  channelOf,
+  placeOf,
+  byteOfWord,
+  channelAt,
+  countLatch,
+  withCountLatch,
+  withClockLatches,
+}
+use Rattle.registers.specs.Words.{liveWord}
+
+-- ---- one byte
+
+-- byte of a word, as the read at an offset answers it; b is the board after the read
+abbrev pub answered : ℕ → ℕ → Board → ByteAnswer
+answered offset word b = record { board = wired b; refusal = 0; byte = byteOfWord (byteOf offset) word }
+
+abbrev pub checked : Board → Board
+checked b = withClock (checkAlarm clockRate (b .clock)) b
+
+-- 'The alarm check precedes a read that no latch serves.'
+unfoldable pub readLive : ℕ → Board → ByteAnswer
+readLive offset b = answered offset (liveWord offset (checked b)) (checked b)
+
+-- 'freed after byte 3'
+abbrev pub freed : ℕ → Latch → Latch
+freed offset l = cond (eqb (byteOf offset) 3) Empty l
+
+-- ---- a count
+
+-- the channel's high count word is latched
+abbrev pub countHeld : ℕ → Board → Board
+countHeld n b = withCountLatch n (Held (highWord (channelAt n b .counter))) b
+
+-- 'freed after byte 3 of the high word. .. Where a latch is empty the live register is read instead.'
+unfoldable pub readCountHigh : ℕ → Board → ByteAnswer
+readCountHigh offset b =
+    cond (heldOf (countLatch (channelOf offset) b))
+    (answered offset (heldValue (countLatch (channelOf offset) b))
+    (withCountLatch (channelOf offset) (freed offset (countLatch (channelOf offset) b)) b))
+    (readLive offset b)
+
+-- 'Reading byte 0 of a count's low word latches only its high word'
+unfoldable pub readChannel : ℕ → Board → ByteAnswer
+readChannel offset b =
+    cond (eqb (placeOf offset) countLowAt) (readLive offset (countHeld (channelOf offset) b))
+    (cond (within 0x0C 0x0F (placeOf offset)) (readCountHigh offset b)
+    (readLive offset b))
+
+-- ---- the clock's seconds
+
+-- 'Byte 0 of clock seconds low latches both words'
+unfoldable pub secondsLatched : ℕ → Board → Board
+secondsLatched offset b =
+    cond (eqb offset secondsLowAt)
+    (withClockLatches (Held (lowWord (timeSeconds clockRate (b .clock)))) (Held (highWord (timeSeconds clockRate (b .clock)))) b)
+    b
+
+-- 'each freed after its own byte 3'
+unfoldable pub readLow : ℕ → Board → ByteAnswer
+readLow offset b =
+    cond (heldOf (b .latches .low))
+    (answered offset (heldValue (b .latches .low))
+    (withClockLatches (freed offset (b .latches .low)) (b .latches .high) b))
+    (readLive offset b)
+
+unfoldable pub readHigh : ℕ → Board → ByteAnswer
+readHigh offset b =
+    cond (heldOf (b .latches .high))
+    (answered offset (heldValue (b .latches .high))
+    (withClockLatches (b .latches .low) (freed offset (b .latches .high)) b))
+    (readLive offset b)
+
+-- ---- every offset
+
+unfoldable pub readAt : ℕ → Board → ByteAnswer
+readAt offset b =
+    cond (within 0x208 0x20B offset) (readLow offset (secondsLatched offset b))
+    (cond (within 0x20C 0x20F offset) (readHigh offset b)
+    (cond (inChannels offset) (readChannel offset b)
+    (readLive offset b)))

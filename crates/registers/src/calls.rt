@@ -1,0 +1,78 @@
+// The direct calls read and write. Each tests soundness first, and a refused call returns the board given.
+ghost use mathlib.Core.Path.{_≡_};
+ghost use mathlib.Core.Bool.{true};
+ghost use Rattle.board.specs.Board.{sound};
+ghost use Rattle.board.specs.Calls.{refusalOf};
+ghost use Rattle.registers.specs.Calls.{addressRefusal, readAccepted, writtenBoard, readCall, writeCall};
+use crate::Registers;
+use crate::reads::read_at;
+use crate::writes::written_at;
+use board::Board;
+use board::calls::ByteAnswer;
+use board::calls::EmptyAnswer;
+
+impl Registers {
+    // The refusal of an address, by document 01's number.
+    pub const ADDRESS_TOO_LARGE: u8 = 6;
+}
+
+// The refusal of an address itself, 0 for none.
+pub fn address_refusal(address: u16) -> u8
+    ensures { λ r. ⌜ r ≡ addressRefusal address ⌝ }
+{
+    if Registers::SIZE <= address {
+        return Registers::ADDRESS_TOO_LARGE;
+    }
+    0
+}
+
+// The call's own refusal, or 1 ahead of it.
+fn refused(board: Board, own: u8) -> u8
+    ensures { λ r. ⌜ r ≡ refusalOf board own ⌝ }
+{
+    if board.sound() {
+        return own;
+    }
+    Board::NOT_SOUND
+}
+
+// What an accepted read answers.
+pub fn read_accepted(board: Board, address: u16) -> ByteAnswer
+    requires { ⌜ sound board ≡ true ⌝ }
+    ensures { λ r. ⌜ r ≡ readAccepted address board ⌝ }
+{
+    read_at(board, address as u32 + Registers::BASE)
+}
+
+// The board after an accepted write.
+pub fn written(board: Board, address: u16, value: u8) -> Board
+    requires { ⌜ sound board ≡ true ⌝ }
+    ensures { λ r. ⌜ r ≡ writtenBoard address value board ⌝ }
+{
+    written_at(board, address as u32 + Registers::BASE, value).wired()
+}
+
+pub fn read(board: Board, address: u16) -> ByteAnswer
+    ensures { λ r. ⌜ r ≡ readCall address board ⌝ }
+{
+    let refusal = refused(board, address_refusal(address));
+    if refusal == 0 {
+        return read_accepted(board, address);
+    }
+    ByteAnswer {
+        board,
+        refusal,
+        byte: 0,
+    }
+}
+
+pub fn write(board: Board, address: u16, value: u8) -> EmptyAnswer
+    ensures { λ r. ⌜ r ≡ writeCall address value board ⌝ }
+{
+    let refusal = refused(board, address_refusal(address));
+    if refusal == 0 {
+        let board = written(board, address, value);
+        return EmptyAnswer { board, refusal: 0 };
+    }
+    EmptyAnswer { board, refusal }
+}
