@@ -223,7 +223,7 @@ impl Board {
     }
 
     // The call's own refusal, or 1 ahead of it.
-    fn refused(self, own: u8) -> u8
+    pub fn refused(self, own: u8) -> u8
         ensures { λ r. ⌜ r ≡ refusalOf self own ⌝ }
     {
         if self.sound() { own } else { Self::NOT_SOUND }

@@ -1,6 +1,6 @@
--- A property of every channel is kept where each is changed by its number, and where one is changed; and a byte written to a
--- channel keeps its words words. Assumes nothing.
-use Prim.Native.Nat.{ℕ, zero, suc, _+_, _-_, _%_, _^_, _<_}
+-- A property of every channel is kept where each is changed by its number, and where one is changed; and a byte
+-- written to a channel keeps its words words. Assumes nothing.
+use Prim.Native.Nat.{ℕ, zero, suc, _-_, _^_, _<_}
 use native.Mathlib.Omega.{arith}
 use mathlib.Core.Path.{_≡_, refl}
 use mathlib.Core.Bool.{Bool, true, false, _&&_}
@@ -59,7 +59,8 @@ all-good k (h ∷ ts) e f =
     let p = and-parts (soundTimer h) (foldFrom (λ _ t. soundTimer t) _&&_ true (suc k) ts) e in
     (record { sound = p .0; fits = f .0 }, all-good (suc k) ts (p .1) (f .1))
 
-pub good-sound : (k : ℕ) (ts : List HardwareTimer) → All GoodTimer ts → foldFrom (λ _ h. soundTimer h) _&&_ true k ts ≡ true
+pub good-sound : (k : ℕ) (ts : List HardwareTimer) → All GoodTimer ts →
+    foldFrom (λ _ h. soundTimer h) _&&_ true k ts ≡ true
 unfolding foldFrom
 good-sound k [] g = refl
 good-sound k (h ∷ ts) g =

@@ -1,5 +1,5 @@
 -- A read and a write keep a sound board sound, and its words words. Assumes nothing.
-use Prim.Native.Nat.{ℕ, _+_, _-_, _%_, _<_}
+use Prim.Native.Nat.{ℕ, _+_, _<_}
 use native.Mathlib.Nat.{mod-lt}
 use native.Mathlib.Omega.{arith}
 use mathlib.Core.Path.{_≡_}
@@ -66,7 +66,7 @@ use Rattle.registers.specs.Reads.{
   readHigh,
   readAt,
 }
-use Rattle.registers.specs.Writes.{clearedBy, acknowledged, timerWritten, clockWritten, writtenAt}
+use Rattle.registers.specs.Writes.{clearedBy, timerWritten, clockWritten, writtenAt}
 use Rattle.registers.specs.Calls.{addressRefusal, readAccepted, writtenBoard, readCall, writeCall}
 use Rattle.registers.proofs.Channels.{
   GoodTimer,
@@ -195,7 +195,8 @@ module _ (v : ℕ) (byte : v < 256) (b : Board) (p : Parts b) where
       (λ _. choose Parts (eqb register timerAckAt && eqb i 3)
       (λ _. record {
         timers =
-            map-all GoodTimer (λ k h. clearedBy (bit k v) h) (λ k h. cleared-good (bit k v) h) 0 (b .timers) (p .timers);
+            map-all GoodTimer (λ k h. clearedBy (bit k v) h) (λ k h. cleared-good (bit k v) h) 0 (b .timers)
+            (p .timers);
         enable = p .enable;
         clock = p .clock;
       })

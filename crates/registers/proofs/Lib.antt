@@ -4,3 +4,4 @@ mod Timing
 mod Latches
 mod Channels
 pub mod Kept
+mod Settings

@@ -36,7 +36,8 @@ accepted-sound b own = accepted (sound b)
     accepted false e = absurd (omega arith)
 
 -- latching the seconds leaves the clock
-pub latched-timed : (offset : ℕ) (b : Board) → Timed clockRate (b .clock) → Timed clockRate (secondsLatched offset b .clock)
+pub latched-timed : (offset : ℕ) (b : Board) → Timed clockRate (b .clock) →
+    Timed clockRate (secondsLatched offset b .clock)
 unfolding secondsLatched
 latched-timed offset b t =
     choose (λ (r : Board). Timed clockRate (r .clock)) (eqb offset secondsLowAt) (λ _. t) (λ _. t)

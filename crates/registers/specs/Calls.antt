@@ -1,6 +1,6 @@
 -- The direct calls read and write: what each answers of a board, refusals in document 01's order.
 use Prim.Native.Nat.{ℕ, _+_}
-use mathlib.Core.Bool.{Bool, cond}
+use mathlib.Core.Bool.{cond}
 use lib.Dec.{leb, eqb}
 use Rattle.board.specs.declared.Board.{Board}
 use Rattle.board.specs.declared.calls.EmptyAnswer.{EmptyAnswer}

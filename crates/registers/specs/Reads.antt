@@ -1,7 +1,7 @@
--- Document 01, 'Registers and latches': a read with the latches, as `PeCTimingDevice::read` makes it. A read answers a byte
--- and the board after it.
+-- Document 01, 'Registers and latches': a read with the latches, as `PeCTimingDevice::read` makes it. A read answers a
+-- byte and the board after it.
 use Prim.Native.Nat.{ℕ}
-use mathlib.Core.Bool.{Bool, cond}
+use mathlib.Core.Bool.{cond}
 use lib.Dec.{eqb}
 use Rattle.wide.specs.Words.{lowWord, highWord}
 use Rattle.channel.specs.Registers.{countLowAt}
@@ -70,7 +70,8 @@ readChannel offset b =
 unfoldable pub secondsLatched : ℕ → Board → Board
 secondsLatched offset b =
     cond (eqb offset secondsLowAt)
-    (withClockLatches (Held (lowWord (timeSeconds clockRate (b .clock)))) (Held (highWord (timeSeconds clockRate (b .clock)))) b)
+    (withClockLatches (Held (lowWord (timeSeconds clockRate (b .clock))))
+    (Held (highWord (timeSeconds clockRate (b .clock)))) b)
     b
 
 -- 'each freed after its own byte 3'

@@ -1,5 +1,5 @@
--- Document 01, 'Registers and latches': where the registers are, 'decoded from the offset by ranges, four bytes each, most
--- significant first', and the board's fields that they change. The offsets are those of `timing.rs`.
+-- Document 01, 'Registers and latches': where the registers are, 'decoded from the offset by ranges, four bytes each,
+-- most significant first', and the board's fields that they change. The offsets are those of `timing.rs`.
 use Prim.Native.Nat.{ℕ, _-_, _*_, _/_, _%_, _^_}
 use mathlib.Core.Bool.{Bool, _&&_}
 use lib.ListN.{getD, set}
@@ -8,7 +8,6 @@ use Rattle.channel.specs.declared.HardwareTimer.{HardwareTimer}
 use Rattle.channel.specs.Channel.{freshTimer}
 use Rattle.board.specs.declared.Latch.{Latch}
 use Rattle.board.specs.declared.Latch.the-variants.{Empty}
-use Rattle.board.specs.declared.CountLatch.{CountLatch}
 use Rattle.board.specs.declared.Latches.{Latches}
 use Rattle.board.specs.declared.Board.{Board}
 use Rattle.board.specs.Board.{withTimers}

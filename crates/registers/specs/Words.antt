@@ -1,7 +1,7 @@
--- Document 01, 'Registers and latches': the words that registers read as, 'as in `read_register`'. Where there is no register
--- the word is 0, and so it is of the two acknowledge registers.
+-- Document 01, 'Registers and latches': the words that registers read as, 'as in `read_register`'. Where there is no
+-- register the word is 0, and so it is of the two acknowledge registers.
 use Prim.Native.Nat.{ℕ, _+_, _*_}
-use mathlib.Core.Bool.{Bool, cond}
+use mathlib.Core.Bool.{cond}
 use mathlib.Core.List.{List}
 use lib.Dec.{eqb}
 use Rattle.wide.specs.Bits.{flagOf}

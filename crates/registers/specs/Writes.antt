@@ -1,5 +1,5 @@
--- Document 01, 'Registers and latches': what a byte written does, 'as in .. `write_byte`'. Elsewhere a byte does nothing. A
--- write has no part in the latches.
+-- Document 01, 'Registers and latches': what a byte written does, 'as in .. `write_byte`'. Elsewhere a byte does
+-- nothing. The latches stay as they are.
 use Prim.Native.Nat.{ℕ, _+_, _%_}
 use mathlib.Core.Bool.{Bool, false, cond, _&&_}
 use mathlib.Core.List.{List}
@@ -44,7 +44,8 @@ clearedBy clear h = cond clear (withFlags false (h .armed) h) h
 abbrev pub acknowledged : ℕ → List HardwareTimer → List HardwareTimer
 acknowledged v = mapFrom (λ k h. clearedBy (bit k v) h) 0
 
--- byte i of a register of the timers. TIMER_ENABLE keeps a bit for each channel; the channels' bits of TIMER_ACK are in byte 3.
+-- byte i of a register of the timers. TIMER_ENABLE keeps a bit for each channel; the channels' bits of TIMER_ACK are
+-- in byte 3.
 unfoldable pub timerWritten : ℕ → ℕ → ℕ → Board → Board
 timerWritten register i v b =
     cond (eqb register timerEnableAt) (withTimerEnable (mergeByte i v (b .«timer_enable») % 16) b)

@@ -1,18 +1,16 @@
-// The board's registers: reads, with the latches of the counts and of the clock's seconds, and writes.
+// The board's registers, as functions on the board: the direct calls read and write. Each tests soundness first, and a
+// refused call returns the board given.
 ghost use mathlib.Core.Path.{_≡_};
-ghost use Prim.Native.Nat.{_<_, _≤_};
-ghost use Rattle.board.specs.Board.{withTimers, withClock};
-ghost use Rattle.registers.specs.Registers.{byteOfWord, channelOf, placeOf, channelAt, withChannel};
-ghost use Rattle.registers.specs.Registers.{withTimerEnable, withCountLatch, withClockLatches};
+ghost use mathlib.Core.Bool.{true};
+ghost use Rattle.board.specs.Board.{sound};
+ghost use Rattle.registers.specs.Calls.{addressRefusal, readAccepted, writtenBoard, readCall, writeCall};
+use crate::reads::read_at;
+use crate::writes::written_at;
 use board::Board;
-use board::CountLatch;
-use board::Latch;
-use board::Latches;
-use channel::ChannelNumber;
-use channel::HardwareTimer;
-use clock::Clock;
+use board::calls::ByteAnswer;
+use board::calls::EmptyAnswer;
 
-pub mod calls;
+mod fields;
 mod reads;
 mod words;
 mod writes;
@@ -46,6 +44,11 @@ impl Registers {
 
     pub const RTC_SECONDS_HI: u32 = 0x20C;
 
+    // The last byte of a register.
+    pub const RTC_SECONDS_LO_LAST: u32 = 0x20B;
+
+    pub const RTC_SECONDS_HI_LAST: u32 = 0x20F;
+
     pub const RTC_SUBSEC: u32 = 0x210;
 
     pub const RTC_ALARM_LO: u32 = 0x214;
@@ -64,95 +67,58 @@ impl Registers {
 
     // From a channel's block to the next.
     pub const TIMER_CHANNEL_STRIDE: u32 = 0x40;
+
+    // The refusal of an address, by document 01's number.
+    pub const ADDRESS_TOO_LARGE: u8 = 6;
 }
 
-// Byte `byte` of a register's word, 0 the most significant.
-fn byte_of_word(word: u32, byte: u32) -> u8
-    requires { ⌜ byte < 4 ⌝ }
-    ensures { λ r. ⌜ r ≡ byteOfWord byte word ⌝ }
+// The refusal of an address itself, 0 for none.
+pub fn address_refusal(address: u16) -> u8
+    ensures { λ r. ⌜ r ≡ addressRefusal address ⌝ }
 {
-    wide::fields::byte_above(word as u64, (3 - byte) as usize)
-}
-
-// The channel whose block has an offset.
-fn channel_of(offset: u32) -> ChannelNumber
-    requires { ⌜ (0x400 ≤ offset) × (offset ≤ 0x4FF) ⌝ }
-    ensures { λ r. ⌜ (r .0 ≡ channelOf offset) × (r .0 < 4) ⌝ }
-{
-    ChannelNumber(
-        ((offset - Registers::TIMER_CHANNEL_BASE) / Registers::TIMER_CHANNEL_STRIDE) as u8,
-    )
-}
-
-// The offset in that block.
-fn place_of(offset: u32) -> u32
-    requires { ⌜ (0x400 ≤ offset) × (offset ≤ 0x4FF) ⌝ }
-    ensures { λ r. ⌜ r ≡ placeOf offset ⌝ }
-{
-    (offset - Registers::TIMER_CHANNEL_BASE) % Registers::TIMER_CHANNEL_STRIDE
-}
-
-// ---- one field of the board
-
-fn channel_at(board: Board, number: ChannelNumber) -> HardwareTimer
-    requires { ⌜ number .0 < 4 ⌝ }
-    ensures { λ r. ⌜ r ≡ channelAt (number .0) board ⌝ }
-{
-    let i = number.0 as usize;
-    board.timers[i]
-}
-
-fn with_channel(mut board: Board, number: ChannelNumber, timer: HardwareTimer) -> Board
-    requires { ⌜ number .0 < 4 ⌝ }
-    ensures { λ r. ⌜ r ≡ withChannel (number .0) timer board ⌝ }
-{
-    let i = number.0 as usize;
-    board.timers[i] = timer;
-    board
-}
-
-fn with_timers(mut board: Board, timers: [HardwareTimer; 4]) -> Board
-    ensures { λ r. ⌜ r ≡ withTimers timers board ⌝ }
-{
-    board.timers = timers;
-    board
-}
-
-fn with_timer_enable(mut board: Board, timer_enable: u8) -> Board
-    ensures { λ r. ⌜ r ≡ withTimerEnable «timer_enable» board ⌝ }
-{
-    board.timer_enable = timer_enable;
-    board
-}
-
-fn with_clock(mut board: Board, clock: Clock) -> Board
-    ensures { λ r. ⌜ r ≡ withClock clock board ⌝ }
-{
-    board.clock = clock;
-    board
-}
-
-fn with_count_latch(board: Board, number: ChannelNumber, latch: Latch) -> Board
-    requires { ⌜ number .0 < 4 ⌝ }
-    ensures { λ r. ⌜ r ≡ withCountLatch (number .0) latch board ⌝ }
-{
-    let i = number.0 as usize;
-    let mut latches = board.latches;
-    latches.counts[i] = CountLatch { high: latch };
-    Board { latches, ..board }
-}
-
-fn with_clock_latches(board: Board, low: Latch, high: Latch) -> Board
-    ensures { λ r. ⌜ r ≡ withClockLatches low high board ⌝ }
-{
-    let latches = board.latches;
-    let made = Latches {
-        low,
-        high,
-        ..latches
-    };
-    Board {
-        latches: made,
-        ..board
+    if Registers::SIZE <= address {
+        return Registers::ADDRESS_TOO_LARGE;
     }
+    0
+}
+
+// What an accepted read answers.
+pub fn read_accepted(board: Board, address: u16) -> ByteAnswer
+    requires { ⌜ sound board ≡ true ⌝ }
+    ensures { λ r. ⌜ r ≡ readAccepted address board ⌝ }
+{
+    read_at(board, address as u32 + Registers::BASE)
+}
+
+// The board after an accepted write.
+pub fn written(board: Board, address: u16, value: u8) -> Board
+    requires { ⌜ sound board ≡ true ⌝ }
+    ensures { λ r. ⌜ r ≡ writtenBoard address value board ⌝ }
+{
+    written_at(board, address as u32 + Registers::BASE, value).wired()
+}
+
+pub fn read(board: Board, address: u16) -> ByteAnswer
+    ensures { λ r. ⌜ r ≡ readCall address board ⌝ }
+{
+    let refusal = board.refused(address_refusal(address));
+    if refusal == 0 {
+        return read_accepted(board, address);
+    }
+    ByteAnswer {
+        board,
+        refusal,
+        byte: 0,
+    }
+}
+
+pub fn write(board: Board, address: u16, value: u8) -> EmptyAnswer
+    ensures { λ r. ⌜ r ≡ writeCall address value board ⌝ }
+{
+    let refusal = board.refused(address_refusal(address));
+    if refusal == 0 {
+        let board = written(board, address, value);
+        return EmptyAnswer { board, refusal: 0 };
+    }
+    EmptyAnswer { board, refusal }
 }

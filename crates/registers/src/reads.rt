@@ -6,13 +6,13 @@ ghost use Rattle.clock.specs.Sound.{Timed};
 ghost use Rattle.registers.specs.Reads.{answered, readLive, freed, readCountHigh, readChannel, secondsLatched};
 ghost use Rattle.registers.specs.Reads.{readLow, readHigh, readAt};
 use crate::Registers;
-use crate::byte_of_word;
-use crate::channel_at;
-use crate::channel_of;
-use crate::place_of;
-use crate::with_clock;
-use crate::with_clock_latches;
-use crate::with_count_latch;
+use crate::fields::byte_of_word;
+use crate::fields::channel_at;
+use crate::fields::channel_of;
+use crate::fields::place_of;
+use crate::fields::with_clock;
+use crate::fields::with_clock_latches;
+use crate::fields::with_count_latch;
 use crate::words::live_word;
 use board::Board;
 use board::Latch;
@@ -85,10 +85,8 @@ fn read_channel(board: Board, offset: u32) -> ByteAnswer
         let held = with_count_latch(board, number, Latch::Held(high(timer.counter)));
         return read_live(held, offset);
     }
-    if HardwareTimer::COUNT_HI <= place {
-        if place < HardwareTimer::COMPARE_LO {
-            return read_count_high(board, offset);
-        }
+    if HardwareTimer::COUNT_HI <= place && place < HardwareTimer::COMPARE_LO {
+        return read_count_high(board, offset);
     }
     read_live(board, offset)
 }
@@ -146,8 +144,11 @@ pub fn read_at(board: Board, offset: u32) -> ByteAnswer
     ensures { λ r. ⌜ r ≡ readAt offset board ⌝ }
 {
     match offset {
-        0x208..=0x20B => read_low(seconds_latched(board, offset), offset),
-        0x20C..=0x20F => read_high(board, offset),
+        Registers::RTC_SECONDS_LO..=Registers::RTC_SECONDS_LO_LAST => read_low(
+            seconds_latched(board, offset),
+            offset,
+        ),
+        Registers::RTC_SECONDS_HI..=Registers::RTC_SECONDS_HI_LAST => read_high(board, offset),
         Registers::TIMER_CHANNEL_BASE..=Registers::TIMER_CHANNEL_LAST => read_channel(
             board,
             offset,

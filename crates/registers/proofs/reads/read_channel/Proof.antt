@@ -1,7 +1,7 @@
 -- `reads::read_channel` meets its contract. Assumes nothing.
 use mathlib.Core.Logic.{⊎-elim}
 use native.Mathlib.Omega.{arith}
-use borrow.Author.Tests.{eq-eqb, ne-eqb}
+use borrow.Author.Tests.{ltb-true, ltb-false, eq-eqb, ne-eqb}
 use Rattle.channel.specs.Registers.{countLowAt}
 use Rattle.registers.specs.Reads.{readChannel}
 use Rattle.registers.proofs.Ranges.{inside, below, above}
@@ -25,7 +25,8 @@ with-count-latch-requires : tie.Need-with-count-latch-requires
 with-count-latch-requires c κs = search needs
 
 read-live-requires : tie.Need-read-live-requires
-read-live-requires c κs = rw (c .with-count-latch .ensures) (c .before .before .before .before .before .before .pre .1 .1)
+read-live-requires c κs =
+    rw (c .with-count-latch .ensures) (c .before .before .before .before .before .before .pre .1 .1)
 
 returns : tie.Need-returns
 unfolding readChannel
@@ -48,7 +49,7 @@ returns-2 : tie.Need-returns-2
 unfolding readChannel
 returns-2 c =
     let p = c .before .before .before .before .place-of in
-    let last = c .before .if3 .taken in
+    let last = ltb-true (p .result) 0x10 (c .before .if3 .taken) in
     rw (
       ← p .ensures,
       ne-eqb (p .result) countLowAt (c .before .before .before .if1 .left),
@@ -65,7 +66,7 @@ returns-3 c =
     let p = c .before .before .before .place-of in
     let n = ne-eqb (p .result) countLowAt (c .before .before .if1 .left) in
     rw (← p .ensures, n)
-    (⊎-elim (λ w. rw (above 0x0C 0x0F (p .result) (w .1 .left)) (c .read-live2 .ensures))
+    (⊎-elim (λ w. rw (above 0x0C 0x0F (p .result) (ltb-false (p .result) 0x10 (w .1 .left))) (c .read-live2 .ensures))
     (λ w. rw (below 0x0C 0x0F (p .result) (w .left)) (c .read-live2 .ensures)) (c .before .if2 .came))
 
 pub read-channel-spec : {M : Type 1} → statement M

@@ -33,7 +33,8 @@ returns c =
     let a = c .before .before .before .before .before .before .before .args in
     let n = c .before .before .before .before .before .before .channel-of in
     rw (← n .ensures .0, c .read-live .ensures)
-    (by-register (countLatch (n .result .0) (a .board)) (c .before .enum-told .given .1) _ (readLive (a .offset) (a .board)))
+    (by-register (countLatch (n .result .0) (a .board)) (c .before .enum-told .given .1)
+    _ (readLive (a .offset) (a .board)))
 
 freed-requires : tie.Need-freed-requires
 freed-requires c κs = search needs
@@ -50,7 +51,12 @@ returns-2 c =
     let s = c .before .before .before .before .before .before .before .before .before in
     let a = s .before .args in
     let n = s .channel-of .result .0 in
-    rw (← s .channel-of .ensures .0, c .answered .ensures, c .before .with-count-latch .ensures, c .before .before .freed .ensures)
+    rw (
+      ← s .channel-of .ensures .0,
+      c .answered .ensures,
+      c .before .with-count-latch .ensures,
+      c .before .before .freed .ensures,
+    )
     (by-latch (countLatch n (a .board)) _ (c .before .before .before .before .latch .given .1)
     (λ word l. answered (a .offset) word (withCountLatch n (freed (a .offset) l) (a .board)))
     (readLive (a .offset) (a .board)))

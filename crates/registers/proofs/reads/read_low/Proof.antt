@@ -19,7 +19,8 @@ returns : tie.Need-returns
 unfolding readLow
 returns c =
     let a = c .before .before .before .before .args in
-    rw (c .read-live .ensures) (by-register (a .board .latches .low) (c .before .enum-told .given .1) _ (readLive (a .offset) (a .board)))
+    rw (c .read-live .ensures)
+    (by-register (a .board .latches .low) (c .before .enum-told .given .1) _ (readLive (a .offset) (a .board)))
 
 freed-requires : tie.Need-freed-requires
 freed-requires c κs = search needs
@@ -37,7 +38,8 @@ returns-2 c =
     let ls = a .board .latches in
     rw (c .answered .ensures, c .before .with-clock-latches .ensures, c .before .before .freed .ensures)
     (by-latch (ls .low) _ (c .before .before .before .before .latch .given .1)
-    (λ word l. answered (a .offset) word (withClockLatches (freed (a .offset) l) (ls .high) (a .board))) (readLive (a .offset) (a .board)))
+    (λ word l. answered (a .offset) word (withClockLatches (freed (a .offset) l) (ls .high) (a .board)))
+    (readLive (a .offset) (a .board)))
 
 pub read-low-spec : {M : Type 1} → statement M
 read-low-spec =

@@ -1,5 +1,5 @@
 -- `words::timer_pending` meets its contract. The loop has joined the channels from i on. Assumes nothing.
-use mathlib.Core.Path.{_≡_, _∙_, ap}
+use mathlib.Core.Path.{_≡_}
 use mir.Val.{boolByte}
 use lib.ListN.{drop, getD}
 use Rattle.registers.proofs.Pending.{byte-flag, pending-goes, pending-fits}

@@ -56,7 +56,8 @@ loop-again c =
       search needs,
       map-goes (λ k h. clearedBy (bit k (a .value)) h) freshTimer (l .i) (a .timers) (l .out) (c .cleared-by .result)
           (search needs) (l .inv .2)
-          (c .cleared-by .ensures ∙ ap (λ v. clearedBy v (getD (l .out) (l .i) freshTimer)) (c .before .selected .ensures)),
+          (c .cleared-by .ensures
+          ∙ ap (λ v. clearedBy v (getD (l .out) (l .i) freshTimer)) (c .before .selected .ensures)),
     )
 
 returns : tie.Need-returns Inv-loop μ-loop

@@ -44,7 +44,8 @@ returns c =
 
 returns-2 : tie.Need-returns-2
 unfolding timerWritten
-returns-2 c = rw (c .before .before .before .match .keys1, c .with-timer-enable .ensures, c .before .with-byte .ensures)
+returns-2 c =
+    rw (c .before .before .before .match .keys1, c .with-timer-enable .ensures, c .before .with-byte .ensures)
 
 returns-3 : tie.Need-returns-3
 unfolding timerWritten

@@ -1,6 +1,13 @@
 -- `writes::written_at` meets its contract. Assumes nothing.
-use native.Mathlib.Omega.{arith}
-use Rattle.registers.proofs.Ranges.{inside, below, above}
+use Rattle.registers.proofs.Ranges.{
+  in-timers,
+  in-clock,
+  in-channels,
+  before-timers,
+  before-clock,
+  before-channels,
+  after-channels,
+}
 use Rattle.registers.specs.Writes.{writtenAt}
 use borrow.Author.Needs.{needs}
 use Rattle.registers.proofs.writes.written_at.Statement.{statement}
@@ -28,61 +35,49 @@ returns : tie.Need-returns
 unfolding writtenAt
 returns c =
     let x = c .before .before .before .before .args .offset in
-    let first = c .before .before .if1 .left in
-    let last = c .before .if2 .taken in
-    rw (inside 0x180 0x18F x first (omega (arith, last))) (c .timer-written .ensures)
+    rw (in-timers x (c .before .before .if1 .left) (c .before .if2 .taken)) (c .timer-written .ensures)
 
 returns-2 : tie.Need-returns-2
 unfolding writtenAt
 returns-2 c =
     let x = c .before .before .before .before .before .before .before .args .offset in
-    let past = c .before .before .before .before .if2 .left in
-    let first = c .before .before .before .if3 .left in
-    let last = c .before .before .if4 .taken in
-    rw (above 0x180 0x18F x past, inside 0x200 0x223 x first (omega (arith, last)), c .with-clock .ensures, c .before .clock-written .ensures)
+    let t = in-clock x (c .before .before .before .if3 .left) (c .before .before .if4 .taken) in
+    rw (t .0, t .1, c .with-clock .ensures, c .before .clock-written .ensures)
 
 returns-3 : tie.Need-returns-3
 unfolding writtenAt
 returns-3 c =
     let x = c .before .before .before .before .before .before .before .before .args .offset in
-    let first = c .before .before .if5 .left in
-    let last = c .before .if6 .taken in
-    rw (
-      above 0x180 0x18F x (omega (arith, first)),
-      above 0x200 0x223 x (omega (arith, first)),
-      inside 0x400 0x4FF x first (omega (arith, last)),
-    )
-    (c .channel-written .ensures)
+    let t = in-channels x (c .before .before .if5 .left) (c .before .if6 .taken) in
+    rw (t .0, t .1, t .2) (c .channel-written .ensures)
 
 returns-4 : tie.Need-returns-4
 unfolding writtenAt
 returns-4 c =
     let x = c .before .before .args .offset in
-    let last = c .if1 .taken in
-    rw (below 0x180 0x18F x last, below 0x200 0x223 x (omega (arith, last)), below 0x400 0x4FF x (omega (arith, last)))
+    let t = before-timers x (c .if1 .taken) in
+    rw (t .0, t .1, t .2)
 
 returns-5 : tie.Need-returns-5
 unfolding writtenAt
 returns-5 c =
     let x = c .before .before .before .before .args .offset in
-    let first = c .before .if2 .left in
-    let last = c .if3 .taken in
-    rw (above 0x180 0x18F x first, below 0x200 0x223 x last, below 0x400 0x4FF x (omega (arith, last)))
+    let t = before-clock x (c .before .if2 .left) (c .if3 .taken) in
+    rw (t .0, t .1, t .2)
 
 returns-6 : tie.Need-returns-6
 unfolding writtenAt
 returns-6 c =
     let x = c .before .before .before .before .before .before .args .offset in
-    let first = c .before .if4 .left in
-    let last = c .if5 .taken in
-    rw (above 0x180 0x18F x (omega (arith, first)), above 0x200 0x223 x first, below 0x400 0x4FF x last)
+    let t = before-channels x (c .before .if4 .left) (c .if5 .taken) in
+    rw (t .0, t .1, t .2)
 
 returns-7 : tie.Need-returns-7
 unfolding writtenAt
 returns-7 c =
     let x = c .before .before .before .before .before .before .before .args .offset in
-    let first = c .if6 .left in
-    rw (above 0x180 0x18F x (omega (arith, first)), above 0x200 0x223 x (omega (arith, first)), above 0x400 0x4FF x first)
+    let t = after-channels x (c .if6 .left) in
+    rw (t .0, t .1, t .2)
 
 pub written-at-spec : {M : Type 1} → statement M
 written-at-spec =

@@ -1,10 +1,10 @@
--- `calls::written` meets its contract. Assumes nothing.
+-- `written` meets its contract. Assumes nothing.
 use native.Mathlib.Omega.{arith}
 use Rattle.registers.specs.Calls.{writtenBoard}
 use Rattle.registers.proofs.Timing.{sound-times}
 use borrow.Author.Needs.{needs}
-use Rattle.registers.proofs.calls.written.Statement.{statement}
-use Rattle.registers.proofs.calls.written.Tie as tie
+use Rattle.registers.proofs.written.Statement.{statement}
+use Rattle.registers.proofs.written.Tie as tie
 
 add-written-at : tie.Need-add-written-at
 add-written-at c = search needs

@@ -1,8 +1,8 @@
--- `calls::address_refusal` meets its contract. Assumes nothing.
+-- `address_refusal` meets its contract. Assumes nothing.
 use borrow.Author.Tests.{le-leb, lt-leb}
 use Rattle.registers.specs.Calls.{addressRefusal}
-use Rattle.registers.proofs.calls.address_refusal.Statement.{statement}
-use Rattle.registers.proofs.calls.address_refusal.Tie as tie
+use Rattle.registers.proofs.address_refusal.Statement.{statement}
+use Rattle.registers.proofs.address_refusal.Tie as tie
 
 returns : tie.Need-returns
 unfolding addressRefusal

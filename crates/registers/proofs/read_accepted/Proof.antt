@@ -1,10 +1,10 @@
--- `calls::read_accepted` meets its contract. Assumes nothing.
+-- `read_accepted` meets its contract. Assumes nothing.
 use native.Mathlib.Omega.{arith}
 use Rattle.registers.specs.Calls.{readAccepted}
 use Rattle.registers.proofs.Timing.{sound-times}
 use borrow.Author.Needs.{needs}
-use Rattle.registers.proofs.calls.read_accepted.Statement.{statement}
-use Rattle.registers.proofs.calls.read_accepted.Tie as tie
+use Rattle.registers.proofs.read_accepted.Statement.{statement}
+use Rattle.registers.proofs.read_accepted.Tie as tie
 
 add-read-at : tie.Need-add-read-at
 add-read-at c = search needs
