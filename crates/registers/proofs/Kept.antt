@@ -229,17 +229,28 @@ module _ (v : ℕ) (byte : v < 256) (b : Board) (p : Parts b) where
 -- ---- the calls
 
 module _ (b : Board) (g : Good b) where
+  -- accepted
+  pub read-accepted-good : (address : ℕ) → Good (readAccepted address b .board)
+  unfolding readAccepted
+  read-accepted-good address = read-at-good (address + base) b (good-parts b g)
+
+  pub written-good : (address v : ℕ) → v < 256 → Good (writtenBoard address v b)
+  unfolding writtenBoard
+  written-good address v byte =
+      wired-good (writtenAt (address + base) v b) (written-parts v byte b (good-parts b g) (address + base))
+
+  -- refused or not
   pub read-good : (address : ℕ) → Good (readCall address b .board)
-  unfolding readCall readAccepted
+  unfolding readCall
   read-good address =
       choose (λ (r : ByteAnswer). Good (r .board)) (eqb (refusalOf b (addressRefusal address)) 0)
-      (λ _. read-at-good (address + base) b (good-parts b g)) (λ _. g)
+      (λ _. read-accepted-good address) (λ _. g)
 
   pub write-good : (address v : ℕ) → v < 256 → Good (writeCall address v b .board)
-  unfolding writeCall writtenBoard
+  unfolding writeCall
   write-good address v byte =
       choose (λ (r : EmptyAnswer). Good (r .board)) (eqb (refusalOf b (addressRefusal address)) 0)
-      (λ _. wired-good _ (written-parts v byte b (good-parts b g) (address + base))) (λ _. g)
+      (λ _. written-good address v byte) (λ _. g)
 
 module _ (b : Board) (f : BoardFits b) (s : sound b ≡ true) where
   pub read-kept : (address : ℕ) → sound (readCall address b .board) ≡ true

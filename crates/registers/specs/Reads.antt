@@ -28,10 +28,11 @@ use Rattle.registers.specs.Words.{liveWord}
 
 -- ---- one byte
 
--- byte of a word, as the read at an offset answers it; b is the board after the read
+-- the byte of a word that a read at an offset answers; b is the board after the read
 abbrev pub answered : ℕ → ℕ → Board → ByteAnswer
 answered offset word b = record { board = wired b; refusal = 0; byte = byteOfWord (byteOf offset) word }
 
+-- the alarm check is made
 abbrev pub checked : Board → Board
 checked b = withClock (checkAlarm clockRate (b .clock)) b
 
@@ -82,6 +83,7 @@ readLow offset b =
     (withClockLatches (freed offset (b .latches .low)) (b .latches .high) b))
     (readLive offset b)
 
+-- the same of the high word
 unfoldable pub readHigh : ℕ → Board → ByteAnswer
 readHigh offset b =
     cond (heldOf (b .latches .high))
@@ -91,6 +93,7 @@ readHigh offset b =
 
 -- ---- every offset
 
+-- the read at an offset
 unfoldable pub readAt : ℕ → Board → ByteAnswer
 readAt offset b =
     cond (within 0x208 0x20B offset) (readLow offset (secondsLatched offset b))

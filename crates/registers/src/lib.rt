@@ -15,7 +15,8 @@ mod reads;
 mod words;
 mod writes;
 
-// Offsets of the registers that no channel has, and of the channels' blocks.
+// Offsets of the registers that no channel has, and of the channels' blocks. A name that ends in LAST is of the last
+// byte of a register or a block.
 pub struct Registers;
 
 impl Registers {
@@ -33,7 +34,6 @@ impl Registers {
 
     pub const TIMER_ACK: u32 = 0x18C;
 
-    // The last byte of a block.
     pub const TIMER_LAST: u32 = 0x18F;
 
     pub const RTC_CTRL: u32 = 0x200;
@@ -42,10 +42,9 @@ impl Registers {
 
     pub const RTC_SECONDS_LO: u32 = 0x208;
 
-    pub const RTC_SECONDS_HI: u32 = 0x20C;
-
-    // The last byte of a register.
     pub const RTC_SECONDS_LO_LAST: u32 = 0x20B;
+
+    pub const RTC_SECONDS_HI: u32 = 0x20C;
 
     pub const RTC_SECONDS_HI_LAST: u32 = 0x20F;
 
@@ -67,6 +66,8 @@ impl Registers {
 
     // From a channel's block to the next.
     pub const TIMER_CHANNEL_STRIDE: u32 = 0x40;
+
+    pub const TIMER_CHANNELS: usize = 4;
 
     // The refusal of an address, by document 01's number.
     pub const ADDRESS_TOO_LARGE: u8 = 6;
@@ -98,6 +99,7 @@ pub fn written(board: Board, address: u16, value: u8) -> Board
     written_at(board, address as u32 + Registers::BASE, value).wired()
 }
 
+// The byte at an address.
 pub fn read(board: Board, address: u16) -> ByteAnswer
     ensures { λ r. ⌜ r ≡ readCall address board ⌝ }
 {
@@ -112,6 +114,7 @@ pub fn read(board: Board, address: u16) -> ByteAnswer
     }
 }
 
+// A byte written at an address.
 pub fn write(board: Board, address: u16, value: u8) -> EmptyAnswer
     ensures { λ r. ⌜ r ≡ writeCall address value board ⌝ }
 {

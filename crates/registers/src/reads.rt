@@ -104,7 +104,7 @@ fn seconds_latched(board: Board, offset: u32) -> Board
     board
 }
 
-// A byte of the clock's low seconds, after latching.
+// A byte of the clock's low seconds, once byte 0 has latched them.
 fn read_low(board: Board, offset: u32) -> ByteAnswer
     requires { ⌜ Timed clockRate (board .clock) ⌝ }
     ensures { λ r. ⌜ r ≡ readLow offset board ⌝ }
@@ -122,6 +122,7 @@ fn read_low(board: Board, offset: u32) -> ByteAnswer
     )
 }
 
+// A byte of the clock's high seconds.
 fn read_high(board: Board, offset: u32) -> ByteAnswer
     requires { ⌜ Timed clockRate (board .clock) ⌝ }
     ensures { λ r. ⌜ r ≡ readHigh offset board ⌝ }
@@ -139,6 +140,7 @@ fn read_high(board: Board, offset: u32) -> ByteAnswer
     )
 }
 
+// The byte at an offset.
 pub fn read_at(board: Board, offset: u32) -> ByteAnswer
     requires { ⌜ Timed clockRate (board .clock) ⌝ }
     ensures { λ r. ⌜ r ≡ readAt offset board ⌝ }

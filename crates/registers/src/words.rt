@@ -17,14 +17,12 @@ use wide::words::low;
 // What TIMER_ID reads as.
 const ID: u32 = 0x5154_0001;
 
-const COUNT: usize = 4;
-
 // A bit for each channel, channel 0's the lowest.
 fn timer_pending(timers: [HardwareTimer; 4]) -> u32
     ensures { λ r. ⌜ r ≡ pendingWord timers ⌝ }
 {
     let mut word = 0u32;
-    let mut i = COUNT;
+    let mut i = Registers::TIMER_CHANNELS;
     while 0 < i {
         i -= 1;
         let t = timers[i];

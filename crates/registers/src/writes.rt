@@ -18,8 +18,7 @@ use channel::ChannelNumber;
 use channel::HardwareTimer;
 use clock::Clock;
 
-const COUNT: usize = 4;
-
+// Pending is cleared where the flag says so.
 fn cleared_by(mut timer: HardwareTimer, clear: bool) -> HardwareTimer
     ensures { λ r. ⌜ r ≡ clearedBy clear timer ⌝ }
 {
@@ -35,7 +34,7 @@ fn acknowledged(timers: [HardwareTimer; 4], value: u8) -> [HardwareTimer; 4]
 {
     let mut out = timers;
     let mut i = 0;
-    while i < COUNT {
+    while i < Registers::TIMER_CHANNELS {
         let t = out[i];
         let clear = ChannelNumber(i as u8).selected(value);
         out[i] = cleared_by(t, clear);
@@ -44,6 +43,7 @@ fn acknowledged(timers: [HardwareTimer; 4], value: u8) -> [HardwareTimer; 4]
     out
 }
 
+// Byte `byte` of a register that all channels share, 0 the most significant.
 fn timer_written(board: Board, register: u32, byte: usize, value: u8) -> Board
     requires { ⌜ byte < 4 ⌝ }
     ensures { λ r. ⌜ r ≡ timerWritten register byte value board ⌝ }
@@ -64,6 +64,7 @@ fn timer_written(board: Board, register: u32, byte: usize, value: u8) -> Board
     }
 }
 
+// Byte `byte` of a register of the clock, 0 the most significant.
 fn clock_written(clock: Clock, register: u32, byte: usize, value: u8) -> Clock
     requires { ⌜ (byte < 4) × Timed clockRate clock ⌝ }
     ensures { λ r. ⌜ r ≡ clockWritten register byte value clock ⌝ }
@@ -81,6 +82,7 @@ fn clock_written(clock: Clock, register: u32, byte: usize, value: u8) -> Clock
     }
 }
 
+// A byte of a channel's register.
 fn channel_written(board: Board, offset: u32, value: u8) -> Board
     requires { ⌜ (0x400 ≤ offset) × (offset ≤ 0x4FF) ⌝ }
     ensures { λ r. ⌜ r ≡ channelWritten offset value board ⌝ }
@@ -91,6 +93,7 @@ fn channel_written(board: Board, offset: u32, value: u8) -> Board
     with_channel(board, number, written)
 }
 
+// A byte written at an offset.
 pub fn written_at(board: Board, offset: u32, value: u8) -> Board
     requires { ⌜ Timed clockRate (board .clock) ⌝ }
     ensures { λ r. ⌜ r ≡ writtenAt offset value board ⌝ }
