@@ -71,14 +71,14 @@ impl Board {
         }
     }
 
-    fn with_timers(mut self, timers: [HardwareTimer; 4]) -> Self
+    pub fn with_timers(mut self, timers: [HardwareTimer; 4]) -> Self
         ensures { λ r. ⌜ r ≡ withTimers timers self ⌝ }
     {
         self.timers = timers;
         self
     }
 
-    fn with_clock(mut self, clock: Clock) -> Self
+    pub fn with_clock(mut self, clock: Clock) -> Self
         ensures { λ r. ⌜ r ≡ withClock clock self ⌝ }
     {
         self.clock = clock;

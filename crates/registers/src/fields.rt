@@ -1,7 +1,6 @@
 // The parts of an offset, and the board's fields that registers read and change.
 ghost use mathlib.Core.Path.{_≡_};
 ghost use Prim.Native.Nat.{_<_, _≤_};
-ghost use Rattle.board.specs.Board.{withTimers, withClock};
 ghost use Rattle.registers.specs.Registers.{byteOfWord, channelOf, placeOf, channelAt, withChannel};
 ghost use Rattle.registers.specs.Registers.{withTimerEnable, withCountLatch, withClockLatches};
 use crate::Registers;
@@ -11,7 +10,6 @@ use board::Latch;
 use board::Latches;
 use channel::ChannelNumber;
 use channel::HardwareTimer;
-use clock::Clock;
 
 // Byte `byte` of a register's word, 0 the most significant.
 pub fn byte_of_word(word: u32, byte: u32) -> u8
@@ -58,24 +56,10 @@ pub fn with_channel(mut board: Board, number: ChannelNumber, timer: HardwareTime
     board
 }
 
-pub fn with_timers(mut board: Board, timers: [HardwareTimer; 4]) -> Board
-    ensures { λ r. ⌜ r ≡ withTimers timers board ⌝ }
-{
-    board.timers = timers;
-    board
-}
-
 pub fn with_timer_enable(mut board: Board, timer_enable: u8) -> Board
     ensures { λ r. ⌜ r ≡ withTimerEnable «timer_enable» board ⌝ }
 {
     board.timer_enable = timer_enable;
-    board
-}
-
-pub fn with_clock(mut board: Board, clock: Clock) -> Board
-    ensures { λ r. ⌜ r ≡ withClock clock board ⌝ }
-{
-    board.clock = clock;
     board
 }
 

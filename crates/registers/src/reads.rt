@@ -10,7 +10,6 @@ use crate::fields::byte_of_word;
 use crate::fields::channel_at;
 use crate::fields::channel_of;
 use crate::fields::place_of;
-use crate::fields::with_clock;
 use crate::fields::with_clock_latches;
 use crate::fields::with_count_latch;
 use crate::words::live_word;
@@ -39,7 +38,7 @@ fn read_live(board: Board, offset: u32) -> ByteAnswer
     ensures { λ r. ⌜ r ≡ readLive offset board ⌝ }
 {
     let clock = board.clock;
-    let checked = with_clock(board, clock.check_alarm());
+    let checked = board.with_clock(clock.check_alarm());
     answered(checked, offset, live_word(checked, offset))
 }
 

@@ -10,9 +10,7 @@ use crate::fields::channel_at;
 use crate::fields::channel_of;
 use crate::fields::place_of;
 use crate::fields::with_channel;
-use crate::fields::with_clock;
 use crate::fields::with_timer_enable;
-use crate::fields::with_timers;
 use board::Board;
 use channel::ChannelNumber;
 use channel::HardwareTimer;
@@ -56,7 +54,7 @@ fn timer_written(board: Board, register: u32, byte: usize, value: u8) -> Board
         }
         Registers::TIMER_ACK => {
             if byte == 3 {
-                return with_timers(board, acknowledged(timers, value));
+                return board.with_timers(acknowledged(timers, value));
             }
             board
         }
@@ -104,7 +102,7 @@ pub fn written_at(board: Board, offset: u32, value: u8) -> Board
     match offset {
         Registers::TIMER_ID..=Registers::TIMER_LAST => timer_written(board, register, byte, value),
         Registers::RTC_CTRL..=Registers::RTC_LAST => {
-            with_clock(board, clock_written(clock, register, byte, value))
+            board.with_clock(clock_written(clock, register, byte, value))
         }
         Registers::TIMER_CHANNEL_BASE..=Registers::TIMER_CHANNEL_LAST => channel_written(
             board,
