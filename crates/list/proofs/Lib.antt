@@ -1,0 +1,6 @@
+mod Answers
+mod Kept
+mod Runs
+pub mod Demand
+pub mod Parts
+pub mod Settings

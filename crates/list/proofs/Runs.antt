@@ -1,0 +1,224 @@
+-- Laws of a run: a call that is done takes bytes of the list and has room for its answer, and what a run does at its
+-- next call. Assumes nothing.
+use mathlib.Core.Path.{_≡_, refl, sym, ap, _∙_}
+use mathlib.Core.List.{List, [], _∷_, _++_, append-nil}
+use mathlib.Core.Bool.{true, false, true≢false, false≢true}
+use Prim.Native.Nat.{ℕ, zero, suc, _+_, _-_, _≤_, _<_}
+use native.Mathlib.Nat.{zero-add}
+use native.Mathlib.Omega.{arith}
+use lib.ListN.{length, drop, length-drop, length-append, drop-of-length-le}
+use lib.Seq.{sets, length-sets, drop-drop}
+use lib.Dec.{ltb, eqb}
+use borrow.Author.Tests.{ltb-false, eqb-true}
+use Rattle.wide.proofs.Choices.{choose}
+use Rattle.board.specs.declared.Board.{Board}
+use Rattle.board.specs.Board.{BoardFits, sound}
+use Rattle.list.specs.declared.Outcome.{Outcome}
+use Rattle.format.specs.Format.{widthOf, tagAt, frameRefusal, recordOf}
+use Rattle.list.specs.Run.{
+  Told,
+  callAt,
+  Turn,
+  done,
+  refused,
+  settle,
+  turnOf,
+  stepped,
+  bytesOf,
+  Run,
+  runOn,
+  over,
+}
+use Rattle.format.proofs.Frames.{framed, sets-then, sets-front}
+
+-- ---- one call
+
+-- a call that is done is a call of the list, its answer has room, and its board is the direct call's; a call that is
+-- refused has a number
+unfoldable pub Placed : Board → List ℕ → ℕ → Turn → Type 0
+Placed b l room (done b′ n a) =
+    (frameRefusal l ≡ 0)
+    × ((n ≡ 3 + widthOf (tagAt l)) × ((length a ≤ room) × (b′ ≡ callAt (tagAt l) l b .board)))
+Placed b l room (refused n) = eqb n 0 ≡ false
+
+pub turn-placed : (b : Board) (l : List ℕ) (room : ℕ) → Placed b l room (turnOf b l room)
+unfolding turnOf settle Placed
+turn-placed b l room =
+    let t = callAt (tagAt l) l b in
+    choose (Placed b l room) (eqb (frameRefusal l) 0)
+    (λ e. choose (Placed b l room) (eqb (t .refusal) 0)
+    (λ _. choose (Placed b l room) (ltb room (length (recordOf (tagAt l) (t .value))))
+    (λ _. refl)
+    (λ f. (eqb-true _ _ e, (refl, (ltb-false _ _ f, refl)))))
+    (λ r. r))
+    (λ r. r)
+
+-- it takes at least three bytes, all of the list
+pub done-fits : (b : Board) (l : List ℕ) (room : ℕ) (b′ : Board) (n : ℕ) (a : List ℕ) →
+    turnOf b l room ≡ done b′ n a → (3 ≤ n) × ((n ≤ length l) × (length a ≤ room))
+unfolding Placed
+done-fits b l room b′ n a e =
+    let p : Placed b l room (done b′ n a) = rw e at (turn-placed b l room) in
+    (omega (arith, p .1 .0), (omega (arith, p .1 .0, framed l (p .0)), p .1 .1 .0))
+
+-- what becomes of a call, by what the code computes of it
+module _ (b : Board) (l : List ℕ) (room : ℕ) where
+  pub turn-refused : (n : ℕ) → n ≡ frameRefusal l → eqb n 0 ≡ false → turnOf b l room ≡ refused n
+  unfolding turnOf
+  turn-refused n p q = rw (← p, q)
+
+  pub turn-settled : (t : Told) → frameRefusal l ≡ 0 → t ≡ callAt (tagAt l) l b →
+      turnOf b l room ≡ settle (tagAt l) t room
+  unfolding turnOf
+  turn-settled t p q = rw (p, ← q)
+
+-- ---- the run's next call
+
+-- to skip some bytes is to go on over the list without them
+pub skip-drop : (k : ℕ) (l : List ℕ) (room : ℕ) (s : Outcome) (out : List ℕ) →
+    runOn k l room s out ≡ runOn 0 (drop k l) room s out
+unfolding runOn
+skip-drop zero l room s out = refl
+skip-drop (suc k) [] room s out = refl
+skip-drop (suc k) (x ∷ l) room s out = skip-drop k l room s out
+
+module _ (x : ℕ) (rest : List ℕ) (room : ℕ) (s : Outcome) (out : List ℕ) where
+  pub next-done : (b : Board) (n : ℕ) (a : List ℕ) → turnOf (s .board) (x ∷ rest) (room - length out) ≡ done b n a →
+      runOn 0 (x ∷ rest) room s out ≡ runOn (n - 1) rest room (stepped s (done b n a) .outcome) (out ++ a)
+  unfolding runOn
+  next-done b n a e = rw (e, runOn)
+
+  pub next-refused : (n : ℕ) → turnOf (s .board) (x ∷ rest) (room - length out) ≡ refused n →
+      runOn 0 (x ∷ rest) room s out ≡ record { outcome = stepped s (refused n) .outcome; answers = out }
+  unfolding runOn
+  next-refused n e = rw (e, runOn)
+
+drop-pred : (n x : ℕ) (rest : List ℕ) → 3 ≤ n → drop (n - 1) rest ≡ drop n (x ∷ rest)
+drop-pred zero x rest h = absurd (omega arith)
+drop-pred (suc n) x rest h = let e : suc n - 1 ≡ n = omega arith in ap (λ (k : ℕ). drop k rest) e
+
+-- where the call is done the run goes on behind it
+pub go-on : (l : List ℕ) (room : ℕ) (s : Outcome) (out : List ℕ) → 0 < length l → (b : Board) (n : ℕ) (a : List ℕ) →
+    turnOf (s .board) l (room - length out) ≡ done b n a →
+    runOn 0 l room s out ≡ runOn 0 (drop n l) room (stepped s (done b n a) .outcome) (out ++ a)
+go-on [] room s out h b n a e = absurd (omega arith)
+go-on (x ∷ rest) room s out h b n a e =
+    next-done x rest room s out b n a e
+    ∙ skip-drop (n - 1) rest room (stepped s (done b n a) .outcome) (out ++ a)
+    ∙ ap (λ (k : List ℕ). runOn 0 k room (stepped s (done b n a) .outcome) (out ++ a))
+    (drop-pred n x rest (done-fits (s .board) (x ∷ rest) (room - length out) b n a e .0))
+
+-- where it is refused the run ends
+pub stop-at : (l : List ℕ) (room : ℕ) (s : Outcome) (out : List ℕ) → 0 < length l → (n : ℕ) →
+    turnOf (s .board) l (room - length out) ≡ refused n →
+    runOn 0 l room s out ≡ record { outcome = stepped s (refused n) .outcome; answers = out }
+stop-at [] room s out h n e = absurd (omega arith)
+stop-at (x ∷ rest) room s out h n e = next-refused x rest room s out n e
+
+-- ---- a run under way
+
+-- the answers so far stand at the buffer's start, and the run from here on is the run from the list's start
+pub record Running (list buf₀ : List ℕ) (s₀ : Outcome) (buf : List ℕ) (s : Outcome) : Type 0 where
+  pub sound : sound (s .board) ≡ true
+  pub fits : BoardFits (s .board)
+  pub used-in : s .used ≤ length list
+  pub calls-in : s .calls ≤ s .used
+  pub out : List ℕ
+  pub counted : length out ≡ s .written
+  pub room : length out ≤ length buf₀
+  pub same : length buf ≡ length buf₀
+  pub bytes : buf ≡ sets buf₀ 0 out
+  pub whole : runOn 0 (drop (s .used) list) (length buf₀) s out ≡ runOn 0 list (length buf₀) s₀ []
+
+-- the state of a run, and the buffer, are what the whole run says
+unfoldable pub Ran : List ℕ → List ℕ → Outcome → List ℕ → Outcome → Type 0
+Ran list buf₀ s₀ buf s =
+    (s ≡ runOn 0 list (length buf₀) s₀ [] .outcome)
+    × (buf ≡ over (runOn 0 list (length buf₀) s₀ [] .answers) buf₀)
+
+pub begun : (list buf₀ : List ℕ) (s₀ : Outcome) → sound (s₀ .board) ≡ true → BoardFits (s₀ .board) →
+    s₀ .used ≡ 0 → s₀ .calls ≡ 0 → s₀ .written ≡ 0 → Running list buf₀ s₀ buf₀ s₀
+begun list buf₀ s₀ i f u k w =
+    record {
+      sound = i;
+      fits = f;
+      used-in = omega arith;
+      calls-in = omega arith;
+      out = [];
+      counted = sym w;
+      room = omega arith;
+      same = refl;
+      bytes = refl;
+      whole = rw u;
+    }
+
+stopped : (list buf₀ : List ℕ) (s₀ : Outcome) (buf : List ℕ) (s : Outcome) (out : List ℕ) →
+    length out ≤ length buf₀ → buf ≡ sets buf₀ 0 out →
+    record { outcome = s; answers = out } ≡ runOn 0 list (length buf₀) s₀ [] → Ran list buf₀ s₀ buf s
+unfolding Ran over
+stopped list buf₀ s₀ buf s out room bytes e = (
+  ap (λ (r : Run). r .outcome) e,
+  bytes ∙ sets-front buf₀ out room ∙ ap (λ (r : Run). r .answers ++ drop (length (r .answers)) buf₀) e,
+)
+
+-- an answer is written behind those before it
+store-more : (buf₀ buf buf′ out bytes : List ℕ) (w : ℕ) → length out ≡ w → buf ≡ sets buf₀ 0 out →
+    buf′ ≡ sets buf w bytes → buf′ ≡ sets buf₀ 0 (out ++ bytes)
+store-more buf₀ buf buf′ out bytes w c h e = rw (e, h) (rw zero-add at (sets-then buf₀ 0 w out bytes c))
+
+module _ (list buf₀ : List ℕ) (s₀ : Outcome) (buf : List ℕ) (s : Outcome) (r : Running list buf₀ s₀ buf s) where
+  -- a run at the end of its list
+  pub ended : length list ≤ s .used → Ran list buf₀ s₀ buf s
+  unfolding runOn
+  ended h =
+      stopped list buf₀ s₀ buf s (r .out) (r .room) (r .bytes) (rw (drop-of-length-le list h) at (r .whole))
+
+  -- the next call, with the room that the answers so far leave
+  abbrev Next : Turn → Type 0
+  Next t = turnOf (s .board) (drop (s .used) list) (length buf - s .written) ≡ t
+
+  here : (t : Turn) → Next t → turnOf (s .board) (drop (s .used) list) (length buf₀ - length (r .out)) ≡ t
+  here t e = rw (← r .same, r .counted) e
+
+  module _ (inside : s .used < length list) (buf′ : List ℕ) where
+    left : 0 < length (drop (s .used) list)
+    left = omega (arith, length-drop (s .used) list)
+
+    -- the next call is done: the run goes on, farther in the list
+    pub more : (t : Turn) → Next t → buf′ ≡ sets buf (s .written) (bytesOf t) → stepped s t .served ≡ true →
+        sound (stepped s t .outcome .board) ≡ true → BoardFits (stepped s t .outcome .board) →
+        Running list buf₀ s₀ buf′ (stepped s t .outcome) × (s .used < stepped s t .outcome .used)
+    unfolding stepped bytesOf
+    more (refused n) e w served i f = absurd (false≢true served)
+    more (done b n a) e w served i f =
+        let k = done-fits (s .board) (drop (s .used) list) (length buf - s .written) b n a e in
+        let d = length-drop (s .used) list in
+        let l = length-append (r .out) a in (
+          record {
+            sound = i;
+            fits = f;
+            used-in = omega arith;
+            calls-in = omega arith;
+            out = r .out ++ a;
+            counted = omega arith;
+            room = omega arith;
+            same = rw (w, length-sets) (r .same);
+            bytes = store-more buf₀ buf buf′ (r .out) a (s .written) (r .counted) (r .bytes) w;
+            whole =
+                ap (λ (m : List ℕ). runOn 0 m (length buf₀) (stepped s (done b n a) .outcome) (r .out ++ a))
+                (sym (drop-drop n (s .used) list))
+                ∙ sym (go-on (drop (s .used) list) (length buf₀) s (r .out) left b n a (here (done b n a) e))
+                ∙ r .whole;
+          },
+          omega arith,
+        )
+
+    -- the next call is refused: the run has stopped
+    pub stops : (t : Turn) → Next t → buf′ ≡ sets buf (s .written) (bytesOf t) → stepped s t .served ≡ false →
+        Ran list buf₀ s₀ buf′ (stepped s t .outcome)
+    unfolding stepped bytesOf
+    stops (done b n a) e w served = absurd (true≢false served)
+    stops (refused n) e w served =
+        stopped list buf₀ s₀ buf′ (stepped s (refused n) .outcome) (r .out) (r .room)
+        (rw append-nil at (store-more buf₀ buf buf′ (r .out) [] (s .written) (r .counted) (r .bytes) w))
+        (sym (stop-at (drop (s .used) list) (length buf₀) s (r .out) left n (here (refused n) e)) ∙ r .whole)

@@ -1,0 +1,220 @@
+-- Document 01's 'Settings that a quick reading gets wrong': one table over the rules, with the readings that it calls
+-- wrong and its worked run, by one computation. Assumes nothing.
+use Prim.Native.Nat.{ℕ, _+_, _-_, _^_}
+use mathlib.Core.Path.{_≡_, refl}
+use mathlib.Core.Bool.{Bool, true, false, cond, not, _&&_}
+use mathlib.Core.List.{List, [], _∷_}
+use mathlib.Core.Option.{Option, none, some}
+use lib.ListN.{getD}
+use lib.Dec.{leb, eqb}
+use Rattle.wide.specs.Fields.{beAt, be, withByte}
+use Rattle.channel.specs.declared.HardwareTimer.{HardwareTimer}
+use Rattle.channel.specs.Channel.{
+  freshTimer,
+  enabledOf,
+  irqEnabledOf,
+  disabled,
+  soundTimer,
+  lineOf,
+  withControl as timerControl,
+  withCounter,
+  withCompare,
+  withReload,
+  withPrescaler,
+  withFlags,
+}
+use Rattle.channel.specs.Prescaler.{advanced}
+use Rattle.channel.specs.Modes.{oneShot, reloaded, matched, periodic, distance, freeRunning, tickedIn, ticked}
+use Rattle.channel.specs.Deadline.{ticksToGo, deadlineOf}
+use Rattle.channel.specs.Registers.{wordOf, controlWritten, byteWritten as channelWritten}
+use Rattle.clock.specs.declared.Clock.{Clock}
+use Rattle.clock.specs.Fields.{freshClock, withControl, withTime, withAlarm}
+use Rattle.clock.specs.Clock.{
+  shifted,
+  ownNanoseconds,
+  timeOf,
+  timeSeconds,
+  alarmReached,
+  checkAlarm,
+  movedTime,
+  endAdvance,
+  advanceClock,
+}
+use Rattle.clock.specs.Sound.{soundOffset, soundAlarm, soundParts as clockParts, alarmAhead, soundClock}
+use Rattle.clock.specs.Deadline.{clockDeadline}
+use Rattle.clock.specs.Registers.{
+  signedDifference,
+  setTime,
+  timeKept,
+  changeControl,
+  writeControl,
+  marked,
+  shadowByte,
+  offsetFor,
+  commitSeconds,
+  writeSeconds,
+  timeNanoseconds,
+}
+use Rattle.controller.specs.declared.IrqOutput.{IrqOutput}
+use Rattle.controller.specs.Bits.{withBit, without}
+use Rattle.controller.specs.Controller.{sourceSet, outputOf, lowestFrom, byteWritten, pendingCleared}
+use Rattle.board.specs.declared.Board.{Board}
+use Rattle.board.specs.Loops.{mapFrom, foldFrom}
+use Rattle.board.specs.Board.{freshBoard, withClock, line, exactDeadline, wired, soundParts, sound}
+use Rattle.board.specs.Calls.{advancedBoard, controllerWritten, advanceCall, outputCall}
+use Rattle.board.specs.Demand.{source3}
+use Rattle.registers.specs.Words.{timerWord, clockWord, liveWord}
+use Rattle.registers.specs.Reads.{readLive, readCountHigh, readChannel, secondsLatched, readLow, readHigh, readAt}
+use Rattle.registers.specs.Writes.{timerWritten, clockWritten, writtenAt}
+use Rattle.registers.specs.Calls.{addressRefusal, readAccepted, writtenBoard, readCall}
+use Rattle.format.specs.Format.{frameRefusal, recordOf}
+use Rattle.list.specs.Run.{callAt, settle, turnOf, stepped, Run, runOn, runOf}
+
+-- ---- boards
+
+-- channel 0 alone runs, in a mode, with its interrupt enabled
+abbrev inMode : ℕ → HardwareTimer
+inMode mode = timerControl (12 + mode) freshTimer
+
+abbrev running : HardwareTimer → Board
+running h =
+    record {
+      timers = h ∷ freshTimer ∷ freshTimer ∷ freshTimer ∷ [];
+      «timer_enable» = 1;
+      clock = freshBoard .clock;
+      latches = freshBoard .latches;
+      controller = freshBoard .controller;
+    }
+
+abbrev channel0 : Board → HardwareTimer
+channel0 b = getD (b .timers) 0 freshTimer
+
+abbrev clocked : Clock → Board
+clocked k = withClock k freshBoard
+
+abbrev settingA : Board
+settingA = running (withCompare 10 (withPrescaler 2 (inMode 0)))
+
+abbrev settingC : ℕ → Board
+settingC reload = running (withReload reload (withCounter (2 ^ 64 - 3) (withCompare (2 ^ 64 - 2) (inMode 1))))
+
+abbrev timerD : HardwareTimer
+timerD = withFlags false true (inMode 2)
+
+abbrev settingF : Board
+settingF = clocked (withAlarm (record { enable = 1; seconds = 2; pending = false; armed = true }) freshClock)
+
+abbrev settingG : Board
+settingG = clocked (withTime (2 ^ 64 - 1) 0 freshClock)
+
+abbrev settingH : ℕ → IrqOutput
+settingH enable = outputOf (record { pending = 0x0220; enable = enable; levels = 0 })
+
+-- byte i of the eight seconds bytes is i + 1
+seconds : List ℕ → Board → Board
+seconds [] b = b
+seconds (i ∷ more) b = seconds more (writtenBoard (cond (leb i 3) (0x08C + i) (0x084 + i)) (i + 1) b)
+
+settingI : Board
+settingI = seconds (7 ∷ 6 ∷ 5 ∷ 4 ∷ 3 ∷ 2 ∷ 1 ∷ []) (clocked (withControl 3 freshClock))
+
+settingJ : Run
+settingJ = runOf freshBoard [] 0
+
+-- the low count's byte 0 is read, then its last byte is written
+lowCount : Board
+lowCount =
+    writtenBoard 0x28B 0xFF (readAccepted 0x288 (running (withCounter 0x0102_0304_0506_0708 freshTimer)) .board)
+
+-- mode 1 with its match behind it, and enable clear
+abbrev resting : HardwareTimer
+resting = timerControl 9 (withCounter 10 (withCompare 4 (withReload 4 freshTimer)))
+
+-- the line is high, and the pending bit of source 3 that it latched is cleared
+steady : Board
+steady = controllerWritten 1 8 (advancedBoard 30 settingA)
+
+-- document 01's worked run
+worked : Run
+worked =
+    runOf freshBoard
+    (0x02 ∷ 0x00 ∷ 0x02 ∷ 0x00 ∷ 0x83 ∷ 0x04 ∷ 0x00 ∷ 0x08 ∷ 0x00 ∷ 0x00 ∷ 0x00 ∷ 0x00 ∷ 0x00 ∷ 0x00 ∷ 0x00 ∷ 0x01
+    ∷ 0x0A ∷ 0x00 ∷ 0x00 ∷ 0xFF ∷ [])
+    32_768
+
+-- ---- the table
+
+gives : Option ℕ → ℕ → Bool
+gives none n = false
+gives (some d) n = eqb d n
+
+same : List ℕ → List ℕ → Bool
+same [] [] = true
+same [] (y ∷ ys) = false
+same (x ∷ xs) [] = false
+same (x ∷ xs) (y ∷ ys) = eqb x y && same xs ys
+
+pub settings : Bool
+settings =
+    -- A mode 0, compare 10, prescaler 2: D 30, low at 29
+    gives (exactDeadline settingA) 30
+    && not (line (advancedBoard 29 settingA))
+    && line (advancedBoard 30 settingA)
+    -- B mode 1, compare 10, reload 4, 19 ticks: compare 22
+    && eqb (channel0 (advancedBoard 19 (running (withCompare 10 (withReload 4 (inMode 1))))) .compare) 22
+    -- C mode 1, counter 2^64 − 3, compare 2^64 − 2, 1 tick: reload 1 gives compare 2^64 − 1, reload 4 clears enable
+    && eqb (channel0 (advancedBoard 1 (settingC 1)) .compare) (2 ^ 64 - 1)
+    && enabledOf (channel0 (advancedBoard 1 (settingC 1)) .control)
+    && not (enabledOf (channel0 (advancedBoard 1 (settingC 4)) .control))
+    -- D mode 2 armed, all zero: D 2^64; after 2^64 − 1 ticks low, one more high. A distance of 0 is not 0
+    && gives (exactDeadline (running timerD)) (2 ^ 64)
+    && not (line (advancedBoard (2 ^ 64 - 1) (running timerD)))
+    && line (advancedBoard 1 (advancedBoard (2 ^ 64 - 1) (running timerD)))
+    -- E the same, prescaler 2^32 − 1: D 2^96
+    && gives (exactDeadline (running (withPrescaler (2 ^ 32 - 1) timerD))) (2 ^ 96)
+    -- F alarm 2, armed, alarm enable 1: D 96,000,000
+    && gives (exactDeadline settingF) 96_000_000
+    -- G seconds 2^64 − 1: 47,999,999 cycles leave that subsecond, 48,000,000 leave 0
+    && eqb (advancedBoard 47_999_999 settingG .clock .subsecond) 47_999_999
+    && eqb (advancedBoard 48_000_000 settingG .clock .subsecond) 0
+    -- H pending bits 5 and 9, enable 0x0200: 9; 0x0220: 5
+    && settingH 0x0200 .valid
+    && eqb (settingH 0x0200 .number) 9
+    && settingH 0x0220 .valid
+    && eqb (settingH 0x0220 .number) 5
+    -- I set enable on, seven distinct seconds bytes: no commit
+    && eqb (settingI .clock .seconds) 0
+    && eqb (seconds (0 ∷ []) settingI .clock .seconds) 0x0102_0304_0506_0708
+    -- J empty list: no calls, refusal 0
+    && eqb (settingJ .outcome .calls) 0
+    && eqb (settingJ .outcome .refusal) 0
+    -- wrong: the low count latched
+    && eqb (readAccepted 0x28B lowCount .byte) 0xFF
+    -- wrong: a disabled channel's compare moved, where the match disables it, and where it does not run
+    && eqb (channel0 (advancedBoard 1 (settingC 4)) .compare) (2 ^ 64 - 2)
+    && eqb (channel0 (advancedBoard 7 (running resting)) .compare) 4
+    -- wrong: pending from a steady level
+    && source3 (advancedBoard 30 settingA)
+    && line (advancedBoard 1 steady)
+    && not (source3 (advancedBoard 1 steady))
+    -- wrong: subsecond 1 kept when the clock is switched off
+    && eqb (writtenBoard 0x083 0 (clocked (withTime 0 1 freshClock)) .clock .subsecond) 0
+    -- the worked run
+    && eqb (worked .outcome .calls) 3
+    && eqb (worked .outcome .refusal) 2
+    && eqb (worked .outcome .used) 19
+    && same (worked .answers) (2 ∷ 0 ∷ 1 ∷ 1 ∷ 4 ∷ 0 ∷ 1 ∷ 0 ∷ 10 ∷ 0 ∷ 2 ∷ 0 ∷ 0 ∷ [])
+
+pub settings-hold : settings ≡ true
+unfolding
+    seconds settingI settingJ lowCount steady worked gives same settings beAt be withByte enabledOf irqEnabledOf
+    disabled soundTimer lineOf advanced oneShot reloaded matched periodic distance freeRunning tickedIn ticked
+    ticksToGo deadlineOf wordOf controlWritten channelWritten shifted ownNanoseconds timeOf timeSeconds alarmReached
+    checkAlarm movedTime endAdvance advanceClock soundOffset soundAlarm clockParts alarmAhead soundClock
+    clockDeadline signedDifference setTime timeKept changeControl writeControl marked shadowByte offsetFor
+    commitSeconds writeSeconds timeNanoseconds withBit without sourceSet outputOf lowestFrom byteWritten
+    pendingCleared mapFrom foldFrom line exactDeadline wired soundParts sound advancedBoard controllerWritten
+    advanceCall outputCall timerWord clockWord liveWord readLive readCountHigh readChannel secondsLatched readLow
+    readHigh readAt timerWritten clockWritten writtenAt addressRefusal readAccepted writtenBoard readCall
+    frameRefusal recordOf callAt settle turnOf stepped runOn runOf
+settings-hold = refl
