@@ -16,12 +16,15 @@ macro_rules! info {
 pub mod board;
 pub mod bus;
 pub mod call;
+pub mod compare;
 pub mod controller;
 pub mod deadline;
 pub mod fields;
 pub mod generate;
 mod host_time;
 pub mod list;
+#[cfg(feature = "proved")]
+pub mod proved;
 
 /// Stand-in for the simulator's system constants.
 pub mod sys {

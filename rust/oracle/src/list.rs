@@ -44,6 +44,17 @@ pub fn run(board: &mut Board, list: &[u8], answers: &mut [u8]) -> Outcome {
     outcome
 }
 
+/// Runs `first` over a fresh board, and then `list` so many times, each time over the board that the run before it
+/// left. The outcome is the last run's.
+pub fn run_repeated(first: &[u8], list: &[u8], times: u64, answers: &mut [u8]) -> Outcome {
+    let mut board = Board::fresh();
+    let mut outcome = run(&mut board, first, answers);
+    for _ in 0..times {
+        outcome = run(&mut board, list, answers);
+    }
+    outcome
+}
+
 /// The first call of a list that is not empty, and its bytes; or the refusal, 2 to 5.
 pub fn first_call(list: &[u8]) -> Result<(Call, usize), u8> {
     let &[tag, high, low, ref rest @ ..] = list else {

@@ -1,6 +1,7 @@
 //! Tests of the oracle, one module for a part of document 01.
 
 mod clock;
+mod compare;
 mod controller;
 mod demand;
 mod generated;

@@ -1,0 +1,80 @@
+// The C interface of the proved board: functions on numbers and byte slices, for programs in other languages to link.
+// A byte slice is a pointer and a length; a number that is lent is written before the call returns.
+ghost use mathlib.Core.Path.{_≡_};
+ghost use Rattle.pec.specs.Repeats.{started, ran, repeats};
+use board::Board;
+use list::Outcome;
+
+mod irqc;
+
+// A list over a fresh board, and then another list a number of times, each time over the board that the run before it
+// left. Each run writes its answers from the buffer's first byte.
+fn repeated(first: &[u8], list: &[u8], times: u64, answers: &mut [u8]) -> Outcome
+    ensures { λ r. ⌜ r ≡ repeats times (now (list .entry))
+        (ran (now (first .entry)) (started (now (answers .entry)))) .outcome ⌝ }
+    ensures { λ _. ⌜ now (answers .exit) ≡ repeats times (now (list .entry))
+        (ran (now (first .entry)) (started (now (answers .entry)))) .buffer ⌝ }
+{
+    let mut r = list::run(Board::fresh(), first, answers);
+    let mut k = 0;
+    while k < times {
+        let board = r.board;
+        r = list::run(board, list, answers);
+        k += 1;
+    }
+    r
+}
+
+// Runs a list over a fresh board into a lent buffer. Gives the calls done, the list bytes that they used, the answer
+// bytes, and as its result the refusal, 0 for none.
+#[no_mangle]
+pub extern "C" fn pec_run(
+    list: &[u8],
+    answers: &mut [u8],
+    calls: &mut usize,
+    used: &mut usize,
+    written: &mut usize,
+) -> u8
+    ensures { λ r. ⌜ r ≡ ran (now (list .entry)) (started (now (answers .entry))) .outcome .refusal ⌝ }
+    ensures { λ _. ⌜ now (answers .exit) ≡ ran (now (list .entry)) (started (now (answers .entry))) .buffer ⌝ }
+    ensures { λ _. ⌜ now (calls .exit) ≡ ran (now (list .entry)) (started (now (answers .entry))) .outcome .calls ⌝ }
+    ensures { λ _. ⌜ now (used .exit) ≡ ran (now (list .entry)) (started (now (answers .entry))) .outcome .used ⌝ }
+    ensures { λ _. ⌜ now (written .exit)
+        ≡ ran (now (list .entry)) (started (now (answers .entry))) .outcome .written ⌝ }
+{
+    let r = list::run(Board::fresh(), list, answers);
+    *calls = r.calls;
+    *used = r.used;
+    *written = r.written;
+    r.refusal
+}
+
+// Runs a list over a fresh board, and then another list a number of times, each time over the board that the run before
+// it left. The results are those of the last run.
+#[no_mangle]
+pub extern "C" fn pec_run_repeated(
+    first: &[u8],
+    list: &[u8],
+    times: u64,
+    answers: &mut [u8],
+    calls: &mut usize,
+    used: &mut usize,
+    written: &mut usize,
+) -> u8
+    ensures { λ r. ⌜ r ≡ repeats times (now (list .entry))
+        (ran (now (first .entry)) (started (now (answers .entry)))) .outcome .refusal ⌝ }
+    ensures { λ _. ⌜ now (answers .exit) ≡ repeats times (now (list .entry))
+        (ran (now (first .entry)) (started (now (answers .entry)))) .buffer ⌝ }
+    ensures { λ _. ⌜ now (calls .exit) ≡ repeats times (now (list .entry))
+        (ran (now (first .entry)) (started (now (answers .entry)))) .outcome .calls ⌝ }
+    ensures { λ _. ⌜ now (used .exit) ≡ repeats times (now (list .entry))
+        (ran (now (first .entry)) (started (now (answers .entry)))) .outcome .used ⌝ }
+    ensures { λ _. ⌜ now (written .exit) ≡ repeats times (now (list .entry))
+        (ran (now (first .entry)) (started (now (answers .entry)))) .outcome .written ⌝ }
+{
+    let r = repeated(first, list, times, answers);
+    *calls = r.calls;
+    *used = r.used;
+    *written = r.written;
+    r.refusal
+}

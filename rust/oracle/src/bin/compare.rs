@@ -1,0 +1,84 @@
+//! Compares the proved board with the original Rust, through the static library.
+//!
+//! `compare FIRST LAST` compares the lists of the seeds from FIRST to LAST, and what the boards hold after each.
+//! `compare all FIRST LAST` compares these, and every register with every byte, damaged lists, short buffers, and the
+//! controller by itself. Ends with how many comparisons agreed, or prints the shortest list that shows a difference.
+
+use std::process::ExitCode;
+use std::time::Instant;
+
+use oracle::compare::{controller, passes, Count, Difference, Pair};
+use oracle::{list, proved};
+
+const PAIR: Pair = Pair {
+    rust: list::run_repeated,
+    other: proved::run_repeated,
+};
+
+fn main() -> ExitCode {
+    let arguments: Vec<String> = std::env::args().skip(1).collect();
+    let arguments: Vec<&str> = arguments.iter().map(String::as_str).collect();
+    let (all, first, last) = match arguments[..] {
+        [first, last] => (false, first.parse::<u64>(), last.parse::<u64>()),
+        ["all", first, last] => (true, first.parse(), last.parse()),
+        _ => return usage(),
+    };
+    let (Ok(first), Ok(last)) = (first, last) else {
+        return usage();
+    };
+    if last < first {
+        return usage();
+    }
+    match compare(all, first, last) {
+        Ok(count) => {
+            println!("{} comparisons agree, {} calls", count.comparisons, count.calls);
+            ExitCode::SUCCESS
+        }
+        Err(text) => {
+            eprintln!("compare: {text}");
+            ExitCode::FAILURE
+        }
+    }
+}
+
+fn usage() -> ExitCode {
+    eprintln!("usage: compare [all] FIRST LAST (seeds, decimal, 64 bits)");
+    ExitCode::FAILURE
+}
+
+fn compare(all: bool, first: u64, last: u64) -> Result<Count, String> {
+    let mut total = Count::default();
+    let mut own = 0;
+    let lists = part("lists by seed", &mut total, || {
+        let mut count = Count::default();
+        for seed in first..=last {
+            own += passes::seed_calls(&PAIR, seed);
+            count.add(passes::seed(&PAIR, seed).map_err(|difference| format!("seed {seed}: {difference}"))?);
+        }
+        Ok(count)
+    });
+    lists?;
+    println!("  of these, {own} calls of the seeds' own lists");
+    if all {
+        let text = |difference: Box<Difference>| difference.to_string();
+        part("registers", &mut total, || passes::registers(&PAIR).map_err(text))?;
+        part("damaged lists", &mut total, || passes::damaged(&PAIR).map_err(text))?;
+        part("short buffers", &mut total, || {
+            passes::short_buffers(&PAIR).map_err(text)
+        })?;
+        part("controller", &mut total, controller::compare)?;
+    }
+    Ok(total)
+}
+
+fn part(name: &str, total: &mut Count, compare: impl FnOnce() -> Result<Count, String>) -> Result<(), String> {
+    let start = Instant::now();
+    let count = compare()?;
+    total.add(count);
+    let seconds = start.elapsed().as_secs_f64();
+    println!(
+        "{name}: {} comparisons, {} calls, {seconds:.1} s",
+        count.comparisons, count.calls
+    );
+    Ok(())
+}

@@ -1,0 +1,235 @@
+//! What is compared: lists by seed, every register with every byte, damaged lists, short buffers.
+
+use std::thread;
+
+use super::{list_of, readouts, Count, Difference, Pair};
+use crate::call::{answer_length, Call, HEADER};
+use crate::generate;
+use crate::registers::{self, channel, of_channel, CHANNELS};
+
+/// The answer buffer of a run that is to have room.
+pub const BUFFER: usize = 32_768;
+
+/// The answer buffer of the pass over the registers: room for the lists of `prepared` and for `state_readout`.
+pub const REGISTERS_BUFFER: usize = 4_096;
+
+type Compared = Result<Count, Box<Difference>>;
+
+/// The list of a seed, then what the board holds after it, and then the list of the next seed over that board.
+pub fn seed(pair: &Pair, seed: u64) -> Compared {
+    let generated = generate::list(seed);
+    let list = &generated.list;
+    let mut count = pair.compare(list, None, generated.buffer)?;
+    for readout in readouts() {
+        count.add(pair.compare(list, Some(&readout), BUFFER)?);
+    }
+    let next = generate::list(seed.wrapping_add(1));
+    count.add(pair.compare(list, Some(&next.list), next.buffer)?);
+    Ok(count)
+}
+
+/// The calls of the list of a seed that a run carries out, to count them.
+pub fn seed_calls(pair: &Pair, seed: u64) -> u64 {
+    let generated = generate::list(seed);
+    (pair.rust)(&generated.list, &[], 0, &mut vec![0; generated.buffer]).calls as u64
+}
+
+/// Every register address with every byte written, and read, over several boards: what each board holds afterwards.
+/// The addresses are shared out over the machine's processors.
+pub fn registers(pair: &Pair) -> Compared {
+    let workers = thread::available_parallelism().map_or(1, usize::from);
+    let results: Vec<Compared> = thread::scope(|scope| {
+        let spawned: Vec<_> = (0..workers)
+            .map(|worker| scope.spawn(move || registers_from(pair, worker, workers)))
+            .collect();
+        spawned
+            .into_iter()
+            .map(|one| one.join().expect("a comparison panicked"))
+            .collect()
+    });
+    let mut count = Count::default();
+    for result in results {
+        count.add(result?);
+    }
+    Ok(count)
+}
+
+/// The addresses from `start` on, in steps.
+fn registers_from(pair: &Pair, start: usize, step: usize) -> Compared {
+    let mut count = Count::default();
+    let state = state_readout();
+    for board in prepared() {
+        for address in (0..registers::SIZE).skip(start).step_by(step) {
+            let read = list_of(&[Call::Read { address }]);
+            for readout in readouts() {
+                count.add(pair.compare(&[&board[..], &read].concat(), Some(&readout), BUFFER)?);
+            }
+            for byte in 0..=255 {
+                let write = list_of(&[Call::Write { address, byte }]);
+                count.add(pair.compare(&[&board[..], &write].concat(), Some(&state), REGISTERS_BUFFER)?);
+            }
+        }
+    }
+    Ok(count)
+}
+
+/// Lists that leave boards with little set, with every field set, about to commit, with an alarm due on host time and
+/// with latches held.
+pub fn prepared() -> Vec<Vec<u8>> {
+    let write = |address, byte| Call::Write { address, byte };
+    let word = |address: u16, value: u32| -> Vec<Call> {
+        (address..)
+            .zip(value.to_be_bytes())
+            .map(|(address, byte)| write(address, byte))
+            .collect()
+    };
+    let mut about_to_commit = vec![write(registers::CLOCK_CONTROL + 3, 7)];
+    about_to_commit.push(Call::HostTime {
+        seconds: 1,
+        nanoseconds: 5,
+    });
+    about_to_commit.extend(word(registers::SECONDS_HIGH, 0x0102_0304));
+    about_to_commit.extend(&word(registers::SECONDS_LOW, 0x0506_0708)[..3]);
+    about_to_commit.extend(&word(registers::ALARM_HIGH, 0)[1..]);
+    about_to_commit.extend(word(registers::ALARM_LOW, 3));
+    about_to_commit.push(write(registers::ALARM_ENABLE + 3, 1));
+
+    let mut alarm_due = Vec::new();
+    for number in 0..CHANNELS {
+        let register = |register| of_channel(number, register);
+        alarm_due.extend(word(register(channel::COUNT_HIGH), 0x0102_0304 + number as u32));
+        alarm_due.push(Call::Read {
+            address: register(channel::COUNT_LOW),
+        });
+    }
+    alarm_due.push(write(registers::CLOCK_CONTROL + 3, 5));
+    alarm_due.push(Call::Read {
+        address: registers::SECONDS_LOW,
+    });
+    alarm_due.extend(word(registers::ALARM_HIGH, 0));
+    alarm_due.extend(word(registers::ALARM_LOW, 3));
+    alarm_due.push(write(registers::ALARM_ENABLE + 3, 1));
+    alarm_due.push(Call::HostTime {
+        seconds: 3,
+        nanoseconds: 0,
+    });
+
+    let mut busy = Vec::new();
+    for number in 0..CHANNELS {
+        let register = |register| of_channel(number, register);
+        for (place, value) in [
+            (channel::PRESCALER, 2),
+            (channel::RELOAD_HIGH, 0x0F1E_2D3C),
+            (channel::RELOAD_LOW, 0x4B5A_6978),
+            (channel::COUNT_HIGH, 0x1122_3344),
+            (channel::COUNT_LOW, 0x5566_7788),
+            (channel::COMPARE_HIGH, 0x1122_3344),
+            (channel::COMPARE_LOW, 0x5566_7798),
+        ] {
+            busy.extend(word(register(place), value));
+        }
+        busy.push(write(register(channel::CONTROL) + 3, 12 + number as u8));
+    }
+    busy.extend(word(registers::ALARM_HIGH, 0));
+    busy.extend(word(registers::ALARM_LOW, 1));
+    busy.push(write(registers::ALARM_ENABLE + 3, 1));
+    busy.push(write(registers::ENABLE + 3, 15));
+    busy.push(Call::ControllerWrite { address: 5, byte: 8 });
+    let mut fired = busy.clone();
+    fired.push(Call::Advance { cycles: 48_000_001 });
+    busy.push(Call::Advance { cycles: 10 });
+
+    [vec![], about_to_commit, alarm_due, busy, fired]
+        .iter()
+        .map(|calls| list_of(calls))
+        .collect()
+}
+
+/// Shows the state in fewer calls than `readouts`: every register that is there, deadline, controller and line.
+pub fn state_readout() -> Vec<u8> {
+    let mut calls = vec![Call::Deadline, Call::Output];
+    calls.extend((0..6).map(|address| Call::ControllerRead { address }));
+    let mut words = vec![registers::IDENTITY, registers::ENABLE, registers::ACKNOWLEDGE];
+    words.extend((registers::CLOCK_CONTROL..=registers::ALARM_ACKNOWLEDGE).step_by(4));
+    for number in 0..CHANNELS {
+        words.extend(
+            (channel::CONTROL..=channel::PRESCALER)
+                .step_by(4)
+                .map(|register| of_channel(number, register)),
+        );
+    }
+    // The high word of a latched pair first, so that its latch shows.
+    words.sort_by_key(|word| std::cmp::Reverse(*word));
+    for word in words {
+        calls.extend((word..word + 4).map(|address| Call::Read { address }));
+    }
+    calls.push(Call::Advance { cycles: 7 });
+    list_of(&calls)
+}
+
+/// One call of each tag.
+fn every_tag() -> Vec<Call> {
+    vec![
+        Call::HostTime {
+            seconds: 7,
+            nanoseconds: 999_999_999,
+        },
+        Call::Write {
+            address: registers::ALARM_ENABLE + 3,
+            byte: 1,
+        },
+        Call::Read {
+            address: registers::CLOCK_CONTROL + 3,
+        },
+        Call::Source { number: 15, level: 1 },
+        Call::ControllerWrite { address: 4, byte: 0x80 },
+        Call::ControllerRead { address: 0 },
+        Call::Output,
+        Call::Advance { cycles: 48_000_000 },
+        Call::Deadline,
+        Call::Skip,
+    ]
+}
+
+/// A list with every tag, cut at every place, and with every byte replaced by every other.
+pub fn damaged(pair: &Pair) -> Compared {
+    let list = list_of(&every_tag());
+    let mut count = Count::default();
+    for end in 0..=list.len() {
+        count.add(pair.compare(&list[..end], None, BUFFER)?);
+    }
+    for place in 0..list.len() {
+        for byte in 0..=255 {
+            let mut list = list.clone();
+            list[place] = byte;
+            count.add(pair.compare(&list, None, BUFFER)?);
+        }
+    }
+    Ok(count)
+}
+
+/// Lists that need more room than the buffer has: one with every tag at every length of the buffer, and long ones at
+/// lengths about the end of one of their records.
+pub fn short_buffers(pair: &Pair) -> Compared {
+    let calls = every_tag();
+    let list = list_of(&calls);
+    let room: usize = calls.iter().map(|call| HEADER + answer_length(call.tag())).sum();
+    let mut count = Count::default();
+    for buffer in 0..=room + 1 {
+        count.add(pair.compare(&list, None, buffer)?);
+    }
+    for call in calls {
+        let record = HEADER + answer_length(call.tag());
+        let list = list_of(&vec![call; BUFFER / record + 2]);
+        for buffer in [
+            BUFFER - 1,
+            BUFFER,
+            BUFFER + 1,
+            BUFFER / record * record,
+            BUFFER / record * record - 1,
+        ] {
+            count.add(pair.compare(&list, None, buffer)?);
+        }
+    }
+    Ok(count)
+}

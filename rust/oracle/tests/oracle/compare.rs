@@ -1,0 +1,121 @@
+//! The comparison finds planted faults and shortens what shows them; the lists of its passes are not refused.
+
+use oracle::call::Call;
+use oracle::compare::passes::{self, BUFFER, REGISTERS_BUFFER};
+use oracle::compare::{list_of, readouts, shortest, Pair};
+use oracle::list::{run_repeated, Outcome};
+use oracle::registers;
+
+const ADVANCE: u8 = 4;
+const SKIP: u8 = 6;
+
+/// The Rust but for the last answer byte of a run that ends in a skip, which it flips.
+fn flipped(first: &[u8], list: &[u8], times: u64, answers: &mut [u8]) -> Outcome {
+    let outcome = run_repeated(first, list, times, answers);
+    let last = if times == 0 { first } else { list };
+    if outcome.refusal == 0 && last.ends_with(&[SKIP, 0, 0]) {
+        answers[outcome.answer_bytes - 1] ^= 1;
+    }
+    outcome
+}
+
+/// The Rust but for a refusal 11 that comes one byte early.
+fn early(first: &[u8], list: &[u8], times: u64, answers: &mut [u8]) -> Outcome {
+    let length = answers.len();
+    run_repeated(first, list, times, &mut answers[..length.saturating_sub(1)])
+}
+
+/// The Rust but for a byte that it writes past the answers.
+fn past_the_end(first: &[u8], list: &[u8], times: u64, answers: &mut [u8]) -> Outcome {
+    let outcome = run_repeated(first, list, times, answers);
+    if let Some(byte) = answers.get_mut(outcome.answer_bytes) {
+        *byte = byte.wrapping_add(1);
+    }
+    outcome
+}
+
+/// The Rust but for a control byte of channel 0 that it loses.
+fn lost_write(first: &[u8], list: &[u8], times: u64, answers: &mut [u8]) -> Outcome {
+    let address = registers::of_channel(0, registers::channel::CONTROL) + 3;
+    let [high, low] = address.to_be_bytes();
+    let mut first = first.to_vec();
+    let write = [3, 0, 3, high, low];
+    while let Some(place) = first.windows(5).position(|bytes| bytes == write) {
+        first[place + 4] = low.wrapping_add(0x10);
+    }
+    run_repeated(&first, list, times, answers)
+}
+
+fn pair(other: oracle::compare::Runner) -> Pair {
+    Pair {
+        rust: run_repeated,
+        other,
+    }
+}
+
+#[test]
+fn the_rust_agrees_with_itself() {
+    let same = pair(run_repeated);
+    let count = passes::seed(&same, 1).unwrap();
+    assert_eq!(count.comparisons, 6);
+    assert!(count.calls > 1_800);
+    passes::damaged(&same).unwrap();
+    passes::short_buffers(&same).unwrap();
+}
+
+#[test]
+fn a_wrong_answer_is_found_and_shown_by_one_call() {
+    let calls = [Call::Advance { cycles: 3 }, Call::Output, Call::Skip];
+    let difference = pair(flipped).compare(&list_of(&calls), None, 100).unwrap_err();
+    assert_eq!(difference.first, [SKIP, 0, 0]);
+    assert!(difference.second.is_empty());
+    let text = difference.to_string();
+    assert!(text.contains("060000  Skip"), "{text}");
+    let difference = pair(flipped)
+        .compare(&list_of(&calls), Some(&list_of(&calls)), 100)
+        .unwrap_err();
+    assert_eq!((difference.first, difference.second), (vec![], vec![SKIP, 0, 0]));
+}
+
+#[test]
+fn an_early_refusal_and_a_byte_past_the_answers_are_found() {
+    for fault in [early, past_the_end] {
+        assert!(passes::short_buffers(&pair(fault)).is_err());
+    }
+    assert!(passes::damaged(&pair(past_the_end)).is_err());
+}
+
+#[test]
+fn a_lost_register_write_is_found_by_the_readouts() {
+    let found = (1..50).find_map(|seed| passes::seed(&pair(lost_write), seed).err());
+    let difference = found.expect("no seed of these writes the control of channel 0");
+    // One write shows it.
+    assert_eq!(difference.first.len(), 6, "{difference}");
+}
+
+#[test]
+fn the_shortest_list_keeps_only_what_fails() {
+    let calls: Vec<Call> = (0..50).map(|cycles| Call::Advance { cycles }).collect();
+    let list = list_of(&calls);
+    let has = |list: &[u8], cycles: u64| list.chunks(11).any(|call| call[3..] == cycles.to_be_bytes());
+    let two = shortest(&list, |list| has(list, 7) && has(list, 41));
+    assert_eq!(two, list_of(&[calls[7], calls[41]]));
+    // What is no whole call is a part by itself.
+    let damaged = [&list[..], &[ADVANCE, 0]].concat();
+    assert_eq!(shortest(&damaged, |list| list.ends_with(&[ADVANCE, 0])), [ADVANCE, 0]);
+    // An odd number of calls fails: no single call of three can be left out, but two can.
+    assert_eq!(shortest(&list[..33], |list| list.len() / 11 % 2 == 1).len(), 11);
+}
+
+#[test]
+fn the_lists_of_the_passes_run_to_their_ends() {
+    let mut answers = vec![0; REGISTERS_BUFFER];
+    let state = passes::state_readout();
+    for prepared in passes::prepared() {
+        assert_eq!(run_repeated(&prepared, &[], 0, &mut answers).refusal, 0);
+        assert_eq!(run_repeated(&prepared, &state, 1, &mut answers).refusal, 0);
+    }
+    for readout in readouts() {
+        assert_eq!(run_repeated(&readout, &[], 0, &mut vec![0; BUFFER]).refusal, 0);
+    }
+}
