@@ -68,7 +68,8 @@ use Rattle.registers.specs.Reads.{readLive, readCountHigh, readChannel, seconds
 use Rattle.offsets.specs.Writes.{timerWritten, clockWritten, writtenAt}
 use Rattle.registers.specs.Calls.{addressRefusal, readAccepted, writtenBoard, readCall}
 use Rattle.format.specs.Format.{frameRefusal, recordOf}
-use Rattle.list.specs.Run.{callAt, settle, turnOf, stepped, Run, runOn, runOf}
+use Rattle.perform.specs.Calls.{callAt}
+use Rattle.list.specs.Run.{settle, turnOf, stepped, Run, runOn, runOf}
 
 -- ---- boards
 

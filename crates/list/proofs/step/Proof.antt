@@ -8,7 +8,8 @@ use borrow.Author.Tests.{ne-eqb}
 use Rattle.board.proofs.Soundness.{facts-sound}
 use Rattle.board.proofs.Steps.{good}
 use Rattle.format.specs.Format.{frameRefusal}
-use Rattle.list.specs.Run.{Turn, toldBy, turnOf, stepped, bytesOf}
+use Rattle.perform.specs.Calls.{toldBy}
+use Rattle.list.specs.Run.{Turn, turnOf, stepped, bytesOf}
 use Rattle.format.proofs.Frames.{framed}
 use Rattle.list.proofs.Kept.{step-good}
 use Rattle.list.proofs.Runs.{turn-refused, turn-settled}

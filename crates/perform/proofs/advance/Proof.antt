@@ -1,9 +1,9 @@
--- `calls::advance` meets its contract. Assumes nothing.
+-- `advance` meets its contract. Assumes nothing.
 use Rattle.board.specs.Calls.{advanceCall}
 use Rattle.format.specs.Format.{valueBytes}
 use borrow.Author.Needs.{needs}
-use Rattle.list.proofs.calls.advance.Statement.{statement}
-use Rattle.list.proofs.calls.advance.Tie as tie
+use Rattle.perform.proofs.advance.Statement.{statement}
+use Rattle.perform.proofs.advance.Tie as tie
 
 advanced-requires : tie.Need-advanced-requires
 advanced-requires c κs = search needs

@@ -1,10 +1,10 @@
--- `calls::write` meets its contract. Assumes nothing.
+-- `write` meets its contract. Assumes nothing.
 use mathlib.Core.Path.{_∙_}
 use Rattle.registers.specs.Calls.{addressRefusal, writtenBoard, writeCall}
-use Rattle.list.proofs.Answers.{empty-told}
+use Rattle.perform.proofs.Answers.{empty-told}
 use borrow.Author.Needs.{needs}
-use Rattle.list.proofs.calls.write.Statement.{statement}
-use Rattle.list.proofs.calls.write.Tie as tie
+use Rattle.perform.proofs.write.Statement.{statement}
+use Rattle.perform.proofs.write.Tie as tie
 
 address-refusal-requires : tie.Need-address-refusal-requires
 address-refusal-requires c κs = search needs

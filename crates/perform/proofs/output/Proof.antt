@@ -1,9 +1,9 @@
--- `calls::output` meets its contract. Assumes nothing.
+-- `output` meets its contract. Assumes nothing.
 use Rattle.format.specs.Format.{valueBytes}
-use Rattle.list.proofs.Answers.{output-told}
+use Rattle.perform.proofs.Answers.{output-told}
 use borrow.Author.Needs.{needs}
-use Rattle.list.proofs.calls.output.Statement.{statement}
-use Rattle.list.proofs.calls.output.Tie as tie
+use Rattle.perform.proofs.output.Statement.{statement}
+use Rattle.perform.proofs.output.Tie as tie
 
 output-of-requires : tie.Need-output-of-requires
 output-of-requires c κs = search needs

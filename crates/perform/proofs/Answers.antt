@@ -26,7 +26,7 @@ use Rattle.board.specs.Calls.{
 }
 use Rattle.board.proofs.Soundness.{wired-sound}
 use Rattle.registers.specs.Calls.{addressRefusal, readAccepted, readCall}
-use Rattle.list.specs.Run.{emptyTold, byteTold, deadlineTold, skipTold, outputTold}
+use Rattle.perform.specs.Calls.{emptyTold, byteTold, deadlineTold, skipTold, outputTold}
 
 module _ (b : Board) (s : sound b ≡ true) where
   pub empty-told : (own refusal : ℕ) (next after : Board) → refusal ≡ own → after ≡ next →

@@ -1,9 +1,9 @@
--- `calls::controller_read` meets its contract. Assumes nothing.
+-- `controller_read` meets its contract. Assumes nothing.
 use Rattle.format.specs.Format.{valueBytes}
-use Rattle.list.proofs.Answers.{controller-read-told}
+use Rattle.perform.proofs.Answers.{controller-read-told}
 use borrow.Author.Needs.{needs}
-use Rattle.list.proofs.calls.controller_read.Statement.{statement}
-use Rattle.list.proofs.calls.controller_read.Tie as tie
+use Rattle.perform.proofs.controller_read.Statement.{statement}
+use Rattle.perform.proofs.controller_read.Tie as tie
 
 read-of-requires : tie.Need-read-of-requires
 read-of-requires c κs = search needs

@@ -9,8 +9,8 @@ ghost use Rattle.board.specs.Calls.{emptyAnswer, hostTimeCall, advanceCall, ski
 ghost use Rattle.board.specs.Calls.{controllerReadCall, controllerWriteCall, outputCall};
 ghost use Rattle.registers.specs.Calls.{readCall, writeCall};
 ghost use Rattle.format.specs.Format.{widthOf};
-ghost use Rattle.list.specs.Run.{toldBy, emptyTold, byteTold, advanceTold, deadlineTold, skipTold, outputTold};
-ghost use Rattle.list.specs.Run.{callAt};
+ghost use Rattle.perform.specs.Calls.{toldBy, emptyTold, byteTold, advanceTold, deadlineTold, skipTold};
+ghost use Rattle.perform.specs.Calls.{outputTold, callAt};
 use board::Board;
 use board::calls::host_time_refusal;
 use board::calls::source_refusal;

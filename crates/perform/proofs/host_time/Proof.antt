@@ -1,10 +1,10 @@
--- `calls::host_time` meets its contract. Assumes nothing.
+-- `host_time` meets its contract. Assumes nothing.
 use mathlib.Core.Path.{_∙_}
 use Rattle.board.specs.Calls.{hostTimeRefusal, hostedBoard, hostTimeCall}
-use Rattle.list.proofs.Answers.{empty-told}
+use Rattle.perform.proofs.Answers.{empty-told}
 use borrow.Author.Needs.{needs}
-use Rattle.list.proofs.calls.host_time.Statement.{statement}
-use Rattle.list.proofs.calls.host_time.Tie as tie
+use Rattle.perform.proofs.host_time.Statement.{statement}
+use Rattle.perform.proofs.host_time.Tie as tie
 
 host-time-refusal-requires : tie.Need-host-time-refusal-requires
 host-time-refusal-requires c κs = search needs

@@ -1,10 +1,10 @@
--- `calls::source` meets its contract. Assumes nothing.
+-- `source` meets its contract. Assumes nothing.
 use mathlib.Core.Path.{_∙_}
 use Rattle.board.specs.Calls.{sourceRefusal, sourcedBoard, sourceCall}
-use Rattle.list.proofs.Answers.{empty-told}
+use Rattle.perform.proofs.Answers.{empty-told}
 use borrow.Author.Needs.{needs}
-use Rattle.list.proofs.calls.source.Statement.{statement}
-use Rattle.list.proofs.calls.source.Tie as tie
+use Rattle.perform.proofs.source.Statement.{statement}
+use Rattle.perform.proofs.source.Tie as tie
 
 source-refusal-requires : tie.Need-source-refusal-requires
 source-refusal-requires c κs = search needs

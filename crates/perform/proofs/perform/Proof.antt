@@ -1,12 +1,12 @@
--- `calls::perform` meets its contract. Assumes nothing.
+-- `perform` meets its contract. Assumes nothing.
 use Prim.Native.Nat.{_≤_}
 use native.Mathlib.Omega.{arith}
 use lib.ListN.{length}
 use borrow.Author.Tests.{ne-eqb}
-use Rattle.list.specs.Run.{callAt}
+use Rattle.perform.specs.Calls.{callAt}
 use borrow.Author.Needs.{needs}
-use Rattle.list.proofs.calls.perform.Statement.{statement}
-use Rattle.list.proofs.calls.perform.Tie as tie
+use Rattle.perform.proofs.perform.Statement.{statement}
+use Rattle.perform.proofs.perform.Tie as tie
 
 get-requires : tie.Need-get-requires
 get-requires c κs =

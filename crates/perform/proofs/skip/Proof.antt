@@ -1,9 +1,9 @@
--- `calls::skip` meets its contract. Assumes nothing.
+-- `skip` meets its contract. Assumes nothing.
 use Rattle.format.specs.Format.{valueBytes}
-use Rattle.list.proofs.Answers.{skip-told}
+use Rattle.perform.proofs.Answers.{skip-told}
 use borrow.Author.Needs.{needs}
-use Rattle.list.proofs.calls.skip.Statement.{statement}
-use Rattle.list.proofs.calls.skip.Tie as tie
+use Rattle.perform.proofs.skip.Statement.{statement}
+use Rattle.perform.proofs.skip.Tie as tie
 
 skipped-requires : tie.Need-skipped-requires
 skipped-requires c κs = search needs

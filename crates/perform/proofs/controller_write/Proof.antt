@@ -1,10 +1,10 @@
--- `calls::controller_write` meets its contract. Assumes nothing.
+-- `controller_write` meets its contract. Assumes nothing.
 use mathlib.Core.Path.{refl, _∙_}
 use Rattle.board.specs.Calls.{controllerWritten, controllerWriteCall}
-use Rattle.list.proofs.Answers.{empty-told}
+use Rattle.perform.proofs.Answers.{empty-told}
 use borrow.Author.Needs.{needs}
-use Rattle.list.proofs.calls.controller_write.Statement.{statement}
-use Rattle.list.proofs.calls.controller_write.Tie as tie
+use Rattle.perform.proofs.controller_write.Statement.{statement}
+use Rattle.perform.proofs.controller_write.Tie as tie
 
 controller-written-requires : tie.Need-controller-written-requires
 controller-written-requires c κs = search needs

@@ -1,11 +1,11 @@
--- `calls::deadline` meets its contract. Assumes nothing.
+-- `deadline` meets its contract. Assumes nothing.
 use mathlib.Core.Path.{sym, ap, _∙_}
 use Rattle.wide.specs.Deadline.{numberOf}
 use Rattle.format.specs.Format.{valueBytes}
-use Rattle.list.proofs.Answers.{deadline-none, deadline-some}
+use Rattle.perform.proofs.Answers.{deadline-none, deadline-some}
 use borrow.Author.Needs.{needs}
-use Rattle.list.proofs.calls.deadline.Statement.{statement}
-use Rattle.list.proofs.calls.deadline.Tie as tie
+use Rattle.perform.proofs.deadline.Statement.{statement}
+use Rattle.perform.proofs.deadline.Tie as tie
 
 exact-deadline-requires : tie.Need-exact-deadline-requires
 exact-deadline-requires c κs = search needs

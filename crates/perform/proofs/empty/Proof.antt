@@ -1,8 +1,8 @@
--- `calls::empty` meets its contract. Assumes nothing.
+-- `empty` meets its contract. Assumes nothing.
 use borrow.Author.Tests.{eq-eqb, ne-eqb}
 use Rattle.format.specs.Format.{valueBytes}
-use Rattle.list.proofs.calls.empty.Statement.{statement}
-use Rattle.list.proofs.calls.empty.Tie as tie
+use Rattle.perform.proofs.empty.Statement.{statement}
+use Rattle.perform.proofs.empty.Tie as tie
 
 returns : tie.Need-returns
 unfolding valueBytes

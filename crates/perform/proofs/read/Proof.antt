@@ -1,10 +1,10 @@
--- `calls::read` meets its contract. Assumes nothing.
+-- `read` meets its contract. Assumes nothing.
 use borrow.Author.Tests.{ne-eqb}
 use Rattle.format.specs.Format.{valueBytes}
-use Rattle.list.proofs.Answers.{read-told, read-refused}
+use Rattle.perform.proofs.Answers.{read-told, read-refused}
 use borrow.Author.Needs.{needs}
-use Rattle.list.proofs.calls.read.Statement.{statement}
-use Rattle.list.proofs.calls.read.Tie as tie
+use Rattle.perform.proofs.read.Statement.{statement}
+use Rattle.perform.proofs.read.Tie as tie
 
 address-refusal-requires : tie.Need-address-refusal-requires
 address-refusal-requires c κs = search needs
