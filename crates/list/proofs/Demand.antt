@@ -15,7 +15,8 @@ use Rattle.board.specs.Demand.{Call, advance, hostTime, after, afterAll, Told}
 use Rattle.board.proofs.Demand3.{demand-3}
 use Rattle.list.specs.declared.Outcome.{Outcome}
 use Rattle.format.specs.Format.{tagAt, frameRefusal}
-use Rattle.list.specs.Run.{callAt, Turn, done, refused, turnOf, stepped, Run, runOn, startOf, runOf}
+use Rattle.perform.specs.Calls.{callAt}
+use Rattle.list.specs.Run.{Turn, done, refused, turnOf, stepped, Run, runOn, startOf, runOf}
 use Rattle.list.specs.Demand.{FrontIs, ListIs}
 use Rattle.format.proofs.Frames.{framed}
 use Rattle.list.proofs.Runs.{Placed, turn-placed, go-on, stop-at}

@@ -37,7 +37,8 @@ use Rattle.board.proofs.Steps.{Good, wired-level, advance-step, call-step}
 use Rattle.registers.proofs.Kept.{read-good, write-good}
 use Rattle.list.specs.declared.Outcome.{Outcome}
 use Rattle.format.specs.Format.{tagAt, frameRefusal, recordOf}
-use Rattle.list.specs.Run.{Told, deadlineTold, callAt, Turn, settle, turnOf, stepped}
+use Rattle.perform.specs.Calls.{Told, deadlineTold, callAt}
+use Rattle.list.specs.Run.{Turn, settle, turnOf, stepped}
 
 -- ---- the calls of the board
 

@@ -1,4 +1,3 @@
-mod Answers
 mod Kept
 mod Runs
 pub mod Demand

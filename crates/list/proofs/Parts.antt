@@ -16,7 +16,8 @@ use Rattle.board.proofs.Soundness.{facts-sound}
 use Rattle.board.proofs.Steps.{Good, good}
 use Rattle.list.specs.declared.Outcome.{Outcome}
 use Rattle.format.specs.Format.{widthOf, tagAt, frameRefusal}
-use Rattle.list.specs.Run.{callAt, Turn, done, refused, turnOf, stepped, Run, runOn, startOf, runOf, over}
+use Rattle.perform.specs.Calls.{callAt}
+use Rattle.list.specs.Run.{Turn, done, refused, turnOf, stepped, Run, runOn, startOf, runOf, over}
 use Rattle.format.proofs.Frames.{field-before, framed, tag-before, frame-before}
 use Rattle.list.proofs.Kept.{step-good}
 use Rattle.list.proofs.Runs.{Placed, turn-placed, done-fits, next-done, next-refused}

@@ -14,21 +14,10 @@ use Rattle.wide.proofs.Choices.{choose}
 use Rattle.board.specs.declared.Board.{Board}
 use Rattle.board.specs.Board.{BoardFits, sound}
 use Rattle.list.specs.declared.Outcome.{Outcome}
+use Rattle.list.specs.declared.Stepped.{Stepped}
 use Rattle.format.specs.Format.{widthOf, tagAt, frameRefusal, recordOf}
-use Rattle.list.specs.Run.{
-  Told,
-  callAt,
-  Turn,
-  done,
-  refused,
-  settle,
-  turnOf,
-  stepped,
-  bytesOf,
-  Run,
-  runOn,
-  over,
-}
+use Rattle.perform.specs.Calls.{Told, callAt}
+use Rattle.list.specs.Run.{Turn, done, refused, settle, turnOf, stepped, bytesOf, Run, runOn, over}
 use Rattle.format.proofs.Frames.{framed, sets-then, sets-front}
 
 -- ---- one call
@@ -71,6 +60,12 @@ module _ (b : Board) (l : List ℕ) (room : ℕ) where
       turnOf b l room ≡ settle (tagAt l) t room
   unfolding turnOf
   turn-settled t p q = rw (p, ← q)
+
+-- what is said of a run and its buffer by one turn, said by an equal one
+pub by-turn : (s : Outcome) (old new : List ℕ) (r : Stepped) (u v : Turn) → u ≡ v →
+    (r ≡ stepped s v) × (new ≡ sets old (s .written) (bytesOf v)) →
+    (r ≡ stepped s u) × (new ≡ sets old (s .written) (bytesOf u))
+by-turn s old new r u v e h = rw e h
 
 -- ---- the run's next call
 

@@ -63,12 +63,13 @@ use Rattle.board.specs.Loops.{mapFrom, foldFrom}
 use Rattle.board.specs.Board.{freshBoard, withClock, line, exactDeadline, wired, soundParts, sound}
 use Rattle.board.specs.Calls.{advancedBoard, controllerWritten, advanceCall, outputCall}
 use Rattle.board.specs.Demand.{source3}
-use Rattle.registers.specs.Words.{timerWord, clockWord, liveWord}
+use Rattle.offsets.specs.Words.{timerWord, clockWord, liveWord}
 use Rattle.registers.specs.Reads.{readLive, readCountHigh, readChannel, secondsLatched, readLow, readHigh, readAt}
-use Rattle.registers.specs.Writes.{timerWritten, clockWritten, writtenAt}
+use Rattle.offsets.specs.Writes.{timerWritten, clockWritten, writtenAt}
 use Rattle.registers.specs.Calls.{addressRefusal, readAccepted, writtenBoard, readCall}
 use Rattle.format.specs.Format.{frameRefusal, recordOf}
-use Rattle.list.specs.Run.{callAt, settle, turnOf, stepped, Run, runOn, runOf}
+use Rattle.perform.specs.Calls.{callAt}
+use Rattle.list.specs.Run.{settle, turnOf, stepped, Run, runOn, runOf}
 
 -- ---- boards
 

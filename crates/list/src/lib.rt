@@ -7,12 +7,11 @@ ghost use lib.ListN.{length};
 ghost use lib.Seq.{sets};
 ghost use Rattle.board.specs.Board.{BoardFits, sound};
 ghost use Rattle.format.specs.Format.{widthOf};
-ghost use Rattle.list.specs.Run.{refused, toldBy, settle, turnOf, stepped, bytesOf, runOf, over};
+ghost use Rattle.perform.specs.Calls.{toldBy};
+ghost use Rattle.list.specs.Run.{refused, settle, turnOf, stepped, bytesOf, runOf, over};
 use board::Board;
-use calls::Performed;
-use calls::perform;
-
-mod calls;
+use perform::Performed;
+use perform::perform;
 
 // The board after a run, the calls done, the list bytes that they used, the answer bytes, and the refusal, 0 for none.
 pub struct Outcome {

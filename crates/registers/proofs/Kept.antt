@@ -33,7 +33,7 @@ use Rattle.board.specs.Board.{BoardFits, heldOf, wired, sound}
 use Rattle.board.specs.Calls.{refusalOf}
 use Rattle.board.proofs.Soundness.{facts-sound, clock-facts}
 use Rattle.board.proofs.Steps.{Good, good, wired-level}
-use Rattle.registers.specs.Registers.{
+use Rattle.offsets.specs.Registers.{
   base,
   timerEnableAt,
   timerAckAt,
@@ -66,7 +66,7 @@ use Rattle.registers.specs.Reads.{
   readHigh,
   readAt,
 }
-use Rattle.registers.specs.Writes.{clearedBy, timerWritten, clockWritten, writtenAt}
+use Rattle.offsets.specs.Writes.{clearedBy, timerWritten, clockWritten, writtenAt}
 use Rattle.registers.specs.Calls.{addressRefusal, readAccepted, writtenBoard, readCall, writeCall}
 use Rattle.registers.proofs.Channels.{
   GoodTimer,

@@ -1,5 +1,3 @@
-mod Pending
-mod Ranges
 mod Timing
 mod Latches
 mod Channels

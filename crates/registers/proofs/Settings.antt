@@ -28,8 +28,8 @@ use Rattle.board.specs.declared.Board.{Board}
 use Rattle.board.specs.Loops.{mapFrom, foldFrom}
 use Rattle.board.specs.Board.{freshBoard, withTimers, withClock, wired}
 use Rattle.board.proofs.Kept.{fresh-sound}
-use Rattle.registers.specs.Registers.{withChannel}
-use Rattle.registers.specs.Words.{timerWord, clockWord, liveWord}
+use Rattle.offsets.specs.Registers.{withChannel}
+use Rattle.offsets.specs.Words.{timerWord, clockWord, liveWord}
 use Rattle.registers.specs.Reads.{
   readLive,
   readCountHigh,
@@ -39,7 +39,7 @@ use Rattle.registers.specs.Reads.{
   readHigh,
   readAt,
 }
-use Rattle.registers.specs.Writes.{timerWritten, clockWritten, writtenAt}
+use Rattle.offsets.specs.Writes.{timerWritten, clockWritten, writtenAt}
 use Rattle.registers.specs.Calls.{addressRefusal, readAccepted, writtenBoard, readCall}
 
 -- ---- lists of accepted reads

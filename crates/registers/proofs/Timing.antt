@@ -13,7 +13,7 @@ use Rattle.board.specs.declared.Board.{Board}
 use Rattle.board.specs.Board.{sound}
 use Rattle.board.specs.Calls.{refusalOf}
 use Rattle.board.proofs.Soundness.{clock-facts}
-use Rattle.registers.specs.Registers.{secondsLowAt}
+use Rattle.offsets.specs.Registers.{secondsLowAt}
 use Rattle.registers.specs.Reads.{secondsLatched}
 
 pub sound-times : (b : Board) → ClockFits (b .clock) → sound b ≡ true → Timed clockRate (b .clock)

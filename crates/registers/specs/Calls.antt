@@ -7,9 +7,9 @@ use Rattle.board.specs.declared.calls.EmptyAnswer.{EmptyAnswer}
 use Rattle.board.specs.declared.calls.ByteAnswer.{ByteAnswer}
 use Rattle.board.specs.Board.{wired}
 use Rattle.board.specs.Calls.{refusalOf, emptyAnswer}
-use Rattle.registers.specs.Registers.{base}
+use Rattle.offsets.specs.Registers.{base}
 use Rattle.registers.specs.Reads.{readAt}
-use Rattle.registers.specs.Writes.{writtenAt}
+use Rattle.offsets.specs.Writes.{writtenAt}
 
 abbrev pub addressTooLarge : ℕ
 addressTooLarge = 6

@@ -1,5 +1,2 @@
-pub mod Registers
-pub mod Words
 pub mod Reads
-pub mod Writes
 pub mod Calls

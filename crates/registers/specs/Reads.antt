@@ -11,7 +11,7 @@ use Rattle.board.specs.declared.Latch.the-variants.{Empty, Held}
 use Rattle.board.specs.declared.Board.{Board}
 use Rattle.board.specs.declared.calls.ByteAnswer.{ByteAnswer}
 use Rattle.board.specs.Board.{withClock, heldOf, heldValue, wired}
-use Rattle.registers.specs.Registers.{
+use Rattle.offsets.specs.Registers.{
   secondsLowAt,
   inChannels,
   within,
@@ -24,7 +24,7 @@ use Rattle.registers.specs.Registers.{
   withCountLatch,
   withClockLatches,
 }
-use Rattle.registers.specs.Words.{liveWord}
+use Rattle.offsets.specs.Words.{liveWord}
 
 -- ---- one byte
 

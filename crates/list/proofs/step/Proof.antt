@@ -1,17 +1,17 @@
 -- `step` meets its contract. Assumes nothing.
-use mathlib.Core.Path.{_≡_, refl, sym, ap, _∙_}
+use mathlib.Core.Path.{_≡_, refl, sym, _∙_}
 use Prim.Native.Nat.{_-_}
 use native.Mathlib.Omega.{arith}
 use lib.ListN.{length}
-use lib.Seq.{sets}
 use borrow.Author.Tests.{ne-eqb}
 use Rattle.board.proofs.Soundness.{facts-sound}
 use Rattle.board.proofs.Steps.{good}
 use Rattle.format.specs.Format.{frameRefusal}
-use Rattle.list.specs.Run.{Turn, toldBy, turnOf, stepped, bytesOf}
+use Rattle.perform.specs.Calls.{toldBy}
+use Rattle.list.specs.Run.{turnOf, stepped, bytesOf}
 use Rattle.format.proofs.Frames.{framed}
 use Rattle.list.proofs.Kept.{step-good}
-use Rattle.list.proofs.Runs.{turn-refused, turn-settled}
+use Rattle.list.proofs.Runs.{turn-refused, turn-settled, by-turn}
 use borrow.Author.Needs.{needs}
 use Rattle.list.proofs.step.Statement.{statement}
 use Rattle.list.proofs.step.Tie as tie
@@ -71,13 +71,11 @@ returns-2 c =
     ∙ c .before .before .before .before .before .before .before .if1 .left in
     let t = turn-settled (a .s .board) l room (toldBy (c .before .before .before .before .perform .result)) z
     (c .before .before .before .before .perform .ensures) in
-    let e : r .result ≡ stepped (a .s) (turnOf (a .s .board) l room) = r .ensures .0 ∙ ap (stepped (a .s)) (sym t) in
+    let e = by-turn (a .s) (a .answers .now) _ (r .result) (turnOf (a .s .board) l room) _ t (r .ensures) in
     let g = step-good l
     (λ i. omega (arith, c .before .before .before .before .before .shared-slice-known2 .given i)) (a .s)
-    (good (a .s .board) (p .pre .0 .1) (p .pre .0 .0)) room in (
-      (e, r .ensures .1 ∙ ap (λ (u : Turn). sets (a .answers .now) (a .s .written) (bytesOf u)) (sym t)),
-      rw e (facts-sound _ (g .facts), g .fits),
-    )
+    (good (a .s .board) (p .pre .0 .1) (p .pre .0 .0)) room in
+    (e, rw (e .0) (facts-sound _ (g .facts), g .fits))
 
 pub step-spec : {M : Type 1} → statement M
 step-spec =

@@ -3,7 +3,7 @@ use mathlib.Core.Logic.{⊎-elim}
 use mathlib.Core.Path.{ap, _∙_}
 use native.Mathlib.Omega.{arith}
 use Rattle.registers.specs.Reads.{readLow, readAt}
-use Rattle.registers.proofs.Ranges.{inside, below, above}
+use Rattle.offsets.proofs.Ranges.{inside, below, above}
 use Rattle.registers.proofs.Timing.{latched-timed}
 use borrow.Author.Needs.{needs}
 use Rattle.registers.proofs.reads.read_at.Statement.{statement}

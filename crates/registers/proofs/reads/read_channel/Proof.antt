@@ -4,7 +4,7 @@ use native.Mathlib.Omega.{arith}
 use borrow.Author.Tests.{ltb-true, ltb-false, eq-eqb, ne-eqb}
 use Rattle.channel.specs.Registers.{countLowAt}
 use Rattle.registers.specs.Reads.{readChannel}
-use Rattle.registers.proofs.Ranges.{inside, below, above}
+use Rattle.offsets.proofs.Ranges.{inside, below, above}
 use borrow.Author.Needs.{needs}
 use Rattle.registers.proofs.reads.read_channel.Statement.{statement}
 use Rattle.registers.proofs.reads.read_channel.Tie as tie

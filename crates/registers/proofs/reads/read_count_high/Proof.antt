@@ -1,6 +1,6 @@
 -- `reads::read_count_high` meets its contract. Assumes nothing.
 use Rattle.registers.specs.Reads.{answered, freed, readLive, readCountHigh}
-use Rattle.registers.specs.Registers.{countLatch, withCountLatch}
+use Rattle.offsets.specs.Registers.{countLatch, withCountLatch}
 use Rattle.registers.proofs.Latches.{by-latch, by-register}
 use borrow.Author.Needs.{needs}
 use Rattle.registers.proofs.reads.read_count_high.Statement.{statement}

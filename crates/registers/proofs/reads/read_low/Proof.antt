@@ -1,6 +1,6 @@
 -- `reads::read_low` meets its contract. Assumes nothing.
 use Rattle.registers.specs.Reads.{answered, freed, readLive, readLow}
-use Rattle.registers.specs.Registers.{withClockLatches}
+use Rattle.offsets.specs.Registers.{withClockLatches}
 use Rattle.registers.proofs.Latches.{by-latch, by-register}
 use borrow.Author.Needs.{needs}
 use Rattle.registers.proofs.reads.read_low.Statement.{statement}

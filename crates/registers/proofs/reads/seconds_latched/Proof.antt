@@ -1,6 +1,6 @@
 -- `reads::seconds_latched` meets its contract. Assumes nothing.
 use borrow.Author.Tests.{eq-eqb, ne-eqb}
-use Rattle.registers.specs.Registers.{secondsLowAt}
+use Rattle.offsets.specs.Registers.{secondsLowAt}
 use Rattle.registers.specs.Reads.{secondsLatched}
 use borrow.Author.Needs.{needs}
 use Rattle.registers.proofs.reads.seconds_latched.Statement.{statement}
