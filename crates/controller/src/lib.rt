@@ -11,6 +11,8 @@ ghost use Rattle.controller.specs.Controller.{fresh, resetOf, pendingOf,
 ghost use Rattle.controller.specs.Controller.{sourceSet, maskedSourceSet, sourceLevelsSet, pendingCleared};
 ghost use Rattle.controller.specs.Controller.{outputOf, byteRead, byteWritten, sizeOf};
 
+mod lent;
+
 // The number of a source. It is a type of its own, so that no channel number is passed for it.
 pub struct SourceNumber(pub u8);
 
