@@ -9,7 +9,7 @@ use base.Fml.{ftrue}
 use prog.Wp.{Heap}
 use ghost.Atoms.{Atoms, sem}
 use contract.Monad.{fact}
-use types.Kit.{Given, Item, ‵, raw, _⊛_, some, later, mean, _$_, _∵_, !, qed, move, drop, use1, split, join, pick}
+use types.Kit.{Given, Item, ‵, raw, _⊛_, some, later, mean, _$_, _∵_, !, qed, move, drop, split, join, pick}
 use types.Kit.{fjoin, frame, await, updating, now as at-once, show, done}
 use denote.Laws.{Is}
 use denote.Exit.{yes}
@@ -17,7 +17,7 @@ use denote.Signature.{Signature, plain}
 use denote.Steps.{owned, nothing}
 use denote.Triple.Statement.{Contract}
 use denote.Triple.Spec.{tripleOf}
-use denote.Triple.Clauses.{Clauses, Ended, ensured, closing, lasts}
+use denote.Triple.Clauses.{Clauses, Ended, closing, lasts}
 use Rattle.controller.proofs.Plain.{Plain, rowOf, valsOf, made}
 
 -- what a caller is told of the machine value v: it is that of some r of which Φ holds
@@ -35,9 +35,35 @@ told 𝓤 H A W O Φ v {Ws} said =
     qed W
     (later (some (λ (r : O .X). (‵ ftrue ⊛ ‵ (O .own r (v ∷ [])))
     ⊛ some (λ (ws : Ws). raw (said ws) ⊛ raw (fact 𝓤 (Φ r))))) ∷ []) ∵
-    updating ! $ await ! tt $ pick ! (λ r. split ! $ split ! $ drop ! $ move ! (1 ∷ []) $ pick ! (λ ws. split ! $ drop ! $
+    updating ! $ await ! tt $ pick ! (λ r. split ! $ split ! $ drop ! $ move ! (1 ∷ []) $ pick ! (λ ws. split ! $
+    drop ! $
     at-once ! $ show ! (λ (x : O .X). mean 𝓤 H A (‵ (O .own x (v ∷ [])) ⊛ raw (fact 𝓤 (Φ x)))) r $
     move ! (1 ∷ 0 ∷ []) $ done !))
+
+-- ---- no parameter: a constructor
+module _ (O : Plain) (x : O .X) where
+  abbrev sigₙ : Signature
+  sigₙ = record { lifetimes = 0; outlives = []; params = []; result = plain (λ _. rowOf O) }
+
+  abbrev endₙ : Ended
+  endₙ = record { signature = sigₙ; kept = tt }
+
+  module _ {M : Type 1} (𝓤 : URA M) (H : Heap 𝓤) (A : Atoms 𝓤) where
+    abbrev clausesₙ : Clauses 𝓤 endₙ
+    clausesₙ κs a = record { ghost = Unit {0}; requires = λ _. emp 𝓤; ensures = λ _ r e. fact 𝓤 (r ≡ x) }
+
+    abbrev pub Constructor : Contract 𝓤
+    Constructor = tripleOf 𝓤 H A sigₙ (closing 𝓤 H A endₙ clausesₙ)
+
+    abbrev pub atₙ : Constructor .Ghost
+    atₙ = ((tt, tt, tt, tt, tt), tt)
+
+    module _ (W : Given 𝓤 H A) where
+      pub askedₙ : ent 𝓤 (emp 𝓤) (Constructor .pre atₙ)
+      askedₙ = qed W [] ∵ nothing ! $ nothing ! $ nothing ! $ join ! $ frame ! $ done !
+
+      pub toldₙ : (v : Val) → ent 𝓤 (Constructor .post atₙ v) (mean 𝓤 H A (later (Told 𝓤 O (λ r. r ≡ x) v)))
+      toldₙ v = told 𝓤 H A W O (λ r. r ≡ x) v (λ ws. sem 𝓤 H A (lasts endₙ tt tt ws))
 
 -- ---- the struct alone
 module _ (S O : Plain) (f : S .X → O .X) where

@@ -2,6 +2,7 @@ pub mod Altering
 pub mod Bits
 pub mod ByValue
 pub mod Laws
+pub mod Lending
 pub mod Lowest
 pub mod Plain
 pub mod Reading

@@ -1,4 +1,5 @@
--- `controller::IrqController::clear_pending` meets its contract: it calls `without_pending`, by the law of such methods. Assumes nothing.
+-- `controller::IrqController::clear_pending` meets its contract: it is one call of `without_pending`.
+-- Assumes nothing.
 use mir.Syntax.{w16}
 use contract.Running.{givenOf, tables, tablesOf}
 use denote.Triple.Spec.{tripleOf}

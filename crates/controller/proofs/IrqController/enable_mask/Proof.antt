@@ -1,4 +1,5 @@
--- `controller::IrqController::enable_mask` meets its contract: it calls `enable_mask_of`, by the law of such methods. Assumes nothing.
+-- `controller::IrqController::enable_mask` meets its contract: it is one call of `enable_mask_of`.
+-- Assumes nothing.
 use mir.Syntax.{w16}
 use contract.Running.{givenOf, tables, tablesOf}
 use denote.Triple.Spec.{tripleOf}

@@ -1,4 +1,5 @@
--- `controller::IrqController::irq_output` meets its contract: it calls `output_of`, by the law of such methods. Assumes nothing.
+-- `controller::IrqController::irq_output` meets its contract: it is one call of `output_of`.
+-- Assumes nothing.
 use contract.Running.{givenOf, tables, tablesOf}
 use denote.Triple.Spec.{tripleOf}
 use denote.Triple.Table.{entered, cited}

@@ -1,4 +1,5 @@
--- `controller::IrqController::pending` meets its contract: it calls `pending_of`, by the law of such methods. Assumes nothing.
+-- `controller::IrqController::pending` meets its contract: it is one call of `pending_of`.
+-- Assumes nothing.
 use mir.Syntax.{w16}
 use contract.Running.{givenOf, tables, tablesOf}
 use denote.Triple.Spec.{tripleOf}

@@ -1,4 +1,5 @@
--- `controller::IrqController::reset` meets its contract: it calls `all_clear`, by the law of such methods. Assumes nothing.
+-- `controller::IrqController::reset` meets its contract: it is one call of `all_clear`.
+-- Assumes nothing.
 use contract.Running.{givenOf, tables, tablesOf}
 use denote.Triple.Spec.{tripleOf}
 use denote.Triple.Table.{entered, cited}

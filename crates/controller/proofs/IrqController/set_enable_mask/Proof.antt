@@ -1,4 +1,5 @@
--- `controller::IrqController::set_enable_mask` meets its contract: it calls `with_enable_mask`, by the law of such methods. Assumes nothing.
+-- `controller::IrqController::set_enable_mask` meets its contract: it is one call of `with_enable_mask`.
+-- Assumes nothing.
 use mir.Syntax.{w16}
 use contract.Running.{givenOf, tables, tablesOf}
 use denote.Triple.Spec.{tripleOf}

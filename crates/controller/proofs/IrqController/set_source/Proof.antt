@@ -1,4 +1,5 @@
--- `controller::IrqController::set_source` meets its contract: it calls `with_source`, by the law of such methods. Assumes nothing.
+-- `controller::IrqController::set_source` meets its contract: it is one call of `with_source`.
+-- Assumes nothing.
 use contract.Running.{givenOf, tables, tablesOf}
 use denote.Triple.Spec.{tripleOf}
 use denote.Triple.Table.{entered, cited}

@@ -1,4 +1,5 @@
--- `controller::IrqController::set_source_levels` meets its contract: it calls `with_source_levels`, by the law of such methods. Assumes nothing.
+-- `controller::IrqController::set_source_levels` meets its contract: it is one call of `with_source_levels`.
+-- Assumes nothing.
 use mir.Syntax.{w16}
 use contract.Running.{givenOf, tables, tablesOf}
 use denote.Triple.Spec.{tripleOf}

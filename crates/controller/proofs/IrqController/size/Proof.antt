@@ -1,4 +1,5 @@
--- `controller::IrqController::size` meets its contract: it calls `size_of`, by the law of such methods. Assumes nothing.
+-- `controller::IrqController::size` meets its contract: it is one call of `size_of`.
+-- Assumes nothing.
 use mir.Syntax.{w32}
 use contract.Running.{givenOf, tables, tablesOf}
 use denote.Triple.Spec.{tripleOf}

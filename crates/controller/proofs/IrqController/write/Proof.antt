@@ -1,4 +1,5 @@
--- `controller::IrqController::write` meets its contract: it calls `written`, by the law of such methods. Assumes nothing.
+-- `controller::IrqController::write` meets its contract: it is one call of `written`.
+-- Assumes nothing.
 use mir.Syntax.{w8, w32}
 use contract.Running.{givenOf, tables, tablesOf}
 use denote.Triple.Spec.{tripleOf}
