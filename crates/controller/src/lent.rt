@@ -1,6 +1,6 @@
-// The methods of irqc.rs, which lend the controller: `&mut self` alters the caller's own, `&self` only reads it. Each
-// is one call of the function by value of lib.rt that its comment there names, and states the whole controller at
-// exit, or its answer, by the same rule.
+// The methods of irqc.rs, which lend the controller: with `&mut self` the caller's own is altered where it lies, with
+// `&self` it is only read. Each is one call of a function by value of lib.rt, and states the whole controller at exit,
+// or its answer, by that function's rule.
 ghost use mathlib.Core.Path.{_≡_};
 ghost use Rattle.controller.specs.Controller.{resetOf, pendingOf, enableMaskOf, enableMaskSet, sourceSet};
 ghost use Rattle.controller.specs.Controller.{sourceLevelsSet, pendingCleared, outputOf, byteRead};
@@ -70,14 +70,13 @@ impl IrqController {
         output_of(*self)
     }
 
-    // It lends the controller as `Device` does, and leaves it as it was.
+    // `Device` has `&mut self` here and in `read`; the controller stays as it was. The Rust answers `Some` of this byte.
     pub fn debug_read(&mut self, address: u32) -> u8
         ensures { λ r. ⌜ (r ≡ byteRead (now (self .entry)) address) × (now (self .exit) ≡ now (self .entry)) ⌝ }
     {
         debug_read_of(*self, address)
     }
 
-    // It lends the controller as `Device` does, and leaves it as it was.
     pub fn read(&mut self, address: u32) -> u8
         ensures { λ r. ⌜ (r ≡ byteRead (now (self .entry)) address) × (now (self .exit) ≡ now (self .entry)) ⌝ }
     {

@@ -1,6 +1,7 @@
 // The interrupt controller of irqc.rs, by value: it latches the rising edges of sixteen sources, and presents the
 // lowest source that is pending and enabled. Each operation states its whole result by a rule of
-// specs/Controller.antt. A function is named by what it answers; the comment above it has the Rust's name.
+// specs/Controller.antt. A function is named by what it answers; the comment above it has the Rust's name. The methods
+// that lend a controller are in lent.rt.
 ghost use mathlib.Core.Path.{_≡_};
 ghost use mathlib.Core.Bool.{true, false, cond};
 ghost use Prim.Native.Nat.{_+_, _*_, _/_, _%_, _<_};
