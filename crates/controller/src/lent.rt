@@ -70,7 +70,7 @@ impl IrqController {
         output_of(*self)
     }
 
-    // `Device` has `&mut self` here and in `read`; the controller stays as it was. The Rust answers `Some` of this byte.
+    // `Device` has `&mut self` here and in `read`; the controller stays as it was. The Rust answers `Some` of the byte.
     pub fn debug_read(&mut self, address: u32) -> u8
         ensures { λ r. ⌜ (r ≡ byteRead (now (self .entry)) address) × (now (self .exit) ≡ now (self .entry)) ⌝ }
     {
