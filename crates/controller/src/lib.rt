@@ -1,6 +1,7 @@
 // The interrupt controller of irqc.rs, by value: it latches the rising edges of sixteen sources, and presents the
 // lowest source that is pending and enabled. Each operation states its whole result by a rule of
-// specs/Controller.antt. A function is named by what it answers; the comment above it has the Rust's name.
+// specs/Controller.antt. A function is named by what it answers; the comment above it has the Rust's name. The methods
+// that lend a controller are in lent.rt.
 ghost use mathlib.Core.Path.{_≡_};
 ghost use mathlib.Core.Bool.{true, false, cond};
 ghost use Prim.Native.Nat.{_+_, _*_, _/_, _%_, _<_};
@@ -10,6 +11,8 @@ ghost use Rattle.controller.specs.Bits.{withBit, without};
 ghost use Rattle.controller.specs.Controller.{fresh, resetOf, pendingOf, enableMaskOf, enableMaskSet};
 ghost use Rattle.controller.specs.Controller.{sourceSet, maskedSourceSet, sourceLevelsSet, pendingCleared};
 ghost use Rattle.controller.specs.Controller.{outputOf, byteRead, byteWritten, sizeOf};
+
+mod lent;
 
 // The number of a source. It is a type of its own, so that no channel number is passed for it.
 pub struct SourceNumber(pub u8);
