@@ -7,6 +7,7 @@ mod demand;
 mod generated;
 mod list;
 mod originals;
+mod papers;
 mod program;
 mod registers;
 mod rules;
