@@ -1,0 +1,41 @@
+/* The C interface of the proved PeC board, libpec.a. The contract of each function is in crates/pec/src.
+
+   A byte slice is a pointer and a length. Pointers must be valid for their lengths, and what is written must not
+   overlap anything else that is lent; a pointer with length 0 must not be null. The library keeps nothing between
+   calls and uses no heap. */
+#ifndef PEC_H
+#define PEC_H
+
+#include <stdbool.h>
+#include <stddef.h>
+#include <stdint.h>
+
+/* Runs a list over a fresh board. Gives the calls done, the list bytes they used and the answer bytes; the result is the
+   refusal, 0 for none. */
+uint8_t pec_run(const uint8_t *list, size_t list_length, uint8_t *answers, size_t answers_length, size_t *calls,
+                size_t *used, size_t *written);
+
+/* Runs `first` over a fresh board, and then `list` so many times, each time over the board that the run before it left.
+   The results are those of the last run. */
+uint8_t pec_run_repeated(const uint8_t *first, size_t first_length, const uint8_t *list, size_t list_length,
+                         uint64_t times, uint8_t *answers, size_t answers_length, size_t *calls, size_t *used,
+                         size_t *written);
+
+/* The interrupt controller's operations on its three words in one number: pending from bit 32 on, enable from bit 16 on,
+   levels from bit 0 on. Those that alter it give the number after. */
+uint64_t pec_irqc_new(void);
+uint64_t pec_irqc_reset(uint64_t word);
+uint16_t pec_irqc_pending(uint64_t word);
+uint16_t pec_irqc_enable_mask(uint64_t word);
+uint64_t pec_irqc_set_enable_mask(uint64_t word, uint16_t mask);
+uint64_t pec_irqc_set_source(uint64_t word, uint8_t number, bool level);
+uint64_t pec_irqc_set_source_levels(uint64_t word, uint16_t mask, uint16_t levels);
+uint64_t pec_irqc_clear_pending(uint64_t word, uint16_t mask);
+/* Valid in bit 8, the source's number below. */
+uint16_t pec_irqc_output(uint64_t word);
+uint8_t pec_irqc_read(uint64_t word, uint32_t address);
+uint8_t pec_irqc_debug_read(uint64_t word, uint32_t address);
+uint64_t pec_irqc_write(uint64_t word, uint32_t address, uint8_t value);
+uint32_t pec_irqc_size(uint64_t word);
+
+#endif

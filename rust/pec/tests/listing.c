@@ -1,0 +1,28 @@
+/* Runs document 01's worked list, twice by way of the repeated run, and setting H on the controller. */
+#include "pec.h"
+
+#include <stdio.h>
+
+static const uint8_t LIST[] = {2, 0, 2, 0, 0x83, 4, 0, 8, 0, 0, 0, 0, 0, 0, 0, 1, 0x0A, 0, 0, 0xFF};
+
+static void show(const uint8_t *answers, size_t written, size_t calls, unsigned refusal, size_t used)
+{
+    for (size_t at = 0; at < written; at++) {
+        printf("%02x", answers[at]);
+    }
+    printf(" %zu %u %zu\n", calls, refusal, used);
+}
+
+int main(void)
+{
+    uint8_t answers[64];
+    size_t calls, used, written;
+    unsigned refusal = pec_run(LIST, sizeof LIST, answers, sizeof answers, &calls, &used, &written);
+    show(answers, written, calls, refusal, used);
+    refusal = pec_run_repeated(LIST, sizeof LIST, LIST, sizeof LIST, 1, answers, sizeof answers, &calls, &used, &written);
+    show(answers, written, calls, refusal, used);
+    uint64_t irqc = pec_irqc_set_source(pec_irqc_set_source(pec_irqc_new(), 5, true), 9, true);
+    printf("%x", pec_irqc_output(pec_irqc_set_enable_mask(irqc, 0x0200)));
+    printf(" %x\n", pec_irqc_output(pec_irqc_set_enable_mask(irqc, 0x0220)));
+    return 0;
+}
