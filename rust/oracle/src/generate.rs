@@ -6,6 +6,7 @@ use crate::deadline;
 use crate::fields::{Channel, Fields, Latch, POLL_LIMIT};
 use crate::registers::{self, channel, of_channel, CHANNELS};
 use crate::sys::MASTER_CLOCK;
+use crate::writes;
 
 const BUFFER: usize = 32_768;
 const SECOND: i128 = 1_000_000_000;
@@ -285,15 +286,10 @@ impl Generator {
         self.call(Call::Write { address, byte });
     }
 
-    fn write_word(&mut self, address: u16, value: u32) {
-        for (byte, address) in value.to_be_bytes().into_iter().zip(address..) {
-            self.write(address, byte);
+    fn calls(&mut self, calls: Vec<Call>) {
+        for call in calls {
+            self.call(call);
         }
-    }
-
-    fn write_two_words(&mut self, low: u16, high: u16, value: u64) {
-        self.write_word(high, (value >> 32) as u32);
-        self.write_word(low, value as u32);
     }
 
     /// Programs a channel so that it runs more often than not.
@@ -307,16 +303,28 @@ impl Generator {
         let reload = self.random.pick(&[0, 1, small, any]);
         if !self.random.once_in(4) {
             let prescaler = self.random.prescaler();
-            self.write_word(register(channel::PRESCALER), prescaler);
+            self.calls(writes::word(register(channel::PRESCALER), prescaler));
         }
         if self.random.once_in(2) {
-            self.write_two_words(register(channel::RELOAD_LOW), register(channel::RELOAD_HIGH), reload);
+            self.calls(writes::two_words(
+                register(channel::RELOAD_LOW),
+                register(channel::RELOAD_HIGH),
+                reload,
+            ));
         }
         if self.random.once_in(2) {
-            self.write_two_words(register(channel::COUNT_LOW), register(channel::COUNT_HIGH), counter);
+            self.calls(writes::two_words(
+                register(channel::COUNT_LOW),
+                register(channel::COUNT_HIGH),
+                counter,
+            ));
         }
         if !self.random.once_in(4) {
-            self.write_two_words(register(channel::COMPARE_LOW), register(channel::COMPARE_HIGH), compare);
+            self.calls(writes::two_words(
+                register(channel::COMPARE_LOW),
+                register(channel::COMPARE_HIGH),
+                compare,
+            ));
         }
         let mode = self.random.below(4) as u8;
         let flags = self.random.pick(&[12, 12, 12, 12 + 16, 4, 8, 0]);

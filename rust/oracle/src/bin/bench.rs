@@ -12,6 +12,7 @@ use oracle::generate::Random;
 use oracle::list;
 use oracle::proved;
 use oracle::registers::{self, channel, of_channel, CHANNELS};
+use oracle::writes::{byte, two_words, word};
 
 const REPEATS: usize = 5;
 /// The calls of a measured list.
@@ -85,21 +86,6 @@ fn measure(kind: &Kind) {
     );
 }
 
-fn write(address: u16, byte: u8) -> Call {
-    Call::Write { address, byte }
-}
-
-fn word(address: u16, value: u32) -> Vec<Call> {
-    (address..)
-        .zip(value.to_be_bytes())
-        .map(|(address, byte)| write(address, byte))
-        .collect()
-}
-
-fn two_words(low: u16, high: u16, value: u64) -> Vec<Call> {
-    [word(high, (value >> 32) as u32), word(low, value as u32)].concat()
-}
-
 /// Programs a channel to run with its interrupt enabled.
 fn program(number: usize, mode: u8, prescaler: u32, compare: u64, reload: u64) -> Vec<Call> {
     let register = |register| of_channel(number, register);
@@ -114,7 +100,7 @@ fn program(number: usize, mode: u8, prescaler: u32, compare: u64, reload: u64) -
         register(channel::COMPARE_HIGH),
         compare,
     ));
-    calls.push(write(register(channel::CONTROL) + 3, mode | 12));
+    calls.push(byte(register(channel::CONTROL) + 3, mode | 12));
     calls
 }
 
@@ -131,8 +117,8 @@ fn running(prescaler: u32) -> Vec<Call> {
         ));
     }
     calls.extend(two_words(registers::ALARM_LOW, registers::ALARM_HIGH, 1 << 40));
-    calls.push(write(registers::ALARM_ENABLE + 3, 1));
-    calls.push(write(registers::ENABLE + 3, 15));
+    calls.push(byte(registers::ALARM_ENABLE + 3, 1));
+    calls.push(byte(registers::ENABLE + 3, 15));
     calls
 }
 
@@ -142,7 +128,7 @@ fn kinds() -> Vec<Kind> {
         let cycles = (0..CALLS).map(|_| random.below(5_000));
         cycles.map(|cycles| Call::Advance { cycles }).collect()
     };
-    let acknowledge = write(registers::ACKNOWLEDGE + 3, 15);
+    let acknowledge = byte(registers::ACKNOWLEDGE + 3, 15);
     let [plain, divided] = [advances(), advances()];
     let mut registers_list = Vec::new();
     let addresses: Vec<u16> = (registers::CLOCK_CONTROL..=registers::ALARM_ACKNOWLEDGE)
@@ -153,8 +139,7 @@ fn kinds() -> Vec<Kind> {
         .collect();
     while registers_list.len() < CALLS {
         let address = random.pick(&addresses);
-        let byte = random.word() as u8;
-        registers_list.extend([Call::Read { address }, write(address, byte)]);
+        registers_list.extend([Call::Read { address }, byte(address, random.word() as u8)]);
     }
     let skips: Vec<Call> = (0..CALLS / 2).flat_map(|_| [Call::Skip, acknowledge]).collect();
     let mut mixed = Vec::new();
@@ -180,7 +165,7 @@ fn kinds() -> Vec<Kind> {
     ];
     // Ten years of interrupts, one each simulated minute: prescaler 47,999 gives a tick each millisecond.
     let mut minute = program(0, 1, 47_999, 60_000, 60_000);
-    minute.push(write(registers::ENABLE + 3, 1));
+    minute.push(byte(registers::ENABLE + 3, 1));
     kinds.push(Kind {
         name: "ten-years",
         first: minute,

@@ -6,6 +6,7 @@ use super::{list_of, readouts, Count, Difference, Pair};
 use crate::call::{answer_length, Call, HEADER};
 use crate::generate;
 use crate::registers::{self, channel, of_channel, CHANNELS};
+use crate::writes::{byte, two_words, word};
 
 /// The answer buffer of a run that is to have room.
 pub const BUFFER: usize = 32_768;
@@ -76,14 +77,7 @@ fn registers_from(pair: &Pair, start: usize, step: usize) -> Compared {
 /// Lists that leave boards with little set, with every field set, about to commit, with an alarm due on host time and
 /// with latches held.
 pub fn prepared() -> Vec<Vec<u8>> {
-    let write = |address, byte| Call::Write { address, byte };
-    let word = |address: u16, value: u32| -> Vec<Call> {
-        (address..)
-            .zip(value.to_be_bytes())
-            .map(|(address, byte)| write(address, byte))
-            .collect()
-    };
-    let mut about_to_commit = vec![write(registers::CLOCK_CONTROL + 3, 7)];
+    let mut about_to_commit = vec![byte(registers::CLOCK_CONTROL + 3, 7)];
     about_to_commit.push(Call::HostTime {
         seconds: 1,
         nanoseconds: 5,
@@ -92,7 +86,7 @@ pub fn prepared() -> Vec<Vec<u8>> {
     about_to_commit.extend(&word(registers::SECONDS_LOW, 0x0506_0708)[..3]);
     about_to_commit.extend(&word(registers::ALARM_HIGH, 0)[1..]);
     about_to_commit.extend(word(registers::ALARM_LOW, 3));
-    about_to_commit.push(write(registers::ALARM_ENABLE + 3, 1));
+    about_to_commit.push(byte(registers::ALARM_ENABLE + 3, 1));
 
     let mut alarm_due = Vec::new();
     for number in 0..CHANNELS {
@@ -102,13 +96,12 @@ pub fn prepared() -> Vec<Vec<u8>> {
             address: register(channel::COUNT_LOW),
         });
     }
-    alarm_due.push(write(registers::CLOCK_CONTROL + 3, 5));
+    alarm_due.push(byte(registers::CLOCK_CONTROL + 3, 5));
     alarm_due.push(Call::Read {
         address: registers::SECONDS_LOW,
     });
-    alarm_due.extend(word(registers::ALARM_HIGH, 0));
-    alarm_due.extend(word(registers::ALARM_LOW, 3));
-    alarm_due.push(write(registers::ALARM_ENABLE + 3, 1));
+    alarm_due.extend(two_words(registers::ALARM_LOW, registers::ALARM_HIGH, 3));
+    alarm_due.push(byte(registers::ALARM_ENABLE + 3, 1));
     alarm_due.push(Call::HostTime {
         seconds: 3,
         nanoseconds: 0,
@@ -117,23 +110,19 @@ pub fn prepared() -> Vec<Vec<u8>> {
     let mut busy = Vec::new();
     for number in 0..CHANNELS {
         let register = |register| of_channel(number, register);
-        for (place, value) in [
-            (channel::PRESCALER, 2),
-            (channel::RELOAD_HIGH, 0x0F1E_2D3C),
-            (channel::RELOAD_LOW, 0x4B5A_6978),
-            (channel::COUNT_HIGH, 0x1122_3344),
-            (channel::COUNT_LOW, 0x5566_7788),
-            (channel::COMPARE_HIGH, 0x1122_3344),
-            (channel::COMPARE_LOW, 0x5566_7798),
+        busy.extend(word(register(channel::PRESCALER), 2));
+        for (low, high, value) in [
+            (channel::RELOAD_LOW, channel::RELOAD_HIGH, 0x0F1E_2D3C_4B5A_6978),
+            (channel::COUNT_LOW, channel::COUNT_HIGH, 0x1122_3344_5566_7788),
+            (channel::COMPARE_LOW, channel::COMPARE_HIGH, 0x1122_3344_5566_7798),
         ] {
-            busy.extend(word(register(place), value));
+            busy.extend(two_words(register(low), register(high), value));
         }
-        busy.push(write(register(channel::CONTROL) + 3, 12 + number as u8));
+        busy.push(byte(register(channel::CONTROL) + 3, 12 + number as u8));
     }
-    busy.extend(word(registers::ALARM_HIGH, 0));
-    busy.extend(word(registers::ALARM_LOW, 1));
-    busy.push(write(registers::ALARM_ENABLE + 3, 1));
-    busy.push(write(registers::ENABLE + 3, 15));
+    busy.extend(two_words(registers::ALARM_LOW, registers::ALARM_HIGH, 1));
+    busy.push(byte(registers::ALARM_ENABLE + 3, 1));
+    busy.push(byte(registers::ENABLE + 3, 15));
     busy.push(Call::ControllerWrite { address: 5, byte: 8 });
     let mut fired = busy.clone();
     fired.push(Call::Advance { cycles: 48_000_001 });
