@@ -6,13 +6,13 @@ use native.Mathlib.Omega.{arith}
 use mathlib.Core.Path.{_≡_, refl, sym, ap, _∙_}
 use mathlib.Core.Logic.{_≢_}
 use mathlib.Core.Bool.{Bool, true, false, _&&_, _||_, and-false, or-false, false≢true}
-use mathlib.Core.Option.{Option, none, some}
+use mathlib.Core.Option.{Option, some}
 use lib.Dec.{leb, ltb, eqb}
 use borrow.Author.Tests.{ltb-true, leb-true, leb-false, le-leb, lt-leb, lt-ltb, le-ltb, eqb-true, eqb-false}
 use Rattle.wide.specs.Number.{largest}
 use Rattle.wide.specs.Deadline.{due}
 use Rattle.wide.proofs.Choices.{choose, either, leb-same}
-use Rattle.wide.proofs.Deadlines.{due-later, Positive, due-zero, due-is, due-never}
+use Rattle.wide.proofs.Deadlines.{due-later, Positive, due-zero, due-is}
 use Rattle.channel.specs.declared.HardwareTimer.{HardwareTimer}
 use Rattle.channel.specs.Channel.{TimerFits, modeOf, irqEnabledOf, divisor, lineOf, withCounter, soundTimer}
 use Rattle.channel.specs.Prescaler.{runs, ticksOf, phaseAfter, advanced}
@@ -279,12 +279,3 @@ module _ (selected : Bool) (c : ℕ) (h : HardwareTimer) (f : TimerFits h) (s : 
       ∙ due-after t
       ∙ ap (λ o. due o (c + t)) e
       ∙ leb-same d (c + t) (d - c) t (λ p. omega arith) (λ p. omega arith))
-
-  -- a channel without one has none afterwards
-  pub deadline-stays-none : deadlineOf selected h ≡ none → deadlineOf selected after ≡ none
-  unfolding channelDue
-  deadline-stays-none e =
-      due-never (deadlineOf selected after)
-      (λ t. sym (ap (λ v. v || due (deadlineOf selected after) t) (line-rises ∙ ap (λ o. due o c) e))
-      ∙ due-after t
-      ∙ ap (λ o. due o (c + t)) e)

@@ -283,10 +283,6 @@ pub host-due : (rate : ℕ) (h : HostTime) (k : Clock) (t : ℕ) → clockDue ra
 unfolding clockDue clockDeadline
 host-due rate h k t = refl
 
--- nor whether the clock runs from host time
-pub host-own : (h : HostTime) (k : Clock) → fromHost (withHost h k .control) ≡ fromHost (k .control)
-host-own h k = refl
-
 -- ---- the line
 
 -- the line is what is due at 0

@@ -42,8 +42,3 @@ due-is (some m) n h =
   where
     both : m ≤ n → n ≤ m → m ≡ n
     both p q = omega arith
-
--- what is never due is no deadline
-pub due-never : (a : Option ℕ) → ((t : ℕ) → due a t ≡ false) → a ≡ none
-due-never none h = refl
-due-never (some m) h = absurd (false≢true (sym (h m) ∙ le-leb m m (omega arith)))

@@ -66,17 +66,6 @@ pub fn with_byte(value: u64, n: usize, byte: u8) -> u64
     (value / u / 256 * 256 + widened(byte)) * u + value % u
 }
 
-// A field of sixteen bytes is two of eight.
-pub fn get_wide(s: &[u8], at: usize) -> Wide
-    requires { ⌜ at + 16 ≤ length (now s) ⌝ }
-    ensures { λ r. ⌜ valueOf r ≡ beAt (now (s .entry)) at 16 ⌝ }
-{
-    Wide {
-        high: get(s, at, 8),
-        low: get(s, at + 8, 8),
-    }
-}
-
 pub fn put_wide(buf: &mut [u8], at: usize, value: Wide)
     requires { ⌜ at + 16 ≤ length (now buf) ⌝ }
     ensures { λ _. ⌜ now (buf .exit) ≡ sets (now (buf .entry)) at (be 16 (valueOf value)) ⌝ }
