@@ -1,26 +1,81 @@
-//! A C program over the header and the archive gives document 01's worked answers.
+//! C programs over the header and the archive: document 01's worked answers, and the memory that the library uses.
 
 use std::env;
+use std::io::Write;
 use std::path::{Path, PathBuf};
-use std::process::Command;
+use std::process::{Command, Stdio};
 
-#[test]
-fn a_c_program_links_the_archive() {
+fn archive() -> PathBuf {
+    let directory = env::var_os("PEC_LIB_DIR").map_or_else(
+        || Path::new(env!("CARGO_MANIFEST_DIR")).join("../../target/staticlib"),
+        PathBuf::from,
+    );
+    directory.join("libpec.a")
+}
+
+/// Compiles a C program of this folder and gives what it prints for an input.
+fn printed(name: &str, input: &[u8]) -> String {
     let here = Path::new(env!("CARGO_MANIFEST_DIR"));
-    let library = env::var_os("PEC_LIB_DIR").map_or_else(|| here.join("../../target/staticlib"), PathBuf::from);
-    let program = Path::new(env!("CARGO_TARGET_TMPDIR")).join("listing");
+    let program = Path::new(env!("CARGO_TARGET_TMPDIR")).join(name);
     let compiled = Command::new("cc")
-        .args(["-std=c11", "-Wall", "-Wextra", "-Werror", "-I"])
+        .args(["-std=c11", "-O1", "-Wall", "-Wextra", "-Werror", "-pthread", "-I"])
         .arg(here.join("include"))
-        .arg(here.join("tests/listing.c"))
-        .arg(library.join("libpec.a"))
+        .arg(here.join(format!("tests/{name}.c")))
+        .arg(archive())
         .arg("-o")
         .arg(&program)
         .status()
         .expect("cc runs");
     assert!(compiled.success());
-    let output = Command::new(program).output().expect("the program runs");
+    let mut child = Command::new(program)
+        .stdin(Stdio::piped())
+        .stdout(Stdio::piped())
+        .spawn()
+        .expect("the program starts");
+    child
+        .stdin
+        .take()
+        .expect("it is piped")
+        .write_all(input)
+        .expect("the program reads");
+    let output = child.wait_with_output().expect("the program ends");
     assert!(output.status.success());
+    String::from_utf8(output.stdout).expect("the program prints text")
+}
+
+#[test]
+fn a_c_program_links_the_archive() {
     let run = "02000101040001000a00020000 3 2 19\n";
-    assert_eq!(String::from_utf8_lossy(&output.stdout), format!("{run}{run}109 105\n"));
+    assert_eq!(printed("listing", &[]), format!("{run}{run}109 105\n"));
+}
+
+#[test]
+fn a_run_uses_little_stack() {
+    // One call of each tag, and reads and writes in every block of registers.
+    let mut list = vec![1, 0, 12, 0, 0, 0, 0, 0, 0, 0, 7, 0, 0, 0, 5];
+    for address in [
+        0x007u16, 0x00F, 0x083, 0x088, 0x08C, 0x097, 0x09B, 0x0A3, 0x283, 0x288, 0x28C, 0x2A3,
+    ] {
+        let [high, low] = address.to_be_bytes();
+        list.extend([3, 0, 3, high, low, 0x0F, 2, 0, 2, high, low]);
+    }
+    list.extend([4, 0, 8, 0, 0, 0, 0, 0, 0, 0, 9, 5, 0, 0, 6, 0, 0]);
+    list.extend([7, 0, 2, 5, 1, 8, 0, 4, 0, 0, 0, 1, 9, 0, 5, 0, 0, 0, 5, 255, 10, 0, 0]);
+    let text = printed("stack", &list);
+    let [alone, run] = [0, 1].map(|place| {
+        let figure = text.split_whitespace().nth(place).expect("two figures");
+        figure.parse::<usize>().expect("decimal")
+    });
+    println!("stack of a run: {} bytes", run - alone);
+    assert!(alone > 0 && run > alone && run - alone < 16_384, "{text}");
+}
+
+#[test]
+fn the_library_uses_no_heap() {
+    let output = Command::new("nm").arg("-u").arg(archive()).output().expect("nm runs");
+    assert!(output.status.success());
+    let text = String::from_utf8(output.stdout).expect("nm prints text");
+    let names: Vec<&str> = text.lines().filter_map(|line| line.trim().strip_prefix("U ")).collect();
+    let known = ["memcpy", "memmove", "memset"];
+    assert!(names.iter().all(|name| known.contains(name)), "{names:?}");
 }

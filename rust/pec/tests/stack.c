@@ -1,0 +1,52 @@
+/* Prints the bytes of stack that a thread uses, first alone and then with a run of the list on standard input: the stack is
+   filled before, and what no longer holds the filling was used. */
+#define _POSIX_C_SOURCE 200809L
+#include "pec.h"
+
+#include <pthread.h>
+#include <stdio.h>
+#include <string.h>
+
+enum { STACK = 1 << 20, FILLING = 0xA5 };
+
+static uint8_t list[1 << 16], answers[1 << 18];
+static size_t list_length;
+static _Alignas(4096) unsigned char stack[STACK];
+
+static void *nothing(void *unused)
+{
+    return unused;
+}
+
+static void *run(void *unused)
+{
+    size_t calls, used, written;
+    pec_run_repeated(list, 0, list, list_length, 3, answers, sizeof answers, &calls, &used, &written);
+    return unused;
+}
+
+static size_t used_by(void *(*work)(void *))
+{
+    pthread_t thread;
+    pthread_attr_t attributes;
+    size_t untouched = 0;
+    memset(stack, FILLING, STACK);
+    pthread_attr_init(&attributes);
+    pthread_attr_setstack(&attributes, stack, STACK);
+    if (pthread_create(&thread, &attributes, work, NULL) != 0) {
+        return 0;
+    }
+    pthread_join(thread, NULL);
+    while (untouched < STACK && stack[untouched] == FILLING) {
+        untouched++;
+    }
+    return STACK - untouched;
+}
+
+int main(void)
+{
+    list_length = fread(list, 1, sizeof list, stdin);
+    size_t alone = used_by(nothing);
+    printf("%zu %zu\n", alone, used_by(run));
+    return 0;
+}
