@@ -22,6 +22,7 @@ pub mod fields;
 pub mod generate;
 mod host_time;
 pub mod list;
+pub mod record;
 
 /// Stand-in for the simulator's system constants.
 pub mod sys {

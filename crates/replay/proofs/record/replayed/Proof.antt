@@ -1,0 +1,29 @@
+-- `record::replayed` meets its contract. Assumes nothing.
+use mathlib.Core.Path.{refl}
+use borrow.Author.Needs.{needs}
+use Rattle.replay.proofs.record.replayed.Statement.{statement}
+use Rattle.replay.proofs.record.replayed.Tie as tie
+
+start-requires : tie.Need-start-requires
+start-requires c κs = tt
+
+run-requires : tie.Need-run-requires
+run-requires c κs = tt
+
+same-length : tie.Need-same-length
+same-length c = search needs
+
+returns : tie.Need-returns
+returns c = 
+    let s = c .before .before .before .before .start .ensures in
+    let r = c .before .before .run .ensures in
+    rw (r .0, r .1, s) (refl, refl)
+
+pub replayed-spec : {M : Type 1} → statement M
+replayed-spec =
+    tie.close
+    (tie.spec
+    start-requires
+    run-requires
+    same-length
+    returns)

@@ -1,0 +1,17 @@
+-- `record::start` meets its contract. Assumes nothing.
+use mathlib.Core.Path.{refl}
+use Rattle.replay.proofs.record.start.Statement.{statement}
+use Rattle.replay.proofs.record.start.Tie as tie
+
+fresh-requires : tie.Need-fresh-requires
+fresh-requires c κs = tt
+
+returns : tie.Need-returns
+returns c = rw (c .fresh .ensures)
+
+pub start-spec : {M : Type 1} → statement M
+start-spec =
+    tie.close
+    (tie.spec
+    fresh-requires
+    returns)
