@@ -9,10 +9,12 @@ use lib.Seq.{take-append-seam, drop-append-seam}
 use lib.Dec.{eqb}
 use borrow.Author.Tests.{eqb-true, eq-eqb}
 use Rattle.wide.proofs.Choices.{and-parts}
+use Rattle.board.specs.declared.Board.{Board}
+use Rattle.list.specs.declared.Outcome.{Outcome}
 use Rattle.list.specs.Run.{runOf, over}
 use Rattle.replay.specs.declared.record.Results.{Results}
 use Rattle.replay.specs.declared.record.Header.{Header}
-use Rattle.replay.specs.Record.{Decides, startOf, resultsOf, sameResults, Agrees}
+use Rattle.replay.specs.Record.{Decides, startOf, resultsOf, recorded, sameResults, Agrees}
 
 -- ---- decisions
 
@@ -81,21 +83,32 @@ same-as-itself a =
 pub same-results : (a b : Results) → a ≡ b → sameResults a b ≡ true
 same-results a b e = rw (← e) (same-as-itself a)
 
+-- ---- a run
+
+-- a run on a board that is another one
+module _ (a b : Board) (list : List ℕ) (n : ℕ) (e : a ≡ b) where
+  pub ran-results : (o : Outcome) → o ≡ runOf a list n .outcome → resultsOf o ≡ resultsOf (runOf b list n .outcome)
+  ran-results o h = rw (h, e)
+
+  pub ran-bytes : (before after : List ℕ) → after ≡ over (runOf a list n .answers) before →
+      after ≡ over (runOf b list n .answers) before
+  ran-bytes before after h = rw (h, e)
+
 -- ---- a record
 
 module _ (h : Header) (list answers buffer old : List ℕ) (r : Results)
-  (ran : r ≡ resultsOf (runOf (startOf (h .«timer_enable»)) list (length buffer) .outcome)) where
-  pub results-differ : sameResults r (h .results) ≡ false → Decides false (Agrees h list answers buffer old)
+    (ran : r ≡ resultsOf (runOf (startOf (h .enable)) list (length buffer) .outcome)) where
+  pub results-differ : sameResults r (recorded h) ≡ false → Decides false (Agrees h list answers buffer old)
   results-differ f =
-      denied (λ a. false≢true (sym f ∙ same-results r (h .results) (ran ∙ a .same-results)))
+      denied (λ a. false≢true (sym f ∙ same-results r (recorded h) (ran ∙ a .same-results)))
 
   pub bytes-decide : (after : List ℕ) (b : Bool) →
-      after ≡ over (runOf (startOf (h .«timer_enable»)) list (length buffer) .answers) buffer →
-      sameResults r (h .results) ≡ true → Decides b (after ≡ over answers old) →
+      after ≡ over (runOf (startOf (h .enable)) list (length buffer) .answers) buffer →
+      sameResults r (recorded h) ≡ true → Decides b (after ≡ over answers old) →
       Decides b (Agrees h list answers buffer old)
   bytes-decide after b e t d = (
     λ y. record {
-      same-results = sym ran ∙ results-same r (h .results) t;
+      same-results = sym ran ∙ results-same r (recorded h) t;
       same-bytes = sym e ∙ d .0 y;
     },
     λ a. d .1 (e ∙ a .same-bytes),

@@ -1,2 +1,1 @@
 pub mod Record
-pub mod Counts

@@ -1,5 +1,5 @@
 -- What a record is, and when a run agrees with it.
-use Prim.Native.Nat.{ℕ, _+_}
+use Prim.Native.Nat.{ℕ, _+_, _≤_}
 use mathlib.Core.Path.{_≡_}
 use mathlib.Core.Bool.{Bool, true, _&&_}
 use mathlib.Core.List.{List}
@@ -18,7 +18,7 @@ abbrev pub Decides : Bool → Type 0 → Type 0
 Decides b P = (b ≡ true → P) × (P → b ≡ true)
 
 -- the fresh board with a timer enable
-abbrev pub startOf : ℕ → Board
+unfoldable pub startOf : ℕ → Board
 startOf n =
     record {
       timers = freshBoard .timers;
@@ -37,16 +37,23 @@ resultsOf o = record { calls = o .calls; used = o .used; written = o .written; r
 unfoldable pub headerAt : List ℕ → ℕ → Header
 headerAt s at =
     record {
-      «timer_enable» = beAt s at 1;
+      enable = beAt s at 1;
       list = beAt s (at + 1) 2;
       buffer = beAt s (at + 3) 2;
-      results = record {
-        calls = beAt s (at + 5) 2;
-        used = beAt s (at + 7) 2;
-        written = beAt s (at + 9) 2;
-        refusal = beAt s (at + 11) 1;
-      };
+      calls = beAt s (at + 5) 2;
+      used = beAt s (at + 7) 2;
+      written = beAt s (at + 9) 2;
+      refusal = beAt s (at + 11) 1;
     }
+
+-- the results that a record has
+abbrev pub recorded : Header → Results
+recorded h = record { calls = h .calls; used = h .used; written = h .written; refusal = h .refusal }
+
+-- a record lies within so many bytes, and its buffer is not too long
+pub record Fits (h : Header) (room : ℕ) : Type 0 where
+  pub bytes : 12 + (h .list + h .written) ≤ room
+  pub buffer : h .buffer ≤ 32768
 
 unfoldable pub sameResults : Results → Results → Bool
 sameResults a b =
@@ -56,5 +63,5 @@ sameResults a b =
 -- the run of a record's list, by the rules, has the recorded results, and leaves in the buffer the recorded answers,
 -- then old bytes
 pub record Agrees (h : Header) (list answers buffer old : List ℕ) : Type 0 where
-  pub same-results : resultsOf (runOf (startOf (h .«timer_enable»)) list (length buffer) .outcome) ≡ h .results
-  pub same-bytes : over (runOf (startOf (h .«timer_enable»)) list (length buffer) .answers) buffer ≡ over answers old
+  pub same-results : resultsOf (runOf (startOf (h .enable)) list (length buffer) .outcome) ≡ recorded h
+  pub same-bytes : over (runOf (startOf (h .enable)) list (length buffer) .answers) buffer ≡ over answers old

@@ -6,110 +6,86 @@
 // answer buffer 2; calls done 2, list bytes used 2, answer bytes 2, refusal 1; the list; the answers. rust/oracle has
 // the program that records.
 //
-// A call agrees where the answer that was recorded is in the buffer, at its place. A list agrees where the calls done,
-// the list bytes used, the answer bytes and the refusal are those recorded, the buffer holds the recorded answers and
-// then the bytes that it held before, and the answers are as many as the calls done.
+// A list agrees where the calls done, the list bytes used, the answer bytes and the refusal are those recorded, and the
+// buffer holds the recorded answers and then the bytes that it held before. Of a list that does not agree, the calls
+// agree whose recorded answers stand in the buffer, up to the first that does not; the one behind the last call done
+// is the call that ended the run. Call 0 stands for a record that cannot be read.
+ghost use Prim.Native.Nat.{_-_, _≤_};
 ghost use mathlib.Core.Path.{_≡_};
-ghost use Prim.Native.Nat.{_+_, _≤_, _<_, _^_};
 ghost use lib.ListN.{length};
-ghost use Rattle.replay.specs.Counts.{CountedIn, TalliedIn, Addable, Added, allAgreed};
-use answers::Counts;
+ghost use Rattle.replay.specs.Record.{Fits};
+use record::BUFFER_LIMIT;
 use record::Header;
 use std::num::wrapping_add_usize;
 use wide::flags::both;
 
-mod answers;
 mod record;
 
-// The longest file, and the longest answer buffer.
+// The longest file.
 const FILE_LIMIT: usize = 65535;
-const BUFFER_LIMIT: usize = 32768;
 
 // What an answer buffer holds before a run.
 const OLD: u8 = 0xA5;
 
-// Lists and calls, those that agreed, the first list that did not and in it the first call (0 for none), and whether
-// every record could be read.
+// Lists, calls done as recorded, and the calls that agreed, each modulo 2^64; and the first list that did not agree,
+// with the first call in it, 0 for none.
 struct Tally {
     lists: usize,
-    agreed_lists: usize,
     calls: usize,
-    agreed_calls: usize,
+    agreed: usize,
     list: usize,
     call: usize,
-    whole: bool,
 }
 
-// How the run of a record compares: whether the list agrees, and its calls.
-struct Comparison {
-    agreed: bool,
-    counts: Counts,
-}
-
-// A tally of nothing.
-fn none() -> Tally
-    ensures { λ r. ⌜ TalliedIn r 0 ⌝ }
-{
+// The tally of no list, and the first that did not agree.
+fn none(list: usize) -> Tally {
     Tally {
         lists: 0,
-        agreed_lists: 0,
         calls: 0,
-        agreed_calls: 0,
-        list: 0,
+        agreed: 0,
+        list,
         call: 0,
-        whole: true,
     }
 }
 
-// The tally, of a file that could not be read further.
-fn cut(mut t: Tally) -> Tally {
-    t.whole = false;
-    t
+// The second number where it is asked for.
+fn chosen(second: bool, a: usize, b: usize) -> usize {
+    if second { b } else { a }
 }
 
-// The tally with one more list.
-fn tallied(t: Tally, c: Comparison) -> Tally
-    requires { ⌜ Addable t (c .counts) ⌝ }
-    ensures { λ r. ⌜ Added t (c .counts) r ⌝ }
+// Two tallies, of lists one after another.
+fn joined(a: Tally, b: Tally) -> Tally {
+    let later = both(a.list == 0, b.list != 0);
+    Tally {
+        lists: wrapping_add_usize(a.lists, b.lists),
+        calls: wrapping_add_usize(a.calls, b.calls),
+        agreed: wrapping_add_usize(a.agreed, b.agreed),
+        list: chosen(later, a.list, wrapping_add_usize(a.lists, b.list)),
+        call: chosen(later, a.call, b.call),
+    }
+}
+
+// The tally of one list, run into a buffer.
+fn compared(h: Header, list: &[u8], answers: &[u8], buffer: &mut [u8], old: &[u8]) -> Tally
+    requires { ⌜ length (now old) ≡ length (now buffer) ⌝ }
 {
-    let counts = c.counts;
-    let lists = t.lists + 1;
-    let calls = t.calls + counts.calls;
-    let agreed_calls = t.agreed_calls + counts.agreed;
-    if c.agreed {
+    let calls = h.calls;
+    if record::agrees(h, list, answers, buffer, old) {
         return Tally {
-            lists,
-            agreed_lists: t.agreed_lists + 1,
+            lists: 1,
             calls,
-            agreed_calls,
-            list: t.list,
-            call: t.call,
-            whole: t.whole,
+            agreed: calls,
+            list: 0,
+            call: 0,
         };
     }
-    let earlier = t.list != 0;
+    let agreed = record::leading(answers, buffer);
     Tally {
-        lists,
-        agreed_lists: t.agreed_lists,
+        lists: 1,
         calls,
-        agreed_calls,
-        list: if earlier { t.list } else { lists },
-        call: if earlier { t.call } else { counts.first },
-        whole: t.whole,
-    }
-}
-
-// Runs the list of a record, and compares.
-fn compared(h: Header, list: &[u8], answers: &[u8], buffer: &mut [u8], old: &[u8]) -> Comparison
-    requires { ⌜ length (now old) ≡ length (now buffer) ⌝ }
-    ensures { λ r. ⌜ CountedIn (r .counts) (length (now (answers .entry))) ⌝ }
-{
-    let agreed = record::agrees(h, list, answers, buffer, old);
-    let counts = answers::compared(answers, buffer);
-    let results = h.results;
-    Comparison {
-        agreed: both(agreed, counts.calls == results.calls),
-        counts,
+        agreed,
+        list: 1,
+        call: wrapping_add_usize(agreed, 1),
     }
 }
 
@@ -120,10 +96,9 @@ fn old_bytes() -> [u8; BUFFER_LIMIT]
     [OLD; BUFFER_LIMIT]
 }
 
-// The same into a buffer of the recorded length.
-fn replayed(h: Header, list: &[u8], answers: &[u8]) -> Comparison
+// The tally of one list, run into a buffer of the recorded length.
+fn replayed(h: Header, list: &[u8], answers: &[u8]) -> Tally
     requires { ⌜ h .buffer ≤ 32768 ⌝ }
-    ensures { λ r. ⌜ CountedIn (r .counts) (length (now (answers .entry))) ⌝ }
 {
     let old = old_bytes();
     let mut buffer = old;
@@ -131,114 +106,89 @@ fn replayed(h: Header, list: &[u8], answers: &[u8]) -> Comparison
     compared(h, list, answers, &mut buffer[..n], &old[..n])
 }
 
-// Replays the records of a file's bytes.
+// The tally of the record at an index, which has these numbers.
+fn replay_record(s: &[u8], at: usize, h: Header) -> Tally
+    requires { ⌜ Fits h (length (now s) - at) × (at ≤ length (now s)) ⌝ }
+{
+    let list = at + record::HEADER;
+    let answers = list + h.list;
+    let end = answers + h.written;
+    replayed(h, &s[list..answers], &s[answers..end])
+}
+
+// The tally of a file's bytes.
 fn replay(s: &[u8]) -> Tally {
-    let mut t = none();
+    let mut t = none(0);
     let mut at = 0;
     while at < s.len() {
-        if s.len() - at < record::HEADER {
-            return cut(t);
+        let room = s.len() - at;
+        if room < record::HEADER {
+            return joined(t, none(1));
         }
         let h = record::header_at(s, at);
-        let results = h.results;
-        let list = at + record::HEADER;
-        if s.len() - list < h.list {
-            return cut(t);
+        if !record::fits(h, room) {
+            return joined(t, none(1));
         }
-        let answers = list + h.list;
-        if s.len() - answers < results.written {
-            return cut(t);
-        }
-        if BUFFER_LIMIT < h.buffer {
-            return cut(t);
-        }
-        let end = answers + results.written;
-        t = tallied(t, replayed(h, &s[list..answers], &s[answers..end]));
-        at = end;
+        t = joined(t, replay_record(s, at, h));
+        at += record::HEADER + (h.list + h.written);
     }
     t
 }
 
-// Whether a tally has nothing that did not agree.
-fn all_agreed(t: Tally) -> bool
-    ensures { λ r. ⌜ r ≡ allAgreed t ⌝ }
-{
-    both(t.whole, both(t.agreed_lists == t.lists, t.agreed_calls == t.calls))
+// Prints a text and a number.
+fn print(text: &[u8], n: usize) {
+    io::write_all(1, text);
+    io::print_decimal(1, n as u64);
 }
 
-// Prints how many of how many.
-fn print_share(agreed: usize, all: usize, what: &[u8]) {
-    io::print_decimal(1, agreed as u64);
-    io::write_all(1, b" of ");
-    io::print_decimal(1, all as u64);
-    io::write_all(1, what);
+// Prints how many calls agreed.
+fn print_counts(title: &[u8], t: Tally) {
+    io::write_all(1, title);
+    print(b": ", t.agreed);
+    print(b" of ", t.calls);
+    print(b" calls agree, in lists: ", t.lists);
+    io::write_all(1, b"\n");
 }
 
-// Prints a file's tally.
-fn print_tally(name: &[u8], t: Tally) {
-    io::write_all(1, name);
-    io::write_all(1, b": ");
-    print_share(t.agreed_calls, t.calls, b" calls and ");
-    print_share(t.agreed_lists, t.lists, b" lists agree\n");
-    if t.list != 0 {
-        io::write_all(1, name);
-        io::write_all(1, b": the first that does not agree: list ");
-        io::print_decimal(1, t.list as u64);
-        if t.call != 0 {
-            io::write_all(1, b", call ");
-            io::print_decimal(1, t.call as u64);
-        } else {
-            io::write_all(1, b", the results or the rest of the buffer");
-        }
-        io::write_all(1, b"\n");
-    }
-    if !t.whole {
-        io::write_all(1, name);
-        io::write_all(1, b": the file is cut or cannot be read\n");
-    }
+// Prints the first that did not agree.
+fn print_first(title: &[u8], t: Tally) {
+    io::write_all(1, title);
+    print(b": the first that does not agree: list ", t.list);
+    print(b", call ", t.call);
+    io::write_all(1, b"\n");
 }
 
-// The tally of the file that an argument names.
+// The tally of a file.
 fn replay_file(name: &[u8]) -> Tally {
     let fd = os::open_read(name);
     if fd < 0 {
-        return cut(none());
+        return none(1);
     }
     let mut bytes = io::large_buffer();
     let n = io::read_full(fd, &mut bytes);
     libc::close(fd);
     if FILE_LIMIT < n {
-        return cut(none());
+        return none(1);
     }
     replay(&bytes[..n])
 }
 
-// The same, printed.
+// The tally of the file that an argument names, printed.
 fn replay_argument(i: usize) -> Tally {
     let mut name = io::buffer();
     let n = os::arg(i, &mut name);
     let t = replay_file(&name[..n]);
-    print_tally(&name[..n], t);
-    t
-}
-
-// Two files' tallies together, without the first that did not agree; whole is whether all agreed.
-fn joined(a: Tally, b: Tally) -> Tally {
-    Tally {
-        lists: wrapping_add_usize(a.lists, b.lists),
-        agreed_lists: wrapping_add_usize(a.agreed_lists, b.agreed_lists),
-        calls: wrapping_add_usize(a.calls, b.calls),
-        agreed_calls: wrapping_add_usize(a.agreed_calls, b.agreed_calls),
-        list: 0,
-        call: 0,
-        whole: both(a.whole, all_agreed(b)),
+    print_counts(&name[..n], t);
+    if t.list != 0 {
+        print_first(&name[..n], t);
     }
+    t
 }
 
 // The tally of every file that an argument names.
 fn replay_all() -> Tally {
     let n = os::arg_count();
-    let mut t = none();
+    let mut t = none(0);
     let mut i = 1;
     while i < n {
         t = joined(t, replay_argument(i));
@@ -249,11 +199,9 @@ fn replay_all() -> Tally {
 
 fn main() {
     let t = replay_all();
-    if t.whole {
-        io::write_all(1, b"all agree: ");
+    if t.list == 0 {
+        print_counts(b"all agree", t);
     } else {
-        io::write_all(1, b"NOT ALL AGREE: ");
+        print_counts(b"NOT ALL AGREE", t);
     }
-    print_share(t.agreed_calls, t.calls, b" calls and ");
-    print_share(t.agreed_lists, t.lists, b" lists agree\n");
 }

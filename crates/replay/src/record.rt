@@ -1,15 +1,19 @@
 // A record: its numbers, the run that it is of, and whether the run agrees with it.
 ghost use mathlib.Core.Path.{_≡_};
+ghost use mathlib.Core.Bool.{true};
 ghost use Prim.Native.Nat.{_+_, _≤_};
 ghost use lib.ListN.{length};
 ghost use Rattle.list.specs.Run.{runOf, over};
-ghost use Rattle.replay.specs.Record.{Decides, startOf, resultsOf, headerAt, sameResults, Agrees};
+ghost use Rattle.replay.specs.Record.{Decides, startOf, resultsOf, headerAt, recorded, Fits, sameResults, Agrees};
 use board::Board;
 use wide::fields::get;
 use wide::flags::both;
 
 // Bytes of a record before its list.
 pub const HEADER: usize = 12;
+
+// The longest answer buffer.
+pub const BUFFER_LIMIT: usize = 32768;
 
 // A run's results but the board and the answers.
 pub struct Results {
@@ -22,10 +26,13 @@ pub struct Results {
 // The numbers of a record: the starting board's timer enable, the lengths of the list and of the answer buffer, and
 // the results.
 pub struct Header {
-    pub timer_enable: u8,
+    pub enable: u8,
     pub list: usize,
     pub buffer: usize,
-    pub results: Results,
+    pub calls: usize,
+    pub used: usize,
+    pub written: usize,
+    pub refusal: u8,
 }
 
 // The numbers of the record at an index.
@@ -33,18 +40,30 @@ pub fn header_at(s: &[u8], at: usize) -> Header
     requires { ⌜ at + 12 ≤ length (now s) ⌝ }
     ensures { λ r. ⌜ r ≡ headerAt (now (s .entry)) at ⌝ }
 {
-    let results = Results {
+    Header {
+        enable: get(s, at, 1) as u8,
+        list: get(s, at + 1, 2) as usize,
+        buffer: get(s, at + 3, 2) as usize,
         calls: get(s, at + 5, 2) as usize,
         used: get(s, at + 7, 2) as usize,
         written: get(s, at + 9, 2) as usize,
         refusal: get(s, at + 11, 1) as u8,
-    };
-    Header {
-        timer_enable: get(s, at, 1) as u8,
-        list: get(s, at + 1, 2) as usize,
-        buffer: get(s, at + 3, 2) as usize,
-        results,
     }
+}
+
+// Whether so many bytes, from a record's first on, have all of it, and its buffer is not too long.
+pub fn fits(h: Header, room: usize) -> bool
+    requires { ⌜ 12 ≤ room ⌝ }
+    ensures { λ r. ⌜ (r ≡ true → Fits h room) ⌝ }
+{
+    let rest = room - HEADER;
+    if rest < h.list {
+        return false;
+    }
+    if rest - h.list < h.written {
+        return false;
+    }
+    h.buffer <= BUFFER_LIMIT
 }
 
 // The fresh board with a timer enable.
@@ -73,12 +92,16 @@ fn replayed(enable: u8, list: &[u8], answers: &mut [u8]) -> Results
     }
 }
 
-fn same_results(a: Results, b: Results) -> bool
-    ensures { λ r. ⌜ r ≡ sameResults a b ⌝ }
+// Whether a run has the recorded results.
+fn same_results(r: Results, h: Header) -> bool
+    ensures { λ b. ⌜ b ≡ sameResults r (recorded h) ⌝ }
 {
     both(
-        a.calls == b.calls,
-        both(a.used == b.used, both(a.written == b.written, a.refusal == b.refusal)),
+        r.calls == h.calls,
+        both(
+            r.used == h.used,
+            both(r.written == h.written, r.refusal == h.refusal),
+        ),
     )
 }
 
@@ -103,10 +126,38 @@ pub fn agrees(h: Header, list: &[u8], answers: &[u8], buffer: &mut [u8], old: &[
     ensures { λ r. ⌜ Decides r (Agrees h (now (list .entry)) (now (answers .entry)) (now (buffer .entry))
         (now (old .entry))) ⌝ }
 {
-    let r = replayed(h.timer_enable, list, buffer);
-    let recorded = h.results;
-    if !same_results(r, recorded) {
+    let r = replayed(h.enable, list, buffer);
+    if !same_results(r, h) {
         return false;
     }
     holds(buffer, answers, old)
+}
+
+// Whether a slice has the same bytes as another in a part of that one.
+fn same_part(a: &[u8], b: &[u8], from: usize, to: usize) -> bool
+    requires { ⌜ (from ≤ to) × (to ≤ length (now a)) ⌝ }
+{
+    if b.len() < to {
+        return false;
+    }
+    check::same(&a[from..to], &b[from..to])
+}
+
+// How many recorded answers, header and value, from the first on, stand in a buffer at their place.
+pub fn leading(answers: &[u8], buffer: &[u8]) -> usize {
+    let mut n = 0;
+    let mut at = 0;
+    while format::HEADER <= answers.len() - at {
+        let size = get(answers, at + 1, 2) as usize;
+        if answers.len() - at - format::HEADER < size {
+            return n;
+        }
+        let to = at + format::HEADER + size;
+        if !same_part(answers, buffer, at, to) {
+            return n;
+        }
+        n += 1;
+        at = to;
+    }
+    n
 }

@@ -1,5 +1,5 @@
--- `replayed` meets its contract: both buffers have the recorded length. Assumes nothing.
-use mathlib.Core.Path.{sym, _∙_}
+-- `replayed` is safe: both buffers have the recorded length. Assumes nothing.
+use mathlib.Core.Path.{sym}
 use native.Mathlib.Omega.{arith}
 use lib.Seq.{length-take-le}
 use borrow.Author.Needs.{needs}

@@ -7,6 +7,7 @@ mod generated;
 mod list;
 mod originals;
 mod program;
+mod recorded;
 mod registers;
 mod rules;
 mod settings;

@@ -1,6 +1,5 @@
 -- `record::agrees` meets its contract. Assumes nothing.
 use mathlib.Core.Path.{sym, _∙_}
-use native.Mathlib.Omega.{arith}
 use borrow.Author.Needs.{needs}
 use borrow.Author.Tests.{not-true, not-false}
 use Rattle.replay.proofs.Laws.{results-differ, bytes-decide}
@@ -17,8 +16,8 @@ same-length : tie.Need-same-length
 same-length c = search needs
 
 returns : tie.Need-returns
-returns c = 
-    results-differ _ _ _ _ _ _ (c .before .before .before .before .before .replayed .ensures .0)
+returns c =
+    results-differ _ _ _ _ _ _ (c .before .before .before .before .replayed .ensures .0)
     (sym (c .before .same-results .ensures) ∙ not-true _ (c .if1 .taken))
 
 holds-requires : tie.Need-holds-requires
@@ -28,8 +27,9 @@ same-length-2 : tie.Need-same-length-2
 same-length-2 c = search needs
 
 returns-2 : tie.Need-returns-2
-returns-2 c = 
-    bytes-decide _ _ _ _ _ _ (c .before .before .before .before .before .before .before .replayed .ensures .0) _ _ (c .before .before .before .before .before .before .before .replayed .ensures .1)
+returns-2 c =
+    let r = c .before .before .before .before .before .before .replayed .ensures in
+    bytes-decide _ _ _ _ _ _ (r .0) _ _ (r .1)
     (sym (c .before .before .before .same-results .ensures) ∙ not-false _ (c .before .before .if1 .left)) (c .holds .ensures)
 
 pub agrees-spec : {M : Type 1} → statement M

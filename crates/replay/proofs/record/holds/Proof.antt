@@ -42,9 +42,9 @@ same-requires-2 : tie.Need-same-requires-2
 same-requires-2 c κs = tt
 
 returns-3 : tie.Need-returns-3
-returns-3 c = 
+returns-3 c =
     rest-decides _ _ _ _ _ (c .before .before .before .before .same .ensures) (not-false _ (c .before .before .before .if2 .left))
-    (rw (part-rest, part-rest) at (c .same2 .ensures))
+    (simp part-rest at (c .same2 .ensures))
 
 pub holds-spec : {M : Type 1} → statement M
 holds-spec =

@@ -1,6 +1,6 @@
 -- `record::replayed` meets its contract. Assumes nothing.
-use mathlib.Core.Path.{refl}
 use borrow.Author.Needs.{needs}
+use Rattle.replay.proofs.Laws.{ran-results, ran-bytes}
 use Rattle.replay.proofs.record.replayed.Statement.{statement}
 use Rattle.replay.proofs.record.replayed.Tie as tie
 
@@ -14,10 +14,10 @@ same-length : tie.Need-same-length
 same-length c = search needs
 
 returns : tie.Need-returns
-returns c = 
+returns c =
     let s = c .before .before .before .before .start .ensures in
     let r = c .before .before .run .ensures in
-    rw (r .0, r .1, s) (refl, refl)
+    (ran-results _ _ _ _ s _ (r .0), ran-bytes _ _ _ _ s _ _ (r .1))
 
 pub replayed-spec : {M : Type 1} → statement M
 replayed-spec =

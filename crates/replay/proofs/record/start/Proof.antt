@@ -1,5 +1,5 @@
 -- `record::start` meets its contract. Assumes nothing.
-use mathlib.Core.Path.{refl}
+use Rattle.replay.specs.Record.{startOf}
 use Rattle.replay.proofs.record.start.Statement.{statement}
 use Rattle.replay.proofs.record.start.Tie as tie
 
@@ -7,6 +7,7 @@ fresh-requires : tie.Need-fresh-requires
 fresh-requires c κs = tt
 
 returns : tie.Need-returns
+unfolding startOf
 returns c = rw (c .fresh .ensures)
 
 pub start-spec : {M : Type 1} → statement M
