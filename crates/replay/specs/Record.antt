@@ -3,7 +3,7 @@ use Prim.Native.Nat.{ℕ, _+_, _≤_}
 use mathlib.Core.Path.{_≡_}
 use mathlib.Core.Bool.{Bool, true, _&&_}
 use mathlib.Core.List.{List}
-use lib.ListN.{length}
+use lib.ListN.{length, getD}
 use lib.Dec.{eqb}
 use Rattle.wide.specs.Fields.{beAt}
 use Rattle.board.specs.declared.Board.{Board}
@@ -37,13 +37,13 @@ resultsOf o = record { calls = o .calls; used = o .used; written = o .written; r
 unfoldable pub headerAt : List ℕ → ℕ → Header
 headerAt s at =
     record {
-      enable = beAt s at 1;
+      enable = getD s at 0;
       list = beAt s (at + 1) 2;
       buffer = beAt s (at + 3) 2;
       calls = beAt s (at + 5) 2;
       used = beAt s (at + 7) 2;
       written = beAt s (at + 9) 2;
-      refusal = beAt s (at + 11) 1;
+      refusal = getD s (at + 11) 0;
     }
 
 -- the results that a record has

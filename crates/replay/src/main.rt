@@ -151,9 +151,8 @@ fn print_counts(title: &[u8], t: Tally) {
 }
 
 // Prints the first that did not agree.
-fn print_first(title: &[u8], t: Tally) {
-    io::write_all(1, title);
-    print(b": the first that does not agree: list ", t.list);
+fn print_first(t: Tally) {
+    print(b"the first that does not agree: list ", t.list);
     print(b", call ", t.call);
     io::write_all(1, b"\n");
 }
@@ -180,7 +179,7 @@ fn replay_argument(i: usize) -> Tally {
     let t = replay_file(&name[..n]);
     print_counts(&name[..n], t);
     if t.list != 0 {
-        print_first(&name[..n], t);
+        print_first(t);
     }
     t
 }

@@ -41,13 +41,13 @@ pub fn header_at(s: &[u8], at: usize) -> Header
     ensures { λ r. ⌜ r ≡ headerAt (now (s .entry)) at ⌝ }
 {
     Header {
-        enable: get(s, at, 1) as u8,
+        enable: s[at],
         list: get(s, at + 1, 2) as usize,
         buffer: get(s, at + 3, 2) as usize,
         calls: get(s, at + 5, 2) as usize,
         used: get(s, at + 7, 2) as usize,
         written: get(s, at + 9, 2) as usize,
-        refusal: get(s, at + 11, 1) as u8,
+        refusal: s[at + 11],
     }
 }
 
