@@ -13,13 +13,12 @@
 ghost use Prim.Native.Nat.{_-_, _≤_};
 ghost use mathlib.Core.Path.{_≡_};
 ghost use lib.ListN.{length};
-ghost use Rattle.replay.specs.Record.{Fits};
-use record::BUFFER_LIMIT;
-use record::Header;
+ghost use Rattle.recording.specs.Record.{Fits};
+use recording::BUFFER_LIMIT;
+use recording::Header;
 use std::num::wrapping_add_usize;
 use wide::flags::both;
 
-mod record;
 
 // The longest file.
 const FILE_LIMIT: usize = 65535;
@@ -70,7 +69,7 @@ fn compared(h: Header, list: &[u8], answers: &[u8], buffer: &mut [u8], old: &[u8
     requires { ⌜ length (now old) ≡ length (now buffer) ⌝ }
 {
     let calls = h.calls;
-    if record::agrees(h, list, answers, buffer, old) {
+    if recording::agrees(h, list, answers, buffer, old) {
         return Tally {
             lists: 1,
             calls,
@@ -79,7 +78,7 @@ fn compared(h: Header, list: &[u8], answers: &[u8], buffer: &mut [u8], old: &[u8
             call: 0,
         };
     }
-    let agreed = record::leading(answers, buffer);
+    let agreed = recording::leading(answers, buffer);
     Tally {
         lists: 1,
         calls,
@@ -110,7 +109,7 @@ fn replayed(h: Header, list: &[u8], answers: &[u8]) -> Tally
 fn replay_record(s: &[u8], at: usize, h: Header) -> Tally
     requires { ⌜ Fits h (length (now s) - at) × (at ≤ length (now s)) ⌝ }
 {
-    let list = at + record::HEADER;
+    let list = at + recording::HEADER;
     let answers = list + h.list;
     let end = answers + h.written;
     replayed(h, &s[list..answers], &s[answers..end])
@@ -122,15 +121,15 @@ fn replay(s: &[u8]) -> Tally {
     let mut at = 0;
     while at < s.len() {
         let room = s.len() - at;
-        if room < record::HEADER {
+        if room < recording::HEADER {
             return joined(t, none(1));
         }
-        let h = record::header_at(s, at);
-        if !record::fits(h, room) {
+        let h = recording::header_at(s, at);
+        if !recording::fits(h, room) {
             return joined(t, none(1));
         }
         t = joined(t, replay_record(s, at, h));
-        at += record::HEADER + (h.list + h.written);
+        at += recording::HEADER + (h.list + h.written);
     }
     t
 }

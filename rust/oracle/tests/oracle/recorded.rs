@@ -42,7 +42,7 @@ fn recording_covers_tags_registers_and_refusals() {
 fn stored_output_has_the_recorded_counts() {
     let shares = |coverage: &Coverage| {
         let (calls, lists) = (coverage.calls, coverage.records);
-        format!("{calls} of {calls} calls and {lists} of {lists} lists agree\n")
+        format!("{calls} of {calls} calls agree, in lists: {lists}\n")
     };
     let recordings = recordings();
     let mut text: String = recordings

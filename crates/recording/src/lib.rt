@@ -1,10 +1,10 @@
-// A record: its numbers, the run that it is of, and whether the run agrees with it.
+// A record of the Rust's answers: its numbers, the run of its list, and whether the run agrees with it.
 ghost use mathlib.Core.Path.{_≡_};
 ghost use mathlib.Core.Bool.{true};
 ghost use Prim.Native.Nat.{_+_, _≤_};
 ghost use lib.ListN.{length};
 ghost use Rattle.list.specs.Run.{runOf, over};
-ghost use Rattle.replay.specs.Record.{Decides, startOf, resultsOf, headerAt, recorded, Fits, sameResults, Agrees};
+ghost use Rattle.recording.specs.Record.{Decides, startOf, resultsOf, headerAt, recorded, Fits, sameResults, Agrees};
 use board::Board;
 use wide::fields::get;
 use wide::flags::both;

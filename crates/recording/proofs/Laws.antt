@@ -12,9 +12,9 @@ use Rattle.wide.proofs.Choices.{and-parts}
 use Rattle.board.specs.declared.Board.{Board}
 use Rattle.list.specs.declared.Outcome.{Outcome}
 use Rattle.list.specs.Run.{runOf, over}
-use Rattle.replay.specs.declared.record.Results.{Results}
-use Rattle.replay.specs.declared.record.Header.{Header}
-use Rattle.replay.specs.Record.{Decides, startOf, resultsOf, recorded, sameResults, Agrees}
+use Rattle.recording.specs.declared.Results.{Results}
+use Rattle.recording.specs.declared.Header.{Header}
+use Rattle.recording.specs.Record.{Decides, startOf, resultsOf, recorded, sameResults, Agrees}
 
 -- ---- decisions
 

@@ -1,12 +1,12 @@
--- `record::holds` meets its contract. Assumes nothing.
+-- `holds` meets its contract. Assumes nothing.
 use mathlib.Core.Path.{sym}
 use native.Mathlib.Omega.{arith}
 use lib.Seq.{length-take-le}
 use borrow.Author.Tests.{not-true, not-false}
 use Rattle.format.proofs.Frames.{part-rest}
-use Rattle.replay.proofs.Laws.{too-short, front-differs, rest-decides}
-use Rattle.replay.proofs.record.holds.Statement.{statement}
-use Rattle.replay.proofs.record.holds.Tie as tie
+use Rattle.recording.proofs.Laws.{too-short, front-differs, rest-decides}
+use Rattle.recording.proofs.holds.Statement.{statement}
+use Rattle.recording.proofs.holds.Tie as tie
 
 returns : tie.Need-returns
 returns c = too-short _ _ _ (c .if1 .taken)

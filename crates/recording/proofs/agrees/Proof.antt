@@ -1,10 +1,10 @@
--- `record::agrees` meets its contract. Assumes nothing.
+-- `agrees` meets its contract. Assumes nothing.
 use mathlib.Core.Path.{sym, _∙_}
 use borrow.Author.Needs.{needs}
 use borrow.Author.Tests.{not-true, not-false}
-use Rattle.replay.proofs.Laws.{results-differ, bytes-decide}
-use Rattle.replay.proofs.record.agrees.Statement.{statement}
-use Rattle.replay.proofs.record.agrees.Tie as tie
+use Rattle.recording.proofs.Laws.{results-differ, bytes-decide}
+use Rattle.recording.proofs.agrees.Statement.{statement}
+use Rattle.recording.proofs.agrees.Tie as tie
 
 replayed-requires : tie.Need-replayed-requires
 replayed-requires c κs = tt

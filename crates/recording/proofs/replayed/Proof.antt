@@ -1,8 +1,8 @@
--- `record::replayed` meets its contract. Assumes nothing.
+-- `replayed` meets its contract. Assumes nothing.
 use borrow.Author.Needs.{needs}
-use Rattle.replay.proofs.Laws.{ran-results, ran-bytes}
-use Rattle.replay.proofs.record.replayed.Statement.{statement}
-use Rattle.replay.proofs.record.replayed.Tie as tie
+use Rattle.recording.proofs.Laws.{ran-results, ran-bytes}
+use Rattle.recording.proofs.replayed.Statement.{statement}
+use Rattle.recording.proofs.replayed.Tie as tie
 
 start-requires : tie.Need-start-requires
 start-requires c κs = tt

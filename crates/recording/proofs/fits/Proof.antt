@@ -1,9 +1,9 @@
--- `record::fits` meets its contract. Assumes nothing.
+-- `fits` meets its contract. Assumes nothing.
 use mathlib.Core.Bool.{false≢true}
 use native.Mathlib.Omega.{arith}
 use borrow.Author.Tests.{leb-true}
-use Rattle.replay.proofs.record.fits.Statement.{statement}
-use Rattle.replay.proofs.record.fits.Tie as tie
+use Rattle.recording.proofs.fits.Statement.{statement}
+use Rattle.recording.proofs.fits.Tie as tie
 
 sub-rest : tie.Need-sub-rest
 sub-rest c = omega arith

@@ -1,8 +1,8 @@
--- `record::header_at` meets its contract. Assumes nothing.
+-- `header_at` meets its contract. Assumes nothing.
 use native.Mathlib.Omega.{arith}
-use Rattle.replay.specs.Record.{headerAt}
-use Rattle.replay.proofs.record.header_at.Statement.{statement}
-use Rattle.replay.proofs.record.header_at.Tie as tie
+use Rattle.recording.specs.Record.{headerAt}
+use Rattle.recording.proofs.header_at.Statement.{statement}
+use Rattle.recording.proofs.header_at.Tie as tie
 
 shared-slice-read-t4 : tie.Need-shared-slice-read-t4
 shared-slice-read-t4 c = omega arith

@@ -10,8 +10,8 @@ use Rattle.board.specs.declared.Board.{Board}
 use Rattle.board.specs.Board.{freshBoard}
 use Rattle.list.specs.declared.Outcome.{Outcome}
 use Rattle.list.specs.Run.{runOf, over}
-use Rattle.replay.specs.declared.record.Results.{Results}
-use Rattle.replay.specs.declared.record.Header.{Header}
+use Rattle.recording.specs.declared.Results.{Results}
+use Rattle.recording.specs.declared.Header.{Header}
 
 -- an answer that is true exactly where a fact holds
 abbrev pub Decides : Bool → Type 0 → Type 0

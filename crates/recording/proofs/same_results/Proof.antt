@@ -1,7 +1,7 @@
--- `record::same_results` meets its contract. Assumes nothing.
-use Rattle.replay.specs.Record.{sameResults}
-use Rattle.replay.proofs.record.same_results.Statement.{statement}
-use Rattle.replay.proofs.record.same_results.Tie as tie
+-- `same_results` meets its contract. Assumes nothing.
+use Rattle.recording.specs.Record.{sameResults}
+use Rattle.recording.proofs.same_results.Statement.{statement}
+use Rattle.recording.proofs.same_results.Tie as tie
 
 both-requires : tie.Need-both-requires
 both-requires c κs = tt

@@ -1,9 +1,9 @@
--- `record::leading` is safe and ends: it counts no more answers than there are bytes. Assumes nothing.
+-- `leading` is safe and ends: it counts no more answers than there are bytes. Assumes nothing.
 use Prim.Native.Nat.{_≤_, _-_}
 use native.Mathlib.Omega.{arith}
 use lib.ListN.{length}
-use Rattle.replay.proofs.record.leading.Statement.{statement}
-use Rattle.replay.proofs.record.leading.Tie as tie
+use Rattle.recording.proofs.leading.Statement.{statement}
+use Rattle.recording.proofs.leading.Tie as tie
 
 abbrev Inv-loop : tie.InvT-loop
 Inv-loop answers buffer n₀ at₀ n at = (at ≤ length answers) × (n ≤ at)

@@ -1,7 +1,7 @@
--- `record::start` meets its contract. Assumes nothing.
-use Rattle.replay.specs.Record.{startOf}
-use Rattle.replay.proofs.record.start.Statement.{statement}
-use Rattle.replay.proofs.record.start.Tie as tie
+-- `start` meets its contract. Assumes nothing.
+use Rattle.recording.specs.Record.{startOf}
+use Rattle.recording.proofs.start.Statement.{statement}
+use Rattle.recording.proofs.start.Tie as tie
 
 fresh-requires : tie.Need-fresh-requires
 fresh-requires c κs = tt
