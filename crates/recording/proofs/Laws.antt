@@ -1,12 +1,11 @@
 -- Laws of what a record is compared with: the buffer after a run, and the results. Assumes nothing.
 use mathlib.Core.Path.{_≡_, refl, sym, ap, _∙_}
-use mathlib.Core.Bool.{Bool, true, false, _&&_, false≢true}
+use mathlib.Core.Bool.{Bool, true, false, false≢true}
 use mathlib.Core.List.{List, _++_}
 use Prim.Native.Nat.{ℕ, _<_}
 use native.Mathlib.Omega.{arith}
 use lib.ListN.{length, take, drop, length-append, take-append-drop}
 use lib.Seq.{take-append-seam, drop-append-seam}
-use lib.Dec.{eqb}
 use borrow.Author.Tests.{eqb-true, eq-eqb}
 use Rattle.wide.proofs.Choices.{and-parts}
 use Rattle.board.specs.declared.Board.{Board}
@@ -18,10 +17,10 @@ use Rattle.recording.specs.Record.{Decides, startOf, resultsOf, recorded
 
 -- ---- decisions
 
-pub denied : {P : Type 0} → (P → ⊥) → Decides false P
+denied : {P : Type 0} → (P → ⊥) → Decides false P
 denied h = (λ e. absurd (false≢true e), λ p. absurd (h p))
 
-pub decided-false : {P : Type 0} (b : Bool) → Decides b P → b ≡ false → P → ⊥
+decided-false : {P : Type 0} (b : Bool) → Decides b P → b ≡ false → P → ⊥
 decided-false b d e p = false≢true (sym e ∙ d .1 p)
 
 -- ---- the buffer
@@ -62,7 +61,7 @@ made : (c c′ u u′ w w′ r r′ : ℕ) → c ≡ c′ → u ≡ u′ → w �
     (record { calls = c′; used = u′; written = w′; refusal = r′ })
 made c c′ u u′ w w′ r r′ p q s t = rw (p, q, s, t)
 
-pub results-same : (a b : Results) → sameResults a b ≡ true → a ≡ b
+results-same : (a b : Results) → sameResults a b ≡ true → a ≡ b
 unfolding sameResults
 results-same a b h =
     let p = and-parts _ _ h in
@@ -80,7 +79,7 @@ same-as-itself a =
       eq-eqb (a .refusal) (a .refusal) refl,
     )
 
-pub same-results : (a b : Results) → a ≡ b → sameResults a b ≡ true
+same-results : (a b : Results) → a ≡ b → sameResults a b ≡ true
 same-results a b e = rw (← e) (same-as-itself a)
 
 -- ---- a run

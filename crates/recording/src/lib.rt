@@ -4,10 +4,13 @@ ghost use mathlib.Core.Bool.{true};
 ghost use Prim.Native.Nat.{_+_, _≤_};
 ghost use lib.ListN.{length};
 ghost use Rattle.list.specs.Run.{runOf, over};
-ghost use Rattle.recording.specs.Record.{Decides, startOf, resultsOf, headerAt, recorded, Fits, sameResults, Agrees};
+ghost use Rattle.recording.specs.Record.{Decides, startOf, resultsOf, headerAt, recorded};
+ghost use Rattle.recording.specs.Record.{Fits, sameResults, Agrees};
 use board::Board;
 use wide::fields::get;
 use wide::flags::both;
+
+pub mod tally;
 
 // Bytes of a record before its list.
 pub const HEADER: usize = 12;

@@ -29,8 +29,9 @@ same-length-2 c = search needs
 returns-2 : tie.Need-returns-2
 returns-2 c =
     let r = c .before .before .before .before .before .before .replayed .ensures in
-    bytes-decide _ _ _ _ _ _ (r .0) _ _ (r .1)
-    (sym (c .before .before .before .same-results .ensures) ∙ not-false _ (c .before .before .if1 .left)) (c .holds .ensures)
+    let e = c .before .before .before .same-results .ensures in
+    bytes-decide _ _ _ _ _ _ (r .0) _ _ (r .1) (sym e ∙ not-false _ (c .before .before .if1 .left))
+    (c .holds .ensures)
 
 pub agrees-spec : {M : Type 1} → statement M
 agrees-spec =

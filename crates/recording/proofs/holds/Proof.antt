@@ -43,7 +43,8 @@ same-requires-2 c κs = tt
 
 returns-3 : tie.Need-returns-3
 returns-3 c =
-    rest-decides _ _ _ _ _ (c .before .before .before .before .same .ensures) (not-false _ (c .before .before .before .if2 .left))
+    let front = c .before .before .before .before .same .ensures in
+    rest-decides _ _ _ _ _ front (not-false _ (c .before .before .before .if2 .left))
     (simp part-rest at (c .same2 .ensures))
 
 pub holds-spec : {M : Type 1} → statement M

@@ -1,10 +1,10 @@
--- `replayed` is safe: both buffers have the recorded length. Assumes nothing.
+-- `tally::replayed` is safe: both buffers have the recorded length. Assumes nothing.
 use mathlib.Core.Path.{sym}
 use native.Mathlib.Omega.{arith}
 use lib.Seq.{length-take-le}
 use borrow.Author.Needs.{needs}
-use Rattle.replay.proofs.replayed.Statement.{statement}
-use Rattle.replay.proofs.replayed.Tie as tie
+use Rattle.recording.proofs.tally.replayed.Statement.{statement}
+use Rattle.recording.proofs.tally.replayed.Tie as tie
 
 old-bytes-requires : tie.Need-old-bytes-requires
 old-bytes-requires c κs = tt

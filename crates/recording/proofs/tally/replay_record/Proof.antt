@@ -1,7 +1,7 @@
--- `replay_record` is safe: the record lies within the file. Assumes nothing.
+-- `tally::replay_record` is safe: the record lies within the file. Assumes nothing.
 use native.Mathlib.Omega.{arith}
-use Rattle.replay.proofs.replay_record.Statement.{statement}
-use Rattle.replay.proofs.replay_record.Tie as tie
+use Rattle.recording.proofs.tally.replay_record.Statement.{statement}
+use Rattle.recording.proofs.tally.replay_record.Tie as tie
 
 add-list : tie.Need-add-list
 add-list c = omega arith
