@@ -25,6 +25,7 @@ mod host_time;
 pub mod list;
 #[cfg(feature = "proved")]
 pub mod proved;
+pub mod record;
 pub mod writes;
 
 /// Stand-in for the simulator's system constants.

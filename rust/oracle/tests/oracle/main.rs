@@ -9,6 +9,7 @@ mod list;
 mod originals;
 mod papers;
 mod program;
+mod recorded;
 mod registers;
 mod rules;
 mod settings;

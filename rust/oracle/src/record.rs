@@ -1,0 +1,456 @@
+//! The recording that the program `replay` replays: call lists by theme, from fixed seeds, and what the Rust
+//! answered. README.md has the layout of its files.
+
+use std::collections::BTreeSet;
+
+use crate::board::Board;
+use crate::call::{answer_length, refusal, value_length, Call, HEADER};
+use crate::fields::Fields;
+use crate::generate::{self, Random};
+use crate::list::{self, Outcome};
+use crate::registers::{self, channel, of_channel, CHANNELS};
+
+/// The longest file, and the longest answer buffer, that `replay` takes.
+pub const FILE_LIMIT: usize = 65_535;
+pub const BUFFER_LIMIT: usize = 32_768;
+
+/// The longest answer buffer of a mixed list; a list made to pass its buffer stays short by it.
+const MIXED_BUFFER: usize = 4_096;
+
+/// The tags, in order.
+const TAGS: [u8; 10] = [0x01, 0x02, 0x03, 0x04, 0x05, 0x06, 0x07, 0x08, 0x09, 0x0A];
+
+/// A list to run on the fresh board with a timer enable, and the length of the buffer for its answers.
+pub struct Start {
+    pub timer_enable: u8,
+    pub list: Vec<u8>,
+    pub buffer: usize,
+}
+
+/// A list and what its run answered.
+pub struct Record {
+    pub start: Start,
+    pub outcome: Outcome,
+    pub answers: Vec<u8>,
+}
+
+/// The records of one file.
+pub struct Recording {
+    pub name: &'static str,
+    pub records: Vec<Record>,
+}
+
+/// What records have in them.
+#[derive(Default)]
+pub struct Coverage {
+    pub records: usize,
+    /// Calls done.
+    pub calls: usize,
+    /// Tags of calls done.
+    pub tags: BTreeSet<u8>,
+    /// Addresses that calls done read.
+    pub read: BTreeSet<u16>,
+    /// Addresses that calls done wrote.
+    pub written: BTreeSet<u16>,
+    pub refusals: BTreeSet<u8>,
+}
+
+/// Every file of the recording.
+pub fn recordings() -> Vec<Recording> {
+    let recording = |name, starts: Vec<Start>| Recording {
+        name,
+        records: starts.into_iter().map(Start::run).collect(),
+    };
+    vec![
+        recording("mixed-1", (1..=30).map(mixed).collect()),
+        recording("mixed-2", (31..=60).map(mixed).collect()),
+        recording("mixed-3", (61..=90).map(mixed).collect()),
+        recording("registers-read", registers_read(&mut Random::new(91))),
+        recording("registers-written", registers_written(&mut Random::new(92))),
+        recording("refusals", refusals(&mut Random::new(93))),
+        recording("short-buffers", short_buffers(&mut Random::new(94))),
+    ]
+}
+
+impl Start {
+    fn run(self) -> Record {
+        let mut board = Board::from_fields(&Fields {
+            timer_enable: self.timer_enable,
+            ..Fields::fresh()
+        });
+        let mut answers = vec![0; self.buffer];
+        let outcome = list::run(&mut board, &self.list, &mut answers);
+        answers.truncate(outcome.answer_bytes);
+        Record {
+            start: self,
+            outcome,
+            answers,
+        }
+    }
+}
+
+impl Record {
+    /// The record as it stands in a file.
+    fn encode(&self) -> Vec<u8> {
+        let two = |number: usize| {
+            u16::try_from(number)
+                .expect("a record's numbers are short")
+                .to_be_bytes()
+        };
+        assert!(self.start.buffer <= BUFFER_LIMIT);
+        [
+            &[self.start.timer_enable][..],
+            &two(self.start.list.len()),
+            &two(self.start.buffer),
+            &two(self.outcome.calls),
+            &two(self.outcome.list_bytes),
+            &two(self.outcome.answer_bytes),
+            &[self.outcome.refusal],
+            &self.start.list,
+            &self.answers,
+        ]
+        .concat()
+    }
+}
+
+impl Recording {
+    /// The file's bytes: its records one after another.
+    pub fn encode(&self) -> Vec<u8> {
+        let bytes: Vec<u8> = self.records.iter().flat_map(Record::encode).collect();
+        assert!(bytes.len() <= FILE_LIMIT, "{} has {} bytes", self.name, bytes.len());
+        bytes
+    }
+}
+
+impl Coverage {
+    /// What the recordings have together.
+    pub fn of<'a>(recordings: impl IntoIterator<Item = &'a Recording>) -> Self {
+        let mut coverage = Self::default();
+        for record in recordings.into_iter().flat_map(|recording| &recording.records) {
+            coverage.records += 1;
+            coverage.calls += record.outcome.calls;
+            coverage.refusals.insert(record.outcome.refusal);
+            let mut done = &record.start.list[..record.outcome.list_bytes];
+            while !done.is_empty() {
+                let (call, used) = list::first_call(done).expect("a call done is whole");
+                coverage.tags.insert(call.tag());
+                match call {
+                    Call::Read { address } => coverage.read.insert(address),
+                    Call::Write { address, .. } => coverage.written.insert(address),
+                    _ => false,
+                };
+                done = &done[used..];
+            }
+        }
+        coverage
+    }
+}
+
+/// The list of a seed, on a board whose timer enable is often 0, as the list was made for.
+fn mixed(seed: u64) -> Start {
+    let generated = generate::list(seed);
+    let mut random = Random::new(seed);
+    let any = random.below(16) as u8;
+    Start {
+        timer_enable: random.pick(&[0, 0, 15, any]),
+        list: generated.list,
+        buffer: generated.buffer.min(MIXED_BUFFER),
+    }
+}
+
+/// Bytes of the answers of calls that are all done.
+fn answer_bytes(calls: &[Call]) -> usize {
+    calls.iter().map(|call| HEADER + answer_length(call.tag())).sum()
+}
+
+fn encode(calls: &[Call]) -> Vec<u8> {
+    calls.iter().flat_map(Call::encode).collect()
+}
+
+/// The calls on a board, into a buffer a little longer than their answers.
+fn whole(random: &mut Random, calls: &[Call]) -> Start {
+    Start {
+        timer_enable: 15,
+        list: encode(calls),
+        buffer: answer_bytes(calls) + random.below(9) as usize,
+    }
+}
+
+fn write_word(calls: &mut Vec<Call>, address: u16, value: u32) {
+    for (byte, address) in value.to_be_bytes().into_iter().zip(address..) {
+        calls.push(Call::Write { address, byte });
+    }
+}
+
+/// Calls that fill the board: all channels, the clock, its alarm, the host time and the controller. The channels
+/// are in modes 0 to 3, and the clock runs from host time or not.
+fn prepared(random: &mut Random, realtime: bool) -> Vec<Call> {
+    let mut calls = vec![Call::HostTime {
+        seconds: random.number(),
+        nanoseconds: random.below(1_000_000_000) as u32,
+    }];
+    for number in 0..CHANNELS {
+        for register in [
+            channel::COUNT_LOW,
+            channel::COUNT_HIGH,
+            channel::COMPARE_LOW,
+            channel::COMPARE_HIGH,
+            channel::RELOAD_LOW,
+            channel::RELOAD_HIGH,
+        ] {
+            write_word(&mut calls, of_channel(number, register), random.word() as u32);
+        }
+        let prescaler = random.below(3) as u32;
+        write_word(&mut calls, of_channel(number, channel::PRESCALER), prescaler);
+        let flags = random.pick(&[12, 12, 4]);
+        calls.push(Call::Write {
+            address: of_channel(number, channel::CONTROL) + 3,
+            byte: flags | number as u8,
+        });
+    }
+    calls.push(Call::Write {
+        address: registers::CLOCK_CONTROL + 3,
+        byte: if realtime { 7 } else { 3 },
+    });
+    for register in [registers::SECONDS_HIGH, registers::SECONDS_LOW] {
+        write_word(&mut calls, register, random.word() as u32);
+    }
+    for register in [registers::ALARM_HIGH, registers::ALARM_LOW] {
+        write_word(&mut calls, register, random.word() as u32 | 1 << 31);
+    }
+    calls.push(Call::Write {
+        address: registers::ALARM_ENABLE + 3,
+        byte: 1,
+    });
+    for address in 4..6 {
+        let byte = random.word() as u8;
+        calls.push(Call::ControllerWrite { address, byte });
+    }
+    for number in [0, 2, 9, 15] {
+        calls.push(Call::Source { number, level: 1 });
+    }
+    let cycles = random.below(1 << 40);
+    calls.push(Call::Advance { cycles });
+    calls
+}
+
+/// Calls that show the board at the end of a list.
+fn shown() -> impl Iterator<Item = Call> {
+    [Call::Deadline, Call::Skip, Call::Output]
+        .into_iter()
+        .chain((0..8).map(|address| Call::ControllerRead { address }))
+}
+
+/// Every address, in order, backwards or shuffled.
+fn addresses(random: &mut Random, order: Order) -> Vec<u16> {
+    let mut addresses: Vec<u16> = (0..registers::SIZE).collect();
+    match order {
+        Order::Upwards => {}
+        Order::Downwards => addresses.reverse(),
+        Order::Shuffled => {
+            for last in (1..addresses.len()).rev() {
+                addresses.swap(last, random.below(last as u64 + 1) as usize);
+            }
+        }
+    }
+    addresses
+}
+
+#[derive(Clone, Copy)]
+enum Order {
+    Upwards,
+    Downwards,
+    Shuffled,
+}
+
+/// Every address read, on boards that are moved on between the reads, so that latched words differ from live ones.
+fn registers_read(random: &mut Random) -> Vec<Start> {
+    let mut starts = Vec::new();
+    for (order, realtime) in [
+        (Order::Upwards, false),
+        (Order::Upwards, true),
+        (Order::Downwards, false),
+        (Order::Shuffled, false),
+        (Order::Shuffled, true),
+    ] {
+        let mut calls = prepared(random, realtime);
+        for address in addresses(random, order) {
+            calls.push(Call::Read { address });
+            if random.once_in(6) {
+                let small = random.below(100);
+                let large = random.below(1 << 36);
+                let cycles = random.pick(&[small, large]);
+                calls.push(Call::Advance { cycles });
+            }
+        }
+        calls.extend(shown());
+        starts.push(whole(random, &calls));
+    }
+    starts
+}
+
+/// Every address written and read back, with the deadline at times.
+fn registers_written(random: &mut Random) -> Vec<Start> {
+    let mut starts = Vec::new();
+    for (order, realtime) in [
+        (Order::Upwards, false),
+        (Order::Downwards, true),
+        (Order::Shuffled, false),
+    ] {
+        let mut calls = prepared(random, realtime);
+        for address in addresses(random, order) {
+            let byte = random.word() as u8;
+            calls.push(Call::Write { address, byte });
+            calls.push(Call::Read { address });
+            if random.once_in(24) {
+                calls.push(Call::Deadline);
+                let cycles = random.below(1 << 36);
+                calls.push(Call::Advance { cycles });
+            }
+        }
+        calls.extend(shown());
+        starts.push(whole(random, &calls));
+    }
+    starts
+}
+
+/// A call that is not refused.
+fn accepted(random: &mut Random) -> Call {
+    loop {
+        let call = random.call();
+        if call.refusal() == refusal::NONE {
+            return call;
+        }
+    }
+}
+
+/// Refusals 1 to 10, each after up to three calls, and with a call behind it at times.
+fn refusals(random: &mut Random) -> Vec<Start> {
+    let mut starts = Vec::new();
+    // 1: the board is not sound, whatever the list and the buffer.
+    for timer_enable in [16, 17, 31, 32, 64, 128, 255] {
+        for list in [
+            vec![],
+            encode(&[Call::Output]),
+            vec![0xFF],
+            encode(&[Call::Deadline; 3]),
+        ] {
+            for buffer in [0, 90] {
+                starts.push(Start {
+                    timer_enable,
+                    list: list.clone(),
+                    buffer,
+                });
+            }
+        }
+    }
+    for (end, whole_call) in refused_ends(random) {
+        let calls: Vec<Call> = (0..random.below(4)).map(|_| accepted(random)).collect();
+        let mut list = encode(&calls);
+        list.extend(end);
+        if whole_call && random.once_in(2) {
+            list.extend(Call::Output.encode());
+        }
+        // An exact buffer too: the refusals here come before 11.
+        let more = random.below(40) as usize;
+        starts.push(Start {
+            timer_enable: random.below(16) as u8,
+            list,
+            buffer: answer_bytes(&calls) + random.pick(&[0, more]),
+        });
+    }
+    starts
+}
+
+/// Bytes that are refused with 2 to 10, and whether a call may stand behind them.
+fn refused_ends(random: &mut Random) -> Vec<(Vec<u8>, bool)> {
+    let mut ends = Vec::new();
+    // 2: one or two bytes left.
+    for tag in (0..=0x0B).chain([0x80, 0xFF]) {
+        ends.push((vec![tag], false));
+        ends.push((vec![tag, random.word() as u8], false));
+    }
+    // 3: every unknown tag, under any length.
+    for tag in (0..=0xFF).filter(|tag| value_length(*tag).is_none()) {
+        let length = random.pick(&[0, 2, 8, 0xFF]);
+        ends.push((vec![tag, 0, length], true));
+    }
+    for tag in TAGS {
+        let right = value_length(tag).expect("the tag is known") as u16;
+        // 4: a length about the right one, its value there or not.
+        for length in (0..=13)
+            .chain([right + 0x100, 0xFFFF])
+            .filter(|length| *length != right)
+        {
+            let [high, low] = length.to_be_bytes();
+            let mut end = vec![tag, high, low];
+            if random.once_in(2) {
+                end.extend(vec![0; usize::from(right)]);
+            }
+            ends.push((end, true));
+        }
+        // 5: a value cut anywhere, also one that would be refused whole.
+        for cut in 0..right {
+            let filler = random.pick(&[0, 0xFF]);
+            let mut end = vec![tag, 0, right as u8];
+            end.extend(vec![filler; usize::from(cut)]);
+            ends.push((end, false));
+        }
+    }
+    ends.extend(refused_calls(random).iter().map(|call| (call.encode(), true)));
+    ends
+}
+
+/// Calls with a refusal of their own, 6 to 10.
+fn refused_calls(random: &mut Random) -> Vec<Call> {
+    let mut calls = Vec::new();
+    for _ in 0..8 {
+        let any = registers::SIZE + random.below(u64::from(u16::MAX - registers::SIZE)) as u16;
+        for address in [registers::SIZE, registers::SIZE + 1, any, u16::MAX] {
+            let byte = random.word() as u8;
+            calls.push(Call::Read { address });
+            calls.push(Call::Write { address, byte });
+        }
+    }
+    for _ in 0..8 {
+        let any = 1_000_000_000 + random.below(1 << 31) as u32;
+        for nanoseconds in [1_000_000_000, 1_000_000_001, any, u32::MAX] {
+            let seconds = random.number();
+            calls.push(Call::HostTime { seconds, nanoseconds });
+        }
+    }
+    let levels = [0, 1, 2, 3, 128, 255];
+    // 8 comes before 10, and 9 before 10.
+    for number in [16, 17, 19, 31, 32, 128, 254, 255, 3, 3] {
+        calls.extend(levels.map(|level| Call::Source { number, level }));
+    }
+    for number in (0..=15).filter(|number| *number != 3) {
+        calls.extend(levels[2..].iter().map(|&level| Call::Source { number, level }));
+    }
+    calls
+}
+
+/// Refusal 11 at every place: lists with every tag, into buffers of every length up to one byte more than needed.
+fn short_buffers(random: &mut Random) -> Vec<Start> {
+    let mut starts = Vec::new();
+    for _ in 0..4 {
+        let mut calls = Vec::new();
+        for tag in TAGS {
+            let call = loop {
+                let call = accepted(random);
+                if call.tag() == tag {
+                    break call;
+                }
+            };
+            calls.insert(random.below(calls.len() as u64 + 1) as usize, call);
+        }
+        for buffer in 0..=answer_bytes(&calls) + 1 {
+            starts.push(Start {
+                timer_enable: random.below(16) as u8,
+                list: encode(&calls),
+                buffer,
+            });
+        }
+    }
+    starts
+}

@@ -1,0 +1,54 @@
+//! The recording that crates/replay replays: the committed files, what they cover, and the counts that the program
+//! must print.
+
+use std::collections::BTreeSet;
+use std::fs;
+use std::path::{Path, PathBuf};
+
+use oracle::record::{recordings, Coverage};
+
+fn replay() -> PathBuf {
+    Path::new(env!("CARGO_MANIFEST_DIR")).join("../../crates/replay")
+}
+
+#[test]
+fn committed_files_are_what_the_recorder_makes() {
+    let recordings = recordings();
+    for recording in &recordings {
+        let committed = fs::read(replay().join("data").join(recording.name)).unwrap();
+        assert!(committed == recording.encode(), "{} is another file", recording.name);
+    }
+    let names: Vec<&str> = recordings.iter().map(|recording| recording.name).collect();
+    let files: BTreeSet<String> = fs::read_dir(replay().join("data"))
+        .unwrap()
+        .map(|entry| entry.unwrap().file_name().into_string().unwrap())
+        .collect();
+    assert_eq!(files, names.iter().map(|name| name.to_string()).collect());
+    let arguments = fs::read_to_string(replay().join("args")).unwrap();
+    assert_eq!(arguments.lines().collect::<Vec<_>>(), names);
+}
+
+#[test]
+fn recording_covers_tags_registers_and_refusals() {
+    let coverage = Coverage::of(&recordings());
+    assert!(coverage.calls >= 20_000, "{} calls", coverage.calls);
+    assert_eq!(coverage.tags, (0x01..=0x0A).collect());
+    assert_eq!(coverage.read, (0x000..0x380).collect());
+    assert_eq!(coverage.written, (0x000..0x380).collect());
+    assert_eq!(coverage.refusals, (0..=11).collect());
+}
+
+#[test]
+fn stored_output_has_the_recorded_counts() {
+    let shares = |coverage: &Coverage| {
+        let (calls, lists) = (coverage.calls, coverage.records);
+        format!("{calls} of {calls} calls agree, in lists: {lists}\n")
+    };
+    let recordings = recordings();
+    let mut text: String = recordings
+        .iter()
+        .map(|recording| format!("{}: {}", recording.name, shares(&Coverage::of([recording]))))
+        .collect();
+    text.push_str(&format!("all agree: {}", shares(&Coverage::of(&recordings))));
+    assert_eq!(fs::read_to_string(replay().join("stdout")).unwrap(), text);
+}
