@@ -260,16 +260,21 @@ fn committed_alarm_arms_clears_pending_and_is_checked() {
     }
 }
 
-#[test]
-fn poll_is_made_at_48_000_cycles() {
-    let fields = Fields {
+/// A clock on host time whose alarm is due and not checked yet.
+fn due_on_host_time() -> Fields {
+    Fields {
         clock_control: 5,
         alarm_enable: 1,
         alarm: 9,
         alarm_armed: true,
         host_seconds: 9,
         ..Fields::fresh()
-    };
+    }
+}
+
+#[test]
+fn poll_is_made_at_48_000_cycles() {
+    let fields = due_on_host_time();
     let mut board = Board::from_fields(&fields);
     assert!(!advance(&mut board, 47_999));
     assert_eq!(board.fields().poll, 47_999);
@@ -317,14 +322,7 @@ fn clock_latches_keep_both_words() {
 
 #[test]
 fn the_check_precedes_a_read_that_no_latch_serves() {
-    let mut fields = Fields {
-        clock_control: 5,
-        alarm_enable: 1,
-        alarm: 9,
-        alarm_armed: true,
-        host_seconds: 9,
-        ..Fields::fresh()
-    };
+    let mut fields = due_on_host_time();
     for address in [0x000, 0x088, 0x089, 0x37F] {
         let after = fields_after(&fields, Call::Read { address });
         // Byte 0 of seconds low fills the latch and is served by it.

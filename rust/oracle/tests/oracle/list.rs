@@ -192,21 +192,7 @@ fn refusals_of_the_calls_own() {
 #[test]
 fn an_answer_longer_than_the_rest_is_refused_with_11() {
     let first = Call::Write { address: 0x83, byte: 7 };
-    for call in [
-        Call::HostTime {
-            seconds: 5,
-            nanoseconds: 5,
-        },
-        Call::Read { address: 0x88 },
-        Call::Write { address: 0x83, byte: 0 },
-        Call::Advance { cycles: 1 },
-        Call::Deadline,
-        Call::Skip,
-        Call::Source { number: 1, level: 1 },
-        Call::ControllerRead { address: 0 },
-        Call::ControllerWrite { address: 5, byte: 255 },
-        Call::Output,
-    ] {
+    for call in CALLS {
         let list = encode(&[first, call]);
         let whole = 3 + HEADER + answer_length(call.tag());
         for length in 0..whole + 2 {

@@ -7,23 +7,6 @@ use oracle::list::{run, Outcome};
 
 use crate::support::*;
 
-/// One call of each tag, which a sound board accepts.
-const CALLS: [Call; 10] = [
-    Call::HostTime {
-        seconds: 1,
-        nanoseconds: 2,
-    },
-    Call::Read { address: 3 },
-    Call::Write { address: 0x83, byte: 2 },
-    Call::Advance { cycles: 1 },
-    Call::Deadline,
-    Call::Skip,
-    Call::Source { number: 4, level: 1 },
-    Call::ControllerRead { address: 1 },
-    Call::ControllerWrite { address: 5, byte: 255 },
-    Call::Output,
-];
-
 type Edit = fn(&mut Fields);
 
 /// For each clause an edit of the fresh board that breaks it and the nearest that does not.

@@ -12,6 +12,23 @@ pub const POLL: u32 = 48_000;
 /// Nanoseconds in a second.
 pub const SECOND: i128 = 1_000_000_000;
 
+/// One call of each tag, which a sound board accepts.
+pub const CALLS: [Call; 10] = [
+    Call::HostTime {
+        seconds: 1,
+        nanoseconds: 2,
+    },
+    Call::Read { address: 3 },
+    Call::Write { address: 0x83, byte: 2 },
+    Call::Advance { cycles: 1 },
+    Call::Deadline,
+    Call::Skip,
+    Call::Source { number: 4, level: 1 },
+    Call::ControllerRead { address: 1 },
+    Call::ControllerWrite { address: 5, byte: 255 },
+    Call::Output,
+];
+
 /// The answer of a call that must be accepted.
 pub fn accepted(board: &mut Board, call: Call) -> Answer {
     let reply = board.call(call);
