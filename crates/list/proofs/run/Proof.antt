@@ -228,8 +228,7 @@ put-record-requires : tie.Need-put-record-requires Inv-loop μ-loop
 put-record-requires c κs =
     let i = c .before .before .before .before .before .before .before .before .before .loop .inv in
     let z = sym (c .before .before .before .before .before .before .refusal-of .ensures) ∙ c .before .before .before .before .before .if2 .left in
-    let q = c .before .before .before .answer-size .ensures in
-    (
+    let q = c .before .before .before .answer-size .ensures in (
       q ∙ sym (answer-size _ (i .sound) _ _ z _ _ (accepted (c .before))),
       omega (arith, q, clear _ _ z .fits, i .same, i .counted, i .room),
     )
