@@ -13,7 +13,6 @@ use lib.Dec.{leb, ltb, eqb}
 use borrow.Author.Tests.{leb-true, ltb-false, lt-ltb, le-ltb, eqb-true, eq-eqb, ne-eqb}
 use Rattle.wide.specs.Fields.{beAt}
 use Rattle.wide.proofs.Choices.{either, and-parts}
-use Rattle.clock.specs.declared.Clock.{Clock}
 use Rattle.clock.specs.Fields.{withHost}
 use Rattle.board.specs.declared.Board.{Board}
 use Rattle.board.specs.Board.{withClock, withController, line, sound}
@@ -31,7 +30,7 @@ use Rattle.perform.specs.Calls.{Told, callAt}
 use Rattle.perform.specs.Parts.{ownRefusal, sizes, sizeOf, told, cyclesAt, advanceValue, partsOf, partsAt}
 use Rattle.perform.proofs.Told.{own-told, size-told, write-told, advance-told, unadvanced-told, effect-told}
 use Rattle.list.specs.declared.Outcome.{Outcome}
-use Rattle.list.specs.Run.{Turn, done, refused, settle, turnOf, stepped, bytesOf}
+use Rattle.list.specs.Run.{done, refused, settle, turnOf, stepped, bytesOf}
 use Rattle.list.specs.Refusals.{refusalAt}
 use Rattle.list.proofs.Kept.{call-good}
 use Rattle.list.proofs.Runs.{Running, Ran, stateOf, more, stops}
@@ -135,7 +134,7 @@ module _ (b : Board) (s : sound b ≡ true) (l : List ℕ) (room : ℕ) where
 pub same-told : (x : Told) (b b′ : Board) (a a′ : Answer) → x ≡ told b a → b′ ≡ b → a′ ≡ a → x ≡ told b′ a′
 same-told x b b′ a a′ e p q = rw (p, q) e
 
--- what is passed by value
+-- an optional number, by the flag and the number that the code has of it
 present : (o : Option ℕ) (made : Bool) (c : ℕ) → made ≡ isPresent o → c ≡ orZero o → made ≡ true → o ≡ some c
 present none made c p q t = absurd (false≢true (sym p ∙ t))
 present (some d) made c p q t = ap some (sym q)
@@ -166,10 +165,9 @@ module _ (b : Board) (s : sound b ≡ true) (l : List ℕ) (tag : ℕ) where
   -- the controller's calls, source and host time
   pub parted-told : frameRefusal l ≡ 0 → tag ≡ tagAt l → (tag ≡ 2 → ⊥) → (tag ≡ 3 → ⊥) →
       ((tag ≡ 4) ⊎ (tag ≡ 6) → ⊥) → (tag ≡ 5 → ⊥) → ownRefusal tag l ≡ 0 → (e : Effect) →
-      partsOf e ≡ partsAt tag l (b .clock .host) (b .controller) → (k : Clock) → k ≡ withHost (e .host) (b .clock) →
-      callAt tag l b ≡ told (withController (e .controller) (withClock k b)) (e .answer)
-  parted-told f g n2 n3 n46 n5 z e h k w =
-      rw w
+      partsOf e ≡ partsAt tag l (b .clock .host) (b .controller) →
+      callAt tag l b ≡ told (withController (e .controller) (withClock (withHost (e .host) (b .clock)) b)) (e .answer)
+  parted-told f g n2 n3 n46 n5 z e h =
       (effect-told b s l tag (rw g (tag-above l f)) (rw g (framed l f .1)) (ne-eqb tag 2 n2) (ne-eqb tag 3 n3)
       (ne-eqb tag 4 (λ x. n46 (inl x))) (ne-eqb tag 5 n5) (ne-eqb tag 6 (λ x. n46 (inr x))) z e h)
 

@@ -15,7 +15,7 @@ use Rattle.board.specs.declared.Board.{Board}
 use Rattle.board.specs.Board.{BoardFits, sound}
 use Rattle.list.specs.declared.Outcome.{Outcome}
 use Rattle.format.specs.Format.{widthOf, tagAt, frameRefusal, recordOf}
-use Rattle.perform.specs.Calls.{Told, callAt}
+use Rattle.perform.specs.Calls.{callAt}
 use Rattle.list.specs.Run.{Turn, done, refused, settle, turnOf, stepped, bytesOf, Run, runOn, over}
 use Rattle.format.proofs.Frames.{framed, sets-then, sets-front}
 

@@ -95,9 +95,10 @@ pub fn run(board: Board, list: &[u8], answers: &mut [u8]) -> Outcome
                 let clock = b.clock;
                 let controller = b.controller;
                 let e = perform::effect_of(clock.host, controller, tag, rest);
-                let host = e.host;
-                let hosted = clock.with_host(host);
-                b.clock = hosted;
+                let seconds = e.host.seconds;
+                b.clock.host.seconds = seconds;
+                let nanoseconds = e.host.nanoseconds;
+                b.clock.host.nanoseconds = nanoseconds;
                 let after = e.controller;
                 b.controller = after;
                 answer = e.answer;

@@ -3,13 +3,13 @@
 use Prim.Native.Nat.{ℕ, suc, _+_, _<_}
 use native.Mathlib.Omega.{arith}
 use mathlib.Core.Path.{_≡_, refl, sym, ap, _∙_}
-use mathlib.Core.Bool.{Bool, true, false, cond, true≢false}
+use mathlib.Core.Bool.{true, false, true≢false}
 use mathlib.Core.Option.{Option, none, some}
 use mathlib.Core.List.{List, [], _++_}
 use mathlib.Core.Logic.{_⊎_, inl, inr}
 use lib.ListN.{length, length-append}
 use lib.Dec.{eqb}
-use borrow.Author.Tests.{eqb-true, eqb-false, eq-eqb}
+use borrow.Author.Tests.{eqb-true, eqb-false}
 use Rattle.wide.specs.Bits.{bit, flagOf}
 use Rattle.wide.specs.Fields.{beAt, be}
 use Rattle.wide.proofs.BigEndian.{length-be}
@@ -55,11 +55,10 @@ use Rattle.format.specs.Format.{valueBytes}
 use Rattle.format.specs.declared.Answer.{Answer}
 use Rattle.format.specs.declared.Answer.the-variants.{Empty, Byte}
 use Rattle.perform.specs.declared.Effect.{Effect}
-use Rattle.perform.specs.Calls.{Told, emptyTold, byteTold, deadlineTold, skipTold, advanceTold, outputTold, callAt}
+use Rattle.perform.specs.Calls.{Told, emptyTold, byteTold, deadlineTold, skipTold, callAt}
 use Rattle.perform.specs.Parts.{
   hostAt,
   ownRefusal,
-  sizes,
   sizeOf,
   told,
   cyclesAt,

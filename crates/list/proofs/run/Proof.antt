@@ -1,7 +1,7 @@
 -- `run` meets its contract. Assumes nothing.
 use mathlib.Core.Path.{_≡_, refl, sym, ap, _∙_}
 use mathlib.Core.Bool.{true, false}
-use mathlib.Core.Logic.{_⊎_, inl, inr, ⊎-elim}
+use mathlib.Core.Logic.{⊎-elim}
 use mathlib.Core.List.{List}
 use Prim.Native.Nat.{ℕ, _-_}
 use native.Mathlib.Omega.{arith}
@@ -46,7 +46,6 @@ use Rattle.board.proofs.Board.line.Reads as line-reads
 use Rattle.perform.proofs.passed.Reads as passed-reads
 use Rattle.perform.proofs.deadline.Reads as deadline-reads
 use Rattle.perform.proofs.effect_of.Reads as effect-of-reads
-use Rattle.clock.proofs.Clock.with_host.Reads as with-host-reads
 use Rattle.format.proofs.put_record.Reads as put-record-reads
 use Rattle.list.proofs.run.Reads as reads
 
@@ -59,7 +58,7 @@ abbrev μ-loop : tie.MeasureT-loop
 
 -- where the arms meet
 abbrev Came : Type 0
-Came = lts.At-match-came (sound-reads.Asked, sound-reads.Learnt, refusal-of-reads.Asked, refusal-of-reads.Learnt, answer-size-reads.Asked, answer-size-reads.Learnt, width-of-reads.Asked, width-of-reads.Learnt, address-at-reads.Asked, address-at-reads.Learnt, read-accepted-reads.Asked, read-accepted-reads.Learnt, byte-at-reads.Asked, byte-at-reads.Learnt, written-reads.Asked, written-reads.Learnt, passing-of-reads.Asked, passing-of-reads.Learnt, advanced-reads.Asked, advanced-reads.Learnt, line-reads.Asked, line-reads.Learnt, passed-reads.Asked, passed-reads.Learnt, deadline-reads.Asked, deadline-reads.Learnt, effect-of-reads.Asked, effect-of-reads.Learnt, with-host-reads.Asked, with-host-reads.Learnt, put-record-reads.Asked, put-record-reads.Learnt) reads.Pre reads.Post Inv-loop μ-loop
+Came = lts.At-match-came (sound-reads.Asked, sound-reads.Learnt, refusal-of-reads.Asked, refusal-of-reads.Learnt, answer-size-reads.Asked, answer-size-reads.Learnt, width-of-reads.Asked, width-of-reads.Learnt, address-at-reads.Asked, address-at-reads.Learnt, read-accepted-reads.Asked, read-accepted-reads.Learnt, byte-at-reads.Asked, byte-at-reads.Learnt, written-reads.Asked, written-reads.Learnt, passing-of-reads.Asked, passing-of-reads.Learnt, advanced-reads.Asked, advanced-reads.Learnt, line-reads.Asked, line-reads.Learnt, passed-reads.Asked, passed-reads.Learnt, deadline-reads.Asked, deadline-reads.Learnt, effect-of-reads.Asked, effect-of-reads.Learnt, put-record-reads.Asked, put-record-reads.Learnt) reads.Pre reads.Post Inv-loop μ-loop
 
 -- what is left of the list
 abbrev restOf : Came → List ℕ
@@ -101,7 +100,7 @@ accepted c =
     (w .2) (w .3))
     (λ w. same-told _ _ _ _ _
     (parted-told b s (restOf c) (tagAt (restOf c)) (k .frame) refl (w .0 .rest .0 .0 .0 .1) (w .0 .rest .0 .0 .1)
-    (w .0 .rest .0 .1) (w .0 .rest .1) (k .own) (w .3 .result) (w .3 .ensures) (w .5 .result) (w .5 .ensures))
+    (w .0 .rest .0 .1) (w .0 .rest .1) (k .own) (w .3 .result) (w .3 .ensures))
     (w .7) (w .8)))))
     (c .match .came)
 
@@ -221,9 +220,6 @@ deadline-requires c κs = c .before .before .before .before .before .before .bef
 effect-of-requires : tie.Need-effect-of-requires Inv-loop μ-loop
 effect-of-requires c κs = framed _ (clear _ _ (sym (c .before .before .before .before .before .before .before .refusal-of .ensures) ∙ c .before .before .before .before .before .before .if2 .left) .frame) .0
 
-with-host-requires : tie.Need-with-host-requires Inv-loop μ-loop
-with-host-requires c κs = search needs
-
 put-record-requires : tie.Need-put-record-requires Inv-loop μ-loop
 put-record-requires c κs =
     let i = c .before .before .before .before .before .before .before .before .before .loop .inv in
@@ -294,7 +290,6 @@ run-spec =
     passed-requires
     deadline-requires
     effect-of-requires
-    with-host-requires
     put-record-requires
     add-calls
     loop-less
