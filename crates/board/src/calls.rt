@@ -76,12 +76,19 @@ impl Board {
         requires { ⌜ sound self ≡ true ⌝ }
         ensures { λ r. ⌜ r ≡ advancedBoard (cycles .0) self ⌝ }
     {
-        let timers = self.timers;
-        let timer_enable = self.timer_enable;
-        let clock = self.clock;
+        let mut b = self;
+        let timers = b.timers;
+        let timer_enable = b.timer_enable;
         let moved = advance_all(timers, timer_enable, cycles);
-        let b = self.with_timers(moved);
-        b.with_clock(clock.advance(cycles)).wired()
+        b.timers = moved;
+        let clock = b.clock;
+        let later = clock.advance(cycles);
+        b.clock = later;
+        let line = b.line();
+        let controller = b.controller;
+        let set = controller::with_source(controller, SourceNumber(Self::LINE_SOURCE), line);
+        b.controller = set;
+        b
     }
 
     pub fn hosted(self, host: HostTime) -> Self

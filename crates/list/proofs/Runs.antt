@@ -14,9 +14,8 @@ use Rattle.wide.proofs.Choices.{choose}
 use Rattle.board.specs.declared.Board.{Board}
 use Rattle.board.specs.Board.{BoardFits, sound}
 use Rattle.list.specs.declared.Outcome.{Outcome}
-use Rattle.list.specs.declared.Stepped.{Stepped}
 use Rattle.format.specs.Format.{widthOf, tagAt, frameRefusal, recordOf}
-use Rattle.perform.specs.Calls.{Told, callAt}
+use Rattle.perform.specs.Calls.{callAt}
 use Rattle.list.specs.Run.{Turn, done, refused, settle, turnOf, stepped, bytesOf, Run, runOn, over}
 use Rattle.format.proofs.Frames.{framed, sets-then, sets-front}
 
@@ -49,23 +48,6 @@ unfolding Placed
 done-fits b l room b′ n a e =
     let p : Placed b l room (done b′ n a) = rw e at (turn-placed b l room) in
     (omega (arith, p .1 .0), (omega (arith, p .1 .0, framed l (p .0)), p .1 .1 .0))
-
--- what becomes of a call, by what the code computes of it
-module _ (b : Board) (l : List ℕ) (room : ℕ) where
-  pub turn-refused : (n : ℕ) → n ≡ frameRefusal l → eqb n 0 ≡ false → turnOf b l room ≡ refused n
-  unfolding turnOf
-  turn-refused n p q = rw (← p, q)
-
-  pub turn-settled : (t : Told) → frameRefusal l ≡ 0 → t ≡ callAt (tagAt l) l b →
-      turnOf b l room ≡ settle (tagAt l) t room
-  unfolding turnOf
-  turn-settled t p q = rw (p, ← q)
-
--- what is said of a run and its buffer by one turn, said by an equal one
-pub by-turn : (s : Outcome) (old new : List ℕ) (r : Stepped) (u v : Turn) → u ≡ v →
-    (r ≡ stepped s v) × (new ≡ sets old (s .written) (bytesOf v)) →
-    (r ≡ stepped s u) × (new ≡ sets old (s .written) (bytesOf u))
-by-turn s old new r u v e h = rw e h
 
 -- ---- the run's next call
 
@@ -111,6 +93,10 @@ stop-at [] room s out h n e = absurd (omega arith)
 stop-at (x ∷ rest) room s out h n e = next-refused x rest room s out n e
 
 -- ---- a run under way
+
+-- the locals of a run that goes on
+abbrev pub stateOf : Board → ℕ → ℕ → ℕ → Outcome
+stateOf b calls used written = record { board = b; calls = calls; used = used; written = written; refusal = 0 }
 
 -- the answers so far stand at the buffer's start, and the run from here on is the run from the list's start
 pub record Running (list buf₀ : List ℕ) (s₀ : Outcome) (buf : List ℕ) (s : Outcome) : Type 0 where

@@ -1,7 +1,7 @@
 -- Document 01, 'The call list': what a run does.
 use Prim.Native.Nat.{ℕ, zero, suc, _+_, _-_}
 use mathlib.Core.List.{List, [], _∷_, _++_}
-use mathlib.Core.Bool.{true, false, cond}
+use mathlib.Core.Bool.{Bool, true, false, cond}
 use lib.ListN.{length, drop}
 use lib.Dec.{ltb, eqb}
 use Rattle.board.specs.declared.Board.{Board}
@@ -10,7 +10,6 @@ use Rattle.board.specs.Calls.{notSound}
 use Rattle.format.specs.Format.{answerTooLong, widthOf, tagAt, frameRefusal, recordOf}
 use Rattle.perform.specs.Calls.{Told, callAt}
 use Rattle.list.specs.declared.Outcome.{Outcome}
-use Rattle.list.specs.declared.Stepped.{Stepped}
 
 -- ---- one call
 
@@ -34,6 +33,11 @@ turnOf b l room =
     cond (eqb (frameRefusal l) 0) (settle (tagAt l) (callAt (tagAt l) l b) room) (refused (frameRefusal l))
 
 -- ---- a run
+
+-- a run after one more call, and whether that call was done
+pub record Stepped : Type 0 where
+  pub outcome : Outcome
+  pub served : Bool
 
 -- the run so far after one more call; a refused call changes the refusal alone
 unfoldable pub stepped : Outcome → Turn → Stepped

@@ -1,72 +1,35 @@
--- What a call answers on a sound board, by what the code computes of it. Assumes nothing.
+-- What the parts of a call answer on a sound board, by what the code computes of them. Assumes nothing.
 use Prim.Native.Nat.{ℕ, min}
-use mathlib.Core.Path.{_≡_, sym, ap, _∙_}
+use mathlib.Core.Path.{_≡_}
 use mathlib.Core.Bool.{true, false}
 use mathlib.Core.Option.{none, some}
-use mathlib.Core.List.{_++_}
+use mathlib.Core.List.{List, _++_}
 use lib.Dec.{eqb}
 use Rattle.wide.specs.declared.number.Wide.{Wide}
-use Rattle.wide.specs.Bits.{flagOf}
 use Rattle.wide.specs.Number.{valueOf, largest}
 use Rattle.wide.specs.Fields.{be}
-use Rattle.controller.specs.declared.IrqOutput.{IrqOutput}
-use Rattle.controller.specs.Controller.{byteRead, outputOf}
 use Rattle.board.specs.declared.Board.{Board}
-use Rattle.board.specs.declared.calls.SkipAnswer.{SkipAnswer}
-use Rattle.board.specs.declared.calls.ByteAnswer.{ByteAnswer}
-use Rattle.board.specs.Board.{exactDeadline, sound}
-use Rattle.board.specs.Calls.{
-  refusalOf,
-  emptyAnswer,
-  skipLength,
-  skippedBy,
-  skipCall,
-  controllerReadCall,
-  outputCall,
-}
-use Rattle.board.proofs.Soundness.{wired-sound}
-use Rattle.registers.specs.Calls.{addressRefusal, readAccepted, readCall}
-use Rattle.perform.specs.Calls.{emptyTold, byteTold, deadlineTold, skipTold, outputTold}
+use Rattle.board.specs.Board.{line, exactDeadline, sound}
+use Rattle.perform.specs.Calls.{deadlineTold}
+use Rattle.perform.specs.Parts.{cyclesAt}
 
 module _ (b : Board) (s : sound b ≡ true) where
-  pub empty-told : (own refusal : ℕ) (next after : Board) → refusal ≡ own → after ≡ next →
-      emptyTold (emptyAnswer b refusal after) ≡ emptyTold (emptyAnswer b (refusalOf b own) next)
-  empty-told own refusal next after p q = rw (s, p, q)
-
-  pub read-told : (address refusal : ℕ) (r : ByteAnswer) → refusal ≡ addressRefusal address → refusal ≡ 0 →
-      r ≡ readAccepted address b → byteTold r ≡ byteTold (readCall address b)
-  unfolding readCall
-  read-told address refusal r p z e =
-      let q : addressRefusal address ≡ 0 = sym p ∙ z in
-      rw (s, q) (ap (λ (a : ByteAnswer). byteTold a) e)
-
-  pub read-refused : (address refusal : ℕ) → refusal ≡ addressRefusal address → eqb refusal 0 ≡ false →
-      byteTold (record { board = b; refusal = refusal; byte = 0 }) ≡ byteTold (readCall address b)
-  unfolding readCall
-  read-refused address refusal p n = rw (s, ← p, n)
-
   pub deadline-none : (w : Wide) → exactDeadline b ≡ none → valueOf w ≡ 0 →
-      record { board = b; refusal = 0; value = be 1 0 ++ be 16 (valueOf w) ++ be 8 0 } ≡ deadlineTold b
+      (be 1 0 ++ be 16 (valueOf w) ++ be 8 0) ≡ deadlineTold b .value
   unfolding deadlineTold
-  deadline-none w e z = rw (wired-sound b s, s, e, z)
+  deadline-none w e z = rw (s, e, z)
 
   pub deadline-some : (w : Wide) (word : ℕ) → exactDeadline b ≡ some (valueOf w) → word ≡ min (valueOf w) largest →
-      record { board = b; refusal = 0; value = be 1 1 ++ be 16 (valueOf w) ++ be 8 word } ≡ deadlineTold b
+      (be 1 1 ++ be 16 (valueOf w) ++ be 8 word) ≡ deadlineTold b .value
   unfolding deadlineTold
-  deadline-some w word e m = rw (wired-sound b s, s, e, m)
+  deadline-some w word e m = rw (s, e, m)
 
-  pub skip-told : (r : SkipAnswer) (high : ℕ) → r ≡ skippedBy (skipLength b) b → high ≡ flagOf (r .line) →
-      record { board = r .board; refusal = r .refusal; value = be 8 (r .passed .0) ++ be 1 high }
-      ≡ skipTold (skipCall b)
-  unfolding skipCall
-  skip-told r high e p = rw (s, p) (ap (λ (a : SkipAnswer). skipTold a) e)
+-- the cycles of a skip with the line low
+module _ (tag : ℕ) (l : List ℕ) (b : Board) (t : eqb tag 4 ≡ false) (low : line b ≡ false) where
+  pub cycles-none : exactDeadline b ≡ none → cyclesAt tag l b ≡ none
+  unfolding cyclesAt
+  cycles-none e = rw (t, low, e)
 
-  pub controller-read-told : (address v : ℕ) → v ≡ byteRead (b .controller) address →
-      record { board = b; refusal = 0; value = be 1 v } ≡ byteTold (controllerReadCall address b)
-  unfolding controllerReadCall
-  controller-read-told address v p = rw (s, p, wired-sound b s)
-
-  pub output-told : (o : IrqOutput) (valid : ℕ) → o ≡ outputOf (b .controller) → valid ≡ flagOf (o .valid) →
-      record { board = b; refusal = 0; value = be 1 valid ++ be 1 (o .number) } ≡ outputTold (outputCall b)
-  unfolding outputCall
-  output-told o valid e p = rw (s, p, wired-sound b s, e)
+  pub cycles-some : (w : Wide) → exactDeadline b ≡ some (valueOf w) → cyclesAt tag l b ≡ some (min (valueOf w) largest)
+  unfolding cyclesAt
+  cycles-some w e = rw (t, low, e)

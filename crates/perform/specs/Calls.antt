@@ -26,18 +26,12 @@ use Rattle.board.specs.Calls.{
   outputCall,
 }
 use Rattle.registers.specs.Calls.{readCall, writeCall}
-use Rattle.format.specs.Format.{valueBytes}
-use Rattle.perform.specs.declared.Performed.{Performed}
 
 -- a direct call's answer: the board, the refusal, and the value of the answer in bytes
 pub record Told : Type 0 where
   pub board : Board
   pub refusal : ℕ
   pub value : List ℕ
-
--- what the code's answer of a call says
-abbrev pub toldBy : Performed → Told
-toldBy p = record { board = p .board; refusal = p .refusal; value = valueBytes (p .answer) }
 
 -- '→ none'
 abbrev pub emptyTold : EmptyAnswer → Told

@@ -1,32 +1,42 @@
-// One call of a list on a sound board: what the direct call answers, without testing soundness again.
+// One call of a list on a sound board, in parts: its own refusal and the size of its answer, which the bytes alone
+// say, and what it changes and answers. A run has the board, and changes it where it lies.
 ghost use mathlib.Core.Path.{_≡_};
 ghost use mathlib.Core.Bool.{true};
-ghost use Prim.Native.Nat.{_+_, _≤_};
+ghost use Prim.Native.Nat.{_+_, _≤_, _<_};
 ghost use lib.ListN.{length};
 ghost use Rattle.wide.specs.Bits.{flagOf};
+ghost use Rattle.wide.specs.Fields.{beAt};
 ghost use Rattle.board.specs.Board.{sound};
-ghost use Rattle.board.specs.Calls.{emptyAnswer, hostTimeCall, advanceCall, skipCall, sourceCall};
-ghost use Rattle.board.specs.Calls.{controllerReadCall, controllerWriteCall, outputCall};
-ghost use Rattle.registers.specs.Calls.{readCall, writeCall};
-ghost use Rattle.format.specs.Format.{widthOf};
-ghost use Rattle.perform.specs.Calls.{toldBy, emptyTold, byteTold, advanceTold, deadlineTold, skipTold};
-ghost use Rattle.perform.specs.Calls.{outputTold, callAt};
+ghost use Rattle.board.specs.Calls.{isPresent, orZero};
+ghost use Rattle.format.specs.Format.{widthOf, valueBytes};
+ghost use Rattle.perform.specs.Calls.{deadlineTold};
+ghost use Rattle.perform.specs.Parts.{hostAt, ownRefusal, sizeOf, cyclesAt, advanceValue, partsOf, partsAt};
 use board::Board;
 use board::calls::host_time_refusal;
 use board::calls::source_refusal;
-use channel::Cycles;
 use clock::HostTime;
+use controller::IrqController;
 use controller::SourceNumber;
 use format::Answer;
 use wide::deadline::Deadline;
 use wide::fields;
 use wide::number::Wide;
 
-pub struct Performed {
-    pub board: Board,
-    pub refusal: u8,
+// Whether an advance is made, and its cycles.
+pub struct Passing {
+    pub made: bool,
+    pub cycles: u64,
+}
+
+// What a call changes that changes host time or the controller at most, and its answer.
+pub struct Effect {
+    pub host: HostTime,
+    pub controller: IrqController,
     pub answer: Answer,
 }
+
+// The bytes of the answers' members of the tags 1 to 10, with 0 ahead of them.
+const SIZES: [usize; 11] = [0, 0, 1, 0, 1, 25, 9, 0, 1, 0, 2];
 
 fn flag(value: bool) -> u8
     ensures { λ r. ⌜ r ≡ flagOf value ⌝ }
@@ -34,182 +44,158 @@ fn flag(value: bool) -> u8
     if value { 1 } else { 0 }
 }
 
-// A call without answer members, of which `after` is the board where it is accepted.
-fn empty(board: Board, refusal: u8, after: Board) -> Performed
-    ensures { λ r. ⌜ toldBy r ≡ emptyTold (emptyAnswer board refusal after) ⌝ }
+// ---- the fields of a call
+
+pub fn byte_at(rest: &[u8], at: usize) -> u8
+    requires { ⌜ at + 1 ≤ length (now rest) ⌝ }
+    ensures { λ r. ⌜ r ≡ beAt (now (rest .entry)) at 1 ⌝ }
 {
-    if refusal == 0 {
-        return Performed {
-            board: after,
-            refusal: 0,
-            answer: Answer::Empty,
-        };
-    }
-    Performed {
-        board,
-        refusal,
-        answer: Answer::Empty,
-    }
+    fields::get(rest, at, 1) as u8
 }
 
-fn host_time(board: Board, host: HostTime) -> Performed
-    requires { ⌜ sound board ≡ true ⌝ }
-    ensures { λ r. ⌜ toldBy r ≡ emptyTold (hostTimeCall host board) ⌝ }
+// The address of a register.
+pub fn address_at(rest: &[u8]) -> u16
+    requires { ⌜ 5 ≤ length (now rest) ⌝ }
+    ensures { λ r. ⌜ r ≡ beAt (now (rest .entry)) 3 2 ⌝ }
 {
-    empty(board, host_time_refusal(host), board.hosted(host))
+    fields::get(rest, 3, 2) as u16
 }
 
-fn read(board: Board, address: u16) -> Performed
-    requires { ⌜ sound board ≡ true ⌝ }
-    ensures { λ r. ⌜ toldBy r ≡ byteTold (readCall address board) ⌝ }
+// The address of a register of the controller.
+fn controller_address_at(rest: &[u8]) -> u32
+    requires { ⌜ 7 ≤ length (now rest) ⌝ }
+    ensures { λ r. ⌜ r ≡ beAt (now (rest .entry)) 3 4 ⌝ }
 {
-    let refusal = registers::address_refusal(address);
-    if refusal == 0 {
-        let r = registers::read_accepted(board, address);
-        let after = r.board;
-        return Performed {
-            board: after,
-            refusal: r.refusal,
-            answer: Answer::Byte(r.byte),
-        };
-    }
-    Performed {
-        board,
-        refusal,
-        answer: Answer::Byte(0),
+    fields::get(rest, 3, 4) as u32
+}
+
+fn host_at(rest: &[u8]) -> HostTime
+    requires { ⌜ 15 ≤ length (now rest) ⌝ }
+    ensures { λ r. ⌜ r ≡ hostAt (now (rest .entry)) ⌝ }
+{
+    HostTime {
+        seconds: fields::get(rest, 3, 8),
+        nanoseconds: fields::get(rest, 11, 4) as u32,
     }
 }
 
-fn write(board: Board, address: u16, value: u8) -> Performed
-    requires { ⌜ sound board ≡ true ⌝ }
-    ensures { λ r. ⌜ toldBy r ≡ emptyTold (writeCall address value board) ⌝ }
-{
-    empty(
-        board,
-        registers::address_refusal(address),
-        registers::written(board, address, value),
-    )
-}
+// ---- ahead of the call
 
-fn advance(board: Board, cycles: Cycles) -> Performed
-    requires { ⌜ sound board ≡ true ⌝ }
-    ensures { λ r. ⌜ toldBy r ≡ advanceTold (advanceCall (cycles .0) board) ⌝ }
-{
-    let after = board.advanced(cycles);
-    Performed {
-        board: after,
-        refusal: 0,
-        answer: Answer::Byte(flag(after.line())),
-    }
-}
-
-fn deadline(board: Board) -> Performed
-    requires { ⌜ sound board ≡ true ⌝ }
-    ensures { λ r. ⌜ toldBy r ≡ deadlineTold board ⌝ }
-{
-    let Deadline::At(exact) = board.exact_deadline() else {
-        return Performed {
-            board,
-            refusal: 0,
-            answer: Answer::Deadline(0, Wide::from_word(0), 0),
-        };
-    };
-    Performed {
-        board,
-        refusal: 0,
-        answer: Answer::Deadline(1, exact, exact.capped()),
-    }
-}
-
-fn skip(board: Board) -> Performed
-    requires { ⌜ sound board ≡ true ⌝ }
-    ensures { λ r. ⌜ toldBy r ≡ skipTold (skipCall board) ⌝ }
-{
-    let r = board.skipped();
-    let after = r.board;
-    Performed {
-        board: after,
-        refusal: r.refusal,
-        answer: Answer::Skip(r.passed.0, flag(r.line)),
-    }
-}
-
-fn source(board: Board, number: SourceNumber, level: u8) -> Performed
-    requires { ⌜ sound board ≡ true ⌝ }
-    ensures { λ r. ⌜ toldBy r ≡ emptyTold (sourceCall (number .0) level board) ⌝ }
-{
-    empty(
-        board,
-        source_refusal(number, level),
-        board.sourced(number, level),
-    )
-}
-
-fn controller_read(board: Board, address: u32) -> Performed
-    requires { ⌜ sound board ≡ true ⌝ }
-    ensures { λ r. ⌜ toldBy r ≡ byteTold (controllerReadCall address board) ⌝ }
-{
-    let controller = board.controller;
-    Performed {
-        board,
-        refusal: 0,
-        answer: Answer::Byte(controller::read_of(controller, address)),
-    }
-}
-
-fn controller_write(board: Board, address: u32, value: u8) -> Performed
-    requires { ⌜ sound board ≡ true ⌝ }
-    ensures { λ r. ⌜ toldBy r ≡ emptyTold (controllerWriteCall address value board) ⌝ }
-{
-    empty(board, 0, board.controller_written(address, value))
-}
-
-fn output(board: Board) -> Performed
-    requires { ⌜ sound board ≡ true ⌝ }
-    ensures { λ r. ⌜ toldBy r ≡ outputTold (outputCall board) ⌝ }
-{
-    let controller = board.controller;
-    let o = controller::output_of(controller);
-    Performed {
-        board,
-        refusal: 0,
-        answer: Answer::Pair(flag(o.valid), o.number),
-    }
-}
-
-// The call with a known tag whose value stands from index 3 on.
-pub fn perform(board: Board, tag: u8, rest: &[u8]) -> Performed
-    requires { ⌜ (sound board ≡ true) × (3 + widthOf tag ≤ length (now rest)) ⌝ }
-    ensures { λ r. ⌜ toldBy r ≡ callAt tag (now (rest .entry)) board ⌝ }
+// The call's own refusal, 0 for none.
+pub fn own_refusal(tag: u8, rest: &[u8]) -> u8
+    requires { ⌜ 3 + widthOf tag ≤ length (now rest) ⌝ }
+    ensures { λ r. ⌜ r ≡ ownRefusal tag (now (rest .entry)) ⌝ }
 {
     match tag {
-        1 => host_time(
-            board,
-            HostTime {
-                seconds: fields::get(rest, 3, 8),
-                nanoseconds: fields::get(rest, 11, 4) as u32,
-            },
-        ),
-        2 => read(board, fields::get(rest, 3, 2) as u16),
-        3 => write(
-            board,
-            fields::get(rest, 3, 2) as u16,
-            fields::get(rest, 5, 1) as u8,
-        ),
-        4 => advance(board, Cycles(fields::get(rest, 3, 8))),
-        5 => deadline(board),
-        6 => skip(board),
-        7 => source(
-            board,
-            SourceNumber(fields::get(rest, 3, 1) as u8),
-            fields::get(rest, 4, 1) as u8,
-        ),
-        8 => controller_read(board, fields::get(rest, 3, 4) as u32),
-        9 => controller_write(
-            board,
-            fields::get(rest, 3, 4) as u32,
-            fields::get(rest, 7, 1) as u8,
-        ),
-        _ => output(board),
+        1 => host_time_refusal(host_at(rest)),
+        2 => registers::address_refusal(address_at(rest)),
+        3 => registers::address_refusal(address_at(rest)),
+        7 => source_refusal(SourceNumber(byte_at(rest, 3)), byte_at(rest, 4)),
+        _ => 0,
+    }
+}
+
+// The bytes of the answer's members.
+pub fn answer_size(tag: u8) -> usize
+    requires { ⌜ tag < 11 ⌝ }
+    ensures { λ r. ⌜ r ≡ sizeOf tag ⌝ }
+{
+    SIZES[tag as usize]
+}
+
+// ---- the call
+
+// The advance that advance or skip makes.
+pub fn passing_of(board: Board, tag: u8, rest: &[u8]) -> Passing
+    requires { ⌜ (sound board ≡ true) × (3 + widthOf tag ≤ length (now rest)) ⌝ }
+    ensures { λ r. ⌜ (r .made ≡ isPresent (cyclesAt tag (now (rest .entry)) board))
+        × (r .cycles ≡ orZero (cyclesAt tag (now (rest .entry)) board)) ⌝ }
+{
+    if tag == 4 {
+        return Passing {
+            made: true,
+            cycles: fields::get(rest, 3, 8),
+        };
+    }
+    if board.line() {
+        return Passing {
+            made: false,
+            cycles: 0,
+        };
+    }
+    let Deadline::At(exact) = board.exact_deadline() else {
+        return Passing {
+            made: false,
+            cycles: 0,
+        };
+    };
+    Passing {
+        made: true,
+        cycles: exact.capped(),
+    }
+}
+
+// What advance or skip answers.
+pub fn passed(tag: u8, cycles: u64, line: bool) -> Answer
+    ensures { λ r. ⌜ valueBytes r ≡ advanceValue tag cycles line ⌝ }
+{
+    if tag == 4 {
+        return Answer::Byte(flag(line));
+    }
+    Answer::Skip(cycles, flag(line))
+}
+
+pub fn deadline(board: Board) -> Answer
+    requires { ⌜ sound board ≡ true ⌝ }
+    ensures { λ r. ⌜ valueBytes r ≡ deadlineTold board .value ⌝ }
+{
+    let Deadline::At(exact) = board.exact_deadline() else {
+        return Answer::Deadline(0, Wide::from_word(0), 0);
+    };
+    Answer::Deadline(1, exact, exact.capped())
+}
+
+// The calls that change host time or the controller at most: host time, source, and those of the controller.
+pub fn effect_of(host: HostTime, controller: IrqController, tag: u8, rest: &[u8]) -> Effect
+    requires { ⌜ 3 + widthOf tag ≤ length (now rest) ⌝ }
+    ensures { λ r. ⌜ partsOf r ≡ partsAt tag (now (rest .entry)) host controller ⌝ }
+{
+    match tag {
+        1 => Effect {
+            host: host_at(rest),
+            controller,
+            answer: Answer::Empty,
+        },
+        7 => Effect {
+            host,
+            controller: controller::with_source(
+                controller,
+                SourceNumber(byte_at(rest, 3)),
+                byte_at(rest, 4) == 1,
+            ),
+            answer: Answer::Empty,
+        },
+        8 => Effect {
+            host,
+            controller,
+            answer: Answer::Byte(controller::read_of(controller, controller_address_at(rest))),
+        },
+        9 => Effect {
+            host,
+            controller: controller::written(
+                controller,
+                controller_address_at(rest),
+                byte_at(rest, 7),
+            ),
+            answer: Answer::Empty,
+        },
+        _ => {
+            let o = controller::output_of(controller);
+            Effect {
+                host,
+                controller,
+                answer: Answer::Pair(flag(o.valid), o.number),
+            }
+        }
     }
 }

@@ -1,5 +1,6 @@
 -- `Board::advanced` meets its contract. Assumes nothing.
 use native.Mathlib.Omega.{arith}
+use Rattle.board.specs.Board.{wired}
 use Rattle.board.specs.Calls.{advancedBoard}
 use Rattle.clock.specs.Clock.{clockRate}
 use Rattle.clock.proofs.Soundness.{sound-timed}
@@ -9,14 +10,11 @@ use Rattle.board.proofs.Board.advanced.Statement.{statement}
 use Rattle.board.proofs.Board.advanced.Tie as tie
 
 advance-all-requires : tie.Need-advance-all-requires
-advance-all-requires c κs = sound-facts (c .before .before .args .self) (c .before .before .pre) .timers
-
-with-timers-requires : tie.Need-with-timers-requires
-with-timers-requires c κs = search needs
+advance-all-requires c κs = sound-facts (c .before .args .self) (c .before .pre) .timers
 
 advance-requires : tie.Need-advance-requires
 advance-requires c κs =
-    let s = c .before .before .before .before in
+    let s = c .before .before .before in
     sound-timed clockRate (s .args .self .clock)
     (clock-facts (s .args .self)
     (record {
@@ -27,30 +25,22 @@ advance-requires c κs =
     })
     (s .pre))
 
-with-clock-requires : tie.Need-with-clock-requires
-with-clock-requires c κs = search needs
+line-requires : tie.Need-line-requires
+line-requires c κs = search needs
 
-wired-requires : tie.Need-wired-requires
-wired-requires c κs = search needs
+with-source-requires : tie.Need-with-source-requires
+with-source-requires c κs = search needs
 
 returns : tie.Need-returns
-unfolding advancedBoard
+unfolding advancedBoard wired
 returns c =
     rw (
-      c .wired .ensures,
-      c .before .with-clock .ensures,
-      c .before .before .advance .ensures,
-      c .before .before .before .with-timers .ensures,
-      c .before .before .before .before .advance-all .ensures,
+      c .with-source .ensures,
+      c .before .before .line .ensures,
+      c .before .before .before .advance .ensures,
+      c .before .before .before .before .before .advance-all .ensures,
     )
 
 pub advanced-spec : {M : Type 1} → statement M
 advanced-spec =
-    tie.close
-    (tie.spec
-    advance-all-requires
-    with-timers-requires
-    advance-requires
-    with-clock-requires
-    wired-requires
-    returns)
+    tie.close (tie.spec advance-all-requires advance-requires line-requires with-source-requires returns)

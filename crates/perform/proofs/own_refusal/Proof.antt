@@ -1,0 +1,93 @@
+-- `own_refusal` meets its contract. Assumes nothing.
+use Prim.Native.Nat.{_≤_}
+use native.Mathlib.Omega.{arith}
+use lib.ListN.{length}
+use borrow.Author.Tests.{ne-eqb}
+use Rattle.perform.specs.Parts.{ownRefusal}
+use borrow.Author.Needs.{needs}
+use Rattle.perform.proofs.own_refusal.Statement.{statement}
+use Rattle.perform.proofs.own_refusal.Tie as tie
+
+host-at-requires : tie.Need-host-at-requires
+host-at-requires c κs =
+    let h : 15 ≤ length (c .before .before .args .rest .now) =
+    rw (c .match .keys1) at (c .before .before .pre) in
+    omega arith
+
+host-time-refusal-requires : tie.Need-host-time-refusal-requires
+host-time-refusal-requires c κs = search needs
+
+address-at-requires : tie.Need-address-at-requires
+address-at-requires c κs =
+    let h : 5 ≤ length (c .before .before .args .rest .now) =
+    rw (c .match .keys2) at (c .before .before .pre) in
+    omega arith
+
+address-refusal-requires : tie.Need-address-refusal-requires
+address-refusal-requires c κs = search needs
+
+address-at-requires-2 : tie.Need-address-at-requires-2
+address-at-requires-2 c κs =
+    let h : 6 ≤ length (c .before .before .args .rest .now) =
+    rw (c .match .keys3) at (c .before .before .pre) in
+    omega arith
+
+address-refusal-requires-2 : tie.Need-address-refusal-requires-2
+address-refusal-requires-2 c κs = search needs
+
+byte-at-requires : tie.Need-byte-at-requires
+byte-at-requires c κs =
+    let h : 5 ≤ length (c .before .before .args .rest .now) =
+    rw (c .match .keys4) at (c .before .before .pre) in
+    omega arith
+
+byte-at-requires-2 : tie.Need-byte-at-requires-2
+byte-at-requires-2 c κs =
+    let h : 5 ≤ length (c .before .before .before .args .rest .now) =
+    rw (c .before .match .keys4) at (c .before .before .before .pre) in
+    omega arith
+
+source-refusal-requires : tie.Need-source-refusal-requires
+source-refusal-requires c κs = search needs
+
+returns : tie.Need-returns
+unfolding ownRefusal
+returns c = rw (c .before .before .match .keys1, ← c .before .host-at .ensures) (c .host-time-refusal .ensures)
+
+returns-2 : tie.Need-returns-2
+unfolding ownRefusal
+returns-2 c = rw (c .before .before .match .keys2, ← c .before .address-at .ensures) (c .address-refusal .ensures)
+
+returns-3 : tie.Need-returns-3
+unfolding ownRefusal
+returns-3 c = rw (c .before .before .match .keys3, ← c .before .address-at2 .ensures) (c .address-refusal2 .ensures)
+
+returns-4 : tie.Need-returns-4
+unfolding ownRefusal
+returns-4 c =
+    rw
+    (c .before .before .before .match .keys4, ← c .before .byte-at2 .ensures, ← c .before .before .byte-at .ensures)
+    (c .source-refusal .ensures)
+
+returns-5 : tie.Need-returns-5
+unfolding ownRefusal
+returns-5 c = simp (ne-eqb _ _ (c .match .rest .0 .0 .0 .1), ne-eqb _ _ (c .match .rest .0 .0 .1), ne-eqb _ _ (c .match .rest .0 .1), ne-eqb _ _ (c .match .rest .1))
+
+pub own-refusal-spec : {M : Type 1} → statement M
+own-refusal-spec =
+    tie.close
+    (tie.spec
+    host-at-requires
+    host-time-refusal-requires
+    address-at-requires
+    address-refusal-requires
+    address-at-requires-2
+    address-refusal-requires-2
+    byte-at-requires
+    byte-at-requires-2
+    source-refusal-requires
+    returns
+    returns-2
+    returns-3
+    returns-4
+    returns-5)
