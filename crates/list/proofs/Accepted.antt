@@ -155,7 +155,8 @@ module _ (b : Board) (s : sound b ≡ true) (l : List ℕ) (tag : ℕ) where
     pub moved-told : m .made ≡ true → b′ ≡ advancedBoard (m .cycles) b → callAt tag l b ≡ told b′ a
     moved-told f e =
         rw e
-        (advance-told b s l tag t (m .cycles) (present (cyclesAt tag l b) (m .made) (m .cycles) p q f) a (rw (h, e) at w))
+        (advance-told b s l tag t (m .cycles) (present (cyclesAt tag l b) (m .made) (m .cycles) p q f) a
+        (rw (h, e) at w))
 
     pub unmoved-told : m .made ≡ false → b′ ≡ b → callAt tag l b ≡ told b′ a
     unmoved-told f e =

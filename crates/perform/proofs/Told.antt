@@ -1,5 +1,5 @@
--- The parts of a call are the call, on a sound board: its own refusal, the size of its answer, and the board and answer
--- of each kind of call where it is not refused. Assumes nothing.
+-- The parts of a call are the call, on a sound board: its own refusal, the size of its answer, and the board and
+-- answer of each kind of call where it is not refused. Assumes nothing.
 use Prim.Native.Nat.{ℕ, suc, _+_, _<_}
 use native.Mathlib.Omega.{arith}
 use mathlib.Core.Path.{_≡_, refl, sym, ap, _∙_}

@@ -1,5 +1,5 @@
--- A call on a sound board in the parts that the code computes: refusals from the bytes alone, the size of the answer by
--- the tag, then what the call changes. The rules are those of Calls; the proofs show that these parts are them.
+-- A call on a sound board in the parts that the code computes: refusals from the bytes alone, the size of the answer
+-- by the tag, then what the call changes. The rules are those of Calls; the proofs show that these parts are them.
 use Prim.Native.Nat.{ℕ}
 use mathlib.Core.List.{List, [], _∷_, _++_}
 use mathlib.Core.Bool.{Bool, cond}

@@ -58,22 +58,57 @@ abbrev μ-loop : tie.MeasureT-loop
 
 -- where the arms meet
 abbrev Came : Type 0
-Came = lts.At-match-came (sound-reads.Asked, sound-reads.Learnt, refusal-of-reads.Asked, refusal-of-reads.Learnt, answer-size-reads.Asked, answer-size-reads.Learnt, width-of-reads.Asked, width-of-reads.Learnt, address-at-reads.Asked, address-at-reads.Learnt, read-accepted-reads.Asked, read-accepted-reads.Learnt, byte-at-reads.Asked, byte-at-reads.Learnt, written-reads.Asked, written-reads.Learnt, passing-of-reads.Asked, passing-of-reads.Learnt, advanced-reads.Asked, advanced-reads.Learnt, line-reads.Asked, line-reads.Learnt, passed-reads.Asked, passed-reads.Learnt, deadline-reads.Asked, deadline-reads.Learnt, effect-of-reads.Asked, effect-of-reads.Learnt, put-record-reads.Asked, put-record-reads.Learnt) reads.Pre reads.Post Inv-loop μ-loop
+Came = lts.At-match-came (
+  sound-reads.Asked,
+  sound-reads.Learnt,
+  refusal-of-reads.Asked,
+  refusal-of-reads.Learnt,
+  answer-size-reads.Asked,
+  answer-size-reads.Learnt,
+  width-of-reads.Asked,
+  width-of-reads.Learnt,
+  address-at-reads.Asked,
+  address-at-reads.Learnt,
+  read-accepted-reads.Asked,
+  read-accepted-reads.Learnt,
+  byte-at-reads.Asked,
+  byte-at-reads.Learnt,
+  written-reads.Asked,
+  written-reads.Learnt,
+  passing-of-reads.Asked,
+  passing-of-reads.Learnt,
+  advanced-reads.Asked,
+  advanced-reads.Learnt,
+  line-reads.Asked,
+  line-reads.Learnt,
+  passed-reads.Asked,
+  passed-reads.Learnt,
+  deadline-reads.Asked,
+  deadline-reads.Learnt,
+  effect-of-reads.Asked,
+  effect-of-reads.Learnt,
+  put-record-reads.Asked,
+  put-record-reads.Learnt,
+) reads.Pre reads.Post Inv-loop μ-loop
 
 -- what is left of the list
 abbrev restOf : Came → List ℕ
 restOf c =
-    let l = c .before .before .before .before .before .before .before .before .before .before .before .before .before .args .list .now in
+    let l = c .before .before .before .before .before .before .before .before .before .before .before .before
+    .before .args .list .now in
     let n = c .before .before .before .before .before .before .before .before .loop .used in
     take (length l - n) (drop n l)
 
 -- the board and the answer are those of the call
 accepted : (c : Came) →
-    callAt (tagAt (restOf c)) (restOf c) (c .before .before .before .before .before .before .before .before .loop .b) ≡ told (c .match .b) (c .match .answer)
+    callAt (tagAt (restOf c)) (restOf c)
+    (c .before .before .before .before .before .before .before .before .loop .b)
+    ≡ told (c .match .b) (c .match .answer)
 accepted c =
     let b = c .before .before .before .before .before .before .before .before .loop .b in
     let s = c .before .before .before .before .before .before .before .before .loop .inv .sound in
-    let k = clear (restOf c) _ (sym (c .before .before .before .before .before .refusal-of .ensures) ∙ c .before .before .before .before .if2 .left) in
+    let k = clear (restOf c) _ (sym (c .before .before .before .before .before .refusal-of .ensures)
+    ∙ c .before .before .before .before .if2 .left) in
     ⊎-elim
     (λ w. same-told _ _ _ _ _
     (read-told b s (restOf c) (tagAt (restOf c)) (w .0 .keys1) (k .own) (w .2 .result)
@@ -110,7 +145,8 @@ sound-requires c κs = search needs
 returns : tie.Need-returns Inv-loop μ-loop
 unfolding runOf over
 returns c =
-    let e : sound (c .before .before .before .before .args .board) ≡ false = sym (c .before .sound .ensures .0)
+    let start = c .before .before .before .before in
+    let e : sound (start .args .board) ≡ false = sym (c .before .sound .ensures .0)
     ∙ not-true _ (c .if1 .taken) in
     rw e (refl, refl)
 
@@ -129,7 +165,12 @@ part-rest-end : tie.Need-part-rest-end Inv-loop μ-loop
 part-rest-end c = omega (arith, c .before .loop .inv .used-in)
 
 sub-refusal-of : tie.Need-sub-refusal-of Inv-loop μ-loop
-sub-refusal-of c = omega (arith, c .before .before .loop .inv .counted, c .before .before .loop .inv .room, c .before .before .loop .inv .same)
+sub-refusal-of c = omega (
+  arith,
+  c .before .before .loop .inv .counted,
+  c .before .before .loop .inv .room,
+  c .before .before .loop .inv .same,
+)
 
 refusal-of-requires : tie.Need-refusal-of-requires Inv-loop μ-loop
 refusal-of-requires c κs = search needs
@@ -140,11 +181,14 @@ same-length c = omega (arith, c .before .before .before .before .loop .inv .same
 returns-2 : tie.Need-returns-2 Inv-loop μ-loop
 unfolding runOf Ran
 returns-2 c =
-    let p = c .before .before .before .before .before in
-    let s : sound (p .before .before .before .before .args .board) ≡ true = sym (p .before .sound .ensures .0) ∙ not-false _ (p .if1 .left) in
+    let looped = c .before .before .before .before in
+    let p = looped .before in
+    let s : sound (p .before .before .before .before .args .board) ≡ true = sym (p .before .sound .ensures .0)
+    ∙ not-false _ (p .if1 .left) in
     let e = rw part-rest at (c .before .refusal-of .ensures) in
     rw s
-    (ends _ _ _ _ _ _ _ _ (c .before .before .before .before .loop .inv) (c .before .before .before .loop-test .taken) _ e (ne-eqb _ _ (c .if2 .taken)))
+    (ends _ _ _ _ _ _ _ _ (looped .loop .inv) (c .before .before .before .loop-test .taken) _ e (ne-eqb _ _
+    (c .if2 .taken)))
 
 shared-slice-read-tag : tie.Need-shared-slice-read-tag Inv-loop μ-loop
 shared-slice-read-tag c =
@@ -152,61 +196,107 @@ shared-slice-read-tag c =
     omega (arith, h)
 
 answer-size-requires : tie.Need-answer-size-requires Inv-loop μ-loop
-answer-size-requires c κs = framed _ (clear _ _ (sym (c .before .before .refusal-of .ensures) ∙ c .before .if2 .left) .frame) .1
+answer-size-requires c κs = framed _ (clear _ _ (sym (c .before .before .refusal-of .ensures)
+    ∙ c .before .if2 .left) .frame) .1
 
 width-of-requires : tie.Need-width-of-requires Inv-loop μ-loop
-width-of-requires c κs = framed _ (clear _ _ (sym (c .before .before .before .refusal-of .ensures) ∙ c .before .before .if2 .left) .frame) .1
+width-of-requires c κs = framed _ (clear _ _ (sym (c .before .before .before .refusal-of .ensures)
+    ∙ c .before .before .if2 .left) .frame) .1
 
 add-next : tie.Need-add-next Inv-loop μ-loop
 add-next c =
-    let k = clear _ _ (sym (c .before .before .before .before .refusal-of .ensures) ∙ c .before .before .before .if2 .left) in
+    let refusing = c .before .before .before .before in
+    let looped = refusing .before .before .before in
+    let start = looped .before .before .before .before .before in
+    let k = clear _ _ (sym (refusing .refusal-of .ensures) ∙ c .before .before .before .if2 .left) in
     let f = rw part-rest at (framed _ (k .frame)) in
     let w = rw part-rest at (c .width-of .ensures) in
-    omega (arith, f .0, w, length-drop (c .before .before .before .before .before .before .before .loop .used) (c .before .before .before .before .before .before .before .before .before .before .before .before .args .list .now), c .before .before .before .before .before .before .before .loop .inv .used-in, c .before .before .before .before .before .before .before .before .before .before .before .before .good)
+    omega (
+      arith,
+      f .0,
+      w,
+      length-drop (looped .loop .used) (start .args .list .now),
+      looped .loop .inv .used-in,
+      start .good,
+    )
 
 add-next-2 : tie.Need-add-next-2 Inv-loop μ-loop
 add-next-2 c =
-    let k = clear _ _ (sym (c .before .before .before .before .refusal-of .ensures) ∙ c .before .before .before .if2 .left) in
+    let refusing = c .before .before .before .before in
+    let looped = refusing .before .before .before in
+    let start = looped .before .before .before .before .before in
+    let k = clear _ _ (sym (refusing .refusal-of .ensures) ∙ c .before .before .before .if2 .left) in
     let f = rw part-rest at (framed _ (k .frame)) in
     let w = rw part-rest at (c .width-of .ensures) in
-    omega (arith, f .0, w, length-drop (c .before .before .before .before .before .before .before .loop .used) (c .before .before .before .before .before .before .before .before .before .before .before .before .args .list .now), c .before .before .before .before .before .before .before .loop .inv .used-in, c .before .before .before .before .before .before .before .before .before .before .before .before .good)
+    omega (
+      arith,
+      f .0,
+      w,
+      length-drop (looped .loop .used) (start .args .list .now),
+      looped .loop .inv .used-in,
+      start .good,
+    )
 
 add-end : tie.Need-add-end Inv-loop μ-loop
 add-end c =
-    let k = clear _ _ (sym (c .before .before .before .before .refusal-of .ensures) ∙ c .before .before .before .if2 .left) .fits in
+    let refusing = c .before .before .before .before in
+    let looped = refusing .before .before .before in
+    let start = looped .before .before .before .before .before in
+    let k = clear _ _ (sym (refusing .refusal-of .ensures) ∙ c .before .before .before .if2 .left) .fits in
     let w = c .before .answer-size .ensures in
-    omega (arith, k, w, c .before .before .before .before .before .before .before .loop .inv .same, c .before .before .before .before .before .before .before .loop .inv .counted, c .before .before .before .before .before .before .before .loop .inv .room, c .before .before .before .before .before .before .before .before .before .before .before .before .good)
+    omega (arith, k, w, looped .loop .inv .same, looped .loop .inv .counted, looped .loop .inv .room, start .good)
 
 add-end-2 : tie.Need-add-end-2 Inv-loop μ-loop
 add-end-2 c =
-    let k = clear _ _ (sym (c .before .before .before .before .refusal-of .ensures) ∙ c .before .before .before .if2 .left) .fits in
+    let refusing = c .before .before .before .before in
+    let looped = refusing .before .before .before in
+    let start = looped .before .before .before .before .before in
+    let k = clear _ _ (sym (refusing .refusal-of .ensures) ∙ c .before .before .before .if2 .left) .fits in
     let w = c .before .answer-size .ensures in
-    omega (arith, k, w, c .before .before .before .before .before .before .before .loop .inv .same, c .before .before .before .before .before .before .before .loop .inv .counted, c .before .before .before .before .before .before .before .loop .inv .room, c .before .before .before .before .before .before .before .before .before .before .before .before .good)
+    omega (arith, k, w, looped .loop .inv .same, looped .loop .inv .counted, looped .loop .inv .room, start .good)
 
 address-at-requires : tie.Need-address-at-requires Inv-loop μ-loop
-address-at-requires c κs = value-in _ 2 (clear _ _ (sym (c .before .before .before .before .before .refusal-of .ensures) ∙ c .before .before .before .before .if2 .left) .frame) (c .match .keys1)
+address-at-requires c κs =
+    let unrefused = c .before .before .before .before in
+    let refusing = unrefused .before in
+    value-in _ 2 (clear _ _ (sym (refusing .refusal-of .ensures) ∙ unrefused .if2 .left) .frame) (c .match .keys1)
 
 read-accepted-requires : tie.Need-read-accepted-requires Inv-loop μ-loop
-read-accepted-requires c κs = c .before .before .before .before .before .before .before .before .before .loop .inv .sound
+read-accepted-requires c κs = c .before .before .before .before .before .before .before .before .before .loop .inv
+    .sound
 
 address-at-requires-2 : tie.Need-address-at-requires-2 Inv-loop μ-loop
 address-at-requires-2 c κs =
-    let h = value-in _ 3 (clear _ _ (sym (c .before .before .before .before .before .refusal-of .ensures) ∙ c .before .before .before .before .if2 .left) .frame) (c .match .keys2) in
+    let unrefused = c .before .before .before .before in
+    let refusing = unrefused .before in
+    let h = value-in _ 3 (clear _ _ (sym (refusing .refusal-of .ensures)
+    ∙ unrefused .if2 .left) .frame) (c .match .keys2) in
     omega (arith, h)
 
 byte-at-requires : tie.Need-byte-at-requires Inv-loop μ-loop
 byte-at-requires c κs =
-    let h = value-in _ 3 (clear _ _ (sym (c .before .before .before .before .before .before .refusal-of .ensures) ∙ c .before .before .before .before .before .if2 .left) .frame) (c .before .match .keys2) in
+    let unrefused = c .before .before .before .before .before in
+    let refusing = unrefused .before in
+    let h = value-in _ 3 (clear _ _ (sym (refusing .refusal-of .ensures)
+    ∙ unrefused .if2 .left) .frame) (c .before .match .keys2) in
     omega (arith, h)
 
 written-requires : tie.Need-written-requires Inv-loop μ-loop
-written-requires c κs = c .before .before .before .before .before .before .before .before .before .before .loop .inv .sound
+written-requires c κs = c .before .before .before .before .before .before .before .before .before .before .loop .inv
+    .sound
 
 passing-of-requires : tie.Need-passing-of-requires Inv-loop μ-loop
-passing-of-requires c κs = (c .before .before .before .before .before .before .before .before .loop .inv .sound, framed _ (clear _ _ (sym (c .before .before .before .before .before .refusal-of .ensures) ∙ c .before .before .before .before .if2 .left) .frame) .0)
+passing-of-requires c κs =
+    let unrefused = c .before .before .before .before in
+    let refusing = unrefused .before in
+    let looped = refusing .before .before .before in (
+      looped .loop .inv .sound,
+      framed _ (clear _ _ (sym (refusing .refusal-of .ensures) ∙ unrefused .if2 .left) .frame) .0,
+    )
 
 advanced-requires : tie.Need-advanced-requires Inv-loop μ-loop
-advanced-requires c κs = c .before .before .before .before .before .before .before .before .before .before .loop .inv .sound
+advanced-requires c κs = c .before .before .before .before .before .before .before .before .before .before .loop
+    .inv .sound
 
 line-requires : tie.Need-line-requires Inv-loop μ-loop
 line-requires c κs = search needs
@@ -218,12 +308,18 @@ deadline-requires : tie.Need-deadline-requires Inv-loop μ-loop
 deadline-requires c κs = c .before .before .before .before .before .before .before .before .loop .inv .sound
 
 effect-of-requires : tie.Need-effect-of-requires Inv-loop μ-loop
-effect-of-requires c κs = framed _ (clear _ _ (sym (c .before .before .before .before .before .before .before .refusal-of .ensures) ∙ c .before .before .before .before .before .before .if2 .left) .frame) .0
+effect-of-requires c κs =
+    let unrefused = c .before .before .before .before .before .before in
+    let refusing = unrefused .before in
+    framed _ (clear _ _ (sym (refusing .refusal-of .ensures) ∙ unrefused .if2 .left) .frame) .0
 
 put-record-requires : tie.Need-put-record-requires Inv-loop μ-loop
 put-record-requires c κs =
-    let i = c .before .before .before .before .before .before .before .before .before .loop .inv in
-    let z = sym (c .before .before .before .before .before .before .refusal-of .ensures) ∙ c .before .before .before .before .before .if2 .left in
+    let unrefused = c .before .before .before .before .before in
+    let refusing = unrefused .before in
+    let looped = refusing .before .before .before in
+    let i = looped .loop .inv in
+    let z = sym (refusing .refusal-of .ensures) ∙ unrefused .if2 .left in
     let q = c .before .before .before .answer-size .ensures in (
       q ∙ sym (answer-size _ (i .sound) _ _ z _ _ (accepted (c .before))),
       omega (arith, q, clear _ _ z .fits, i .same, i .counted, i .room),
@@ -231,20 +327,32 @@ put-record-requires c κs =
 
 add-calls : tie.Need-add-calls Inv-loop μ-loop
 add-calls c =
-    omega (arith, c .before .before .before .before .before .before .before .before .before .before .before .before .loop .inv .calls-in, c .before .before .before .before .before .before .before .before .before .before .before .loop-test .taken, c .before .before .before .before .before .before .before .before .before .before .before .before .before .before .before .before .before .good)
+    let inside = c .before .before .before .before .before .before .before .before .before .before .before in
+    let looped = inside .before in
+    let start = looped .before .before .before .before .before in
+    omega (arith, looped .loop .inv .calls-in, inside .loop-test .taken, start .good)
 
 loop-less : tie.Need-loop-less Inv-loop μ-loop
 loop-less c =
-    omega (arith, c .before .before .before .before .before .before .before .before .before .before .before .loop-test .taken)
+    let inside = c .before .before .before .before .before .before .before .before .before .before .before in
+    omega (arith, inside .loop-test .taken)
 
 loop-again : tie.Need-loop-again Inv-loop μ-loop
 loop-again c =
-    let r = rw part-rest at (c .before .before .before .before .before .before .before .before .before .refusal-of .ensures) in
-    goes-on _ _ _ _ _ _ _ _ (c .before .before .before .before .before .before .before .before .before .before .before .before .loop .inv) (c .before .before .before .before .before .before .before .before .before .before .before .loop-test .taken)
-    (λ i. omega (arith, rw part-rest at (c .before .before .before .before .before .before .before .shared-slice-known2 .given i))) (sym r ∙ c .before .before .before .before .before .before .before .before .if2 .left)
-    (c .before .before .before .before .match .b) (c .before .before .before .before .match .answer) (rw part-rest at (accepted (c .before .before .before .before))) (c .before .before .put-record .last .0)
-    (rw part-rest at (c .before .before .put-record .ensures)) (c .before .before .before .before .before .width-of .result) (c .before .before .before .before .before .before .answer-size .result)
-    (rw part-rest at (c .before .before .before .before .before .width-of .ensures)) (rw part-rest at (c .before .before .before .before .before .before .answer-size .ensures))
+    let met = c .before .before .before .before in
+    let wide = met .before in
+    let sized = wide .before in
+    let known = sized .before in
+    let unrefused = known .before in
+    let refusing = unrefused .before in
+    let inside = refusing .before .before in
+    let looped = inside .before in
+    let r = rw part-rest at (refusing .refusal-of .ensures) in
+    goes-on _ _ _ _ _ _ _ _ (looped .loop .inv) (inside .loop-test .taken)
+    (λ i. omega (arith, rw part-rest at (known .shared-slice-known2 .given i))) (sym r ∙ unrefused .if2 .left)
+    (met .match .b) (met .match .answer) (rw part-rest at (accepted met)) (c .before .before .put-record .last .0)
+    (rw part-rest at (c .before .before .put-record .ensures)) (wide .width-of .result) (sized .answer-size .result)
+    (rw part-rest at (wide .width-of .ensures)) (rw part-rest at (sized .answer-size .ensures))
 
 same-length-2 : tie.Need-same-length-2 Inv-loop μ-loop
 same-length-2 c = omega (arith, c .before .loop .inv .same)
@@ -253,7 +361,8 @@ returns-3 : tie.Need-returns-3 Inv-loop μ-loop
 unfolding runOf Ran
 returns-3 c =
     let p = c .before .before in
-    let s : sound (p .before .before .before .before .args .board) ≡ true = sym (p .before .sound .ensures .0) ∙ not-false _ (p .if1 .left) in
+    let s : sound (p .before .before .before .before .args .board) ≡ true = sym (p .before .sound .ensures .0)
+    ∙ not-false _ (p .if1 .left) in
     rw s (ended _ _ _ _ _ (c .before .loop .inv) (c .loop-test .left))
 
 pub run-spec : {M : Type 1} → statement M

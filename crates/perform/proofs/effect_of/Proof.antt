@@ -91,7 +91,14 @@ returns-4 c =
 
 returns-5 : tie.Need-returns-5
 unfolding partsAt valueBytes
-returns-5 c = simp (ne-eqb _ _ (c .before .before .match .rest .0 .0 .0 .1), ne-eqb _ _ (c .before .before .match .rest .0 .0 .1), ne-eqb _ _ (c .before .before .match .rest .0 .1), ne-eqb _ _ (c .before .before .match .rest .1), c .flag .ensures, c .before .output-of .ensures)
+returns-5 c = simp (
+  ne-eqb _ _ (c .before .before .match .rest .0 .0 .0 .1),
+  ne-eqb _ _ (c .before .before .match .rest .0 .0 .1),
+  ne-eqb _ _ (c .before .before .match .rest .0 .1),
+  ne-eqb _ _ (c .before .before .match .rest .1),
+  c .flag .ensures,
+  c .before .output-of .ensures,
+)
 
 pub effect-of-spec : {M : Type 1} → statement M
 effect-of-spec =

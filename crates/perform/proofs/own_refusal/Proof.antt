@@ -71,7 +71,12 @@ returns-4 c =
 
 returns-5 : tie.Need-returns-5
 unfolding ownRefusal
-returns-5 c = simp (ne-eqb _ _ (c .match .rest .0 .0 .0 .1), ne-eqb _ _ (c .match .rest .0 .0 .1), ne-eqb _ _ (c .match .rest .0 .1), ne-eqb _ _ (c .match .rest .1))
+returns-5 c = simp (
+  ne-eqb _ _ (c .match .rest .0 .0 .0 .1),
+  ne-eqb _ _ (c .match .rest .0 .0 .1),
+  ne-eqb _ _ (c .match .rest .0 .1),
+  ne-eqb _ _ (c .match .rest .1),
+)
 
 pub own-refusal-spec : {M : Type 1} → statement M
 own-refusal-spec =
