@@ -58,9 +58,6 @@ module _ (S : Plain) (f : S .X → S .X) where
     ensures = λ _ r e. fact 𝓤 (now (e .0) ≡ f (now (a .0)));
   }
 
-  abbrev pub Method₀ : {M : Type 1} (𝓤 : URA M) (H : Heap 𝓤) (A : Atoms 𝓤) → Contract 𝓤
-  Method₀ 𝓤 H A = tripleOf 𝓤 H A sig₀ (closing 𝓤 H A end₀ (clauses₀ 𝓤))
-
   abbrev code₀ : Name → Fn
   code₀ ν = record {
     lifetimes = 1;

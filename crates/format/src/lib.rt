@@ -67,19 +67,6 @@ pub fn frame_refusal(rest: &[u8]) -> u8
     0
 }
 
-// The bytes of an answer's members.
-pub fn value_size(answer: Answer) -> usize
-    ensures { λ r. ⌜ (r ≡ length (valueBytes answer)) × (r ≤ 25) ⌝ }
-{
-    match answer {
-        Answer::Empty => 0,
-        Answer::Byte(_) => 1,
-        Answer::Deadline(_, _, _) => 25,
-        Answer::Skip(_, _) => 9,
-        Answer::Pair(_, _) => 2,
-    }
-}
-
 fn put_byte(buf: &mut [u8], at: usize, value: u8)
     requires { ⌜ at + 1 ≤ length (now buf) ⌝ }
     ensures { λ _. ⌜ now (buf .exit) ≡ sets (now (buf .entry)) at (valueBytes (Byte value)) ⌝ }

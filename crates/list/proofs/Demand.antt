@@ -76,7 +76,7 @@ carried (a ∷ calls) l room s out h =
     onward next (done b n x) e =
         let p : Placed (s .board) l (room - length out) (done b n x) =
         rw e at (turn-placed (s .board) l (room - length out)) in
-        let c = next n (stepped s (done b n x) .outcome) (out ++ x) (rw (p .1 .0) (h .1)) in
+        let c = next n (stepped s (done b n x)) (out ++ x) (rw (p .1 .0) (h .1)) in
         rw (go-on l room s out inside b n x e)
         (record {
           count = suc (c .count);

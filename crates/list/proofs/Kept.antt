@@ -133,13 +133,13 @@ module _ (l : List ℕ) (bytes : (i : ℕ) → getD l i 0 < 256) where
 
   -- a run after one more call, done or refused
   pub step-good : (s : Outcome) → Good (s .board) → (room : ℕ) →
-      Good (stepped s (turnOf (s .board) l room) .outcome .board)
+      Good (stepped s (turnOf (s .board) l room) .board)
   unfolding turnOf settle stepped
   step-good s g room =
       let t = callAt (tagAt l) l (s .board) in
-      choose (λ (u : Turn). Good (stepped s u .outcome .board)) (eqb (frameRefusal l) 0)
-      (λ _. choose (λ (u : Turn). Good (stepped s u .outcome .board)) (eqb (t .refusal) 0)
-      (λ _. choose (λ (u : Turn). Good (stepped s u .outcome .board))
+      choose (λ (u : Turn). Good (stepped s u .board)) (eqb (frameRefusal l) 0)
+      (λ _. choose (λ (u : Turn). Good (stepped s u .board)) (eqb (t .refusal) 0)
+      (λ _. choose (λ (u : Turn). Good (stepped s u .board))
       (ltb room (length (recordOf (tagAt l) (t .value))))
       (λ _. g) (λ _. call-good (s .board) g (tagAt l)))
       (λ _. g))

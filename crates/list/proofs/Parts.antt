@@ -92,7 +92,7 @@ module _ (m : List ℕ) (room : ℕ) where
           let f = done-fits (s .board) (x ∷ l) (room - length out) b n a e in
           let g = next-done x l room s out b n a e in
           next-done x (l ++ m) room s out b n a (turn-before (s .board) (x ∷ l) m (room - length out) (p .0) ∙ e)
-          ∙ next (n - 1) (stepped s (done b n a) .outcome) (out ++ a) (omega arith)
+          ∙ next (n - 1) (stepped s (done b n a)) (out ++ a) (omega arith)
           (sym (ap (λ (q : Run). q .outcome .refusal) g) ∙ z)
           ∙ ap (λ (q : Run). runOn 0 m room (q .outcome) (q .answers)) (sym g)
 
@@ -123,7 +123,7 @@ from-start q z =
 
 module _ (p : Run) (room : ℕ) where
   step-behind : (s : Outcome) (t : Turn) →
-      stepped (behind (p .outcome) s) t .outcome ≡ behind (p .outcome) (stepped s t .outcome)
+      stepped (behind (p .outcome) s) t ≡ behind (p .outcome) (stepped s t)
   unfolding stepped
   step-behind s (done b n a) =
       rw (
@@ -162,9 +162,9 @@ module _ (p : Run) (room : ℕ) where
           next-done x l room (behind (p .outcome) s) (p .answers ++ out) b n a
           (ap (turnOf (s .board) (x ∷ l)) less ∙ e)
           ∙ ap (λ (o : Outcome). runOn (n - 1) l room o ((p .answers ++ out) ++ a)) (step-behind s (done b n a))
-          ∙ ap (runOn (n - 1) l room (behind (p .outcome) (stepped s (done b n a) .outcome)))
+          ∙ ap (runOn (n - 1) l room (behind (p .outcome) (stepped s (done b n a))))
           (append-assoc (p .answers) out a)
-          ∙ next (n - 1) (stepped s (done b n a) .outcome) (out ++ a)
+          ∙ next (n - 1) (stepped s (done b n a)) (out ++ a)
           ∙ ap (joined p) (sym (next-done x l (room - length (p .answers)) s out b n a e))
 
 -- ---- a run keeps a sound board sound
@@ -186,7 +186,7 @@ run-good zero (x ∷ l) room s out h g =
         rw (next-refused x l room s out n e) (rw e at (step-good (x ∷ l) h s g (room - length out)))
     onward next (done b n a) e =
         rw (next-done x l room s out b n a e)
-        (next (n - 1) (stepped s (done b n a) .outcome) (out ++ a)
+        (next (n - 1) (stepped s (done b n a)) (out ++ a)
         (rw e at (step-good (x ∷ l) h s g (room - length out))))
 
 -- ---- the whole

@@ -2,7 +2,7 @@
 -- next call. Assumes nothing.
 use mathlib.Core.Path.{_≡_, refl, sym, ap, _∙_}
 use mathlib.Core.List.{List, [], _∷_, _++_, append-nil}
-use mathlib.Core.Bool.{true, false, true≢false, false≢true}
+use mathlib.Core.Bool.{Bool, true, false, true≢false, false≢true}
 use Prim.Native.Nat.{ℕ, zero, suc, _+_, _-_, _≤_, _<_}
 use native.Mathlib.Nat.{zero-add}
 use native.Mathlib.Omega.{arith}
@@ -18,6 +18,11 @@ use Rattle.format.specs.Format.{widthOf, tagAt, frameRefusal, recordOf}
 use Rattle.perform.specs.Calls.{callAt}
 use Rattle.list.specs.Run.{Turn, done, refused, settle, turnOf, stepped, bytesOf, Run, runOn, over}
 use Rattle.format.proofs.Frames.{framed, sets-then, sets-front}
+
+-- whether a call was done
+abbrev pub served : Turn → Bool
+served (done b n a) = true
+served (refused n) = false
 
 -- ---- one call
 
@@ -61,12 +66,12 @@ skip-drop (suc k) (x ∷ l) room s out = skip-drop k l room s out
 
 module _ (x : ℕ) (rest : List ℕ) (room : ℕ) (s : Outcome) (out : List ℕ) where
   pub next-done : (b : Board) (n : ℕ) (a : List ℕ) → turnOf (s .board) (x ∷ rest) (room - length out) ≡ done b n a →
-      runOn 0 (x ∷ rest) room s out ≡ runOn (n - 1) rest room (stepped s (done b n a) .outcome) (out ++ a)
+      runOn 0 (x ∷ rest) room s out ≡ runOn (n - 1) rest room (stepped s (done b n a)) (out ++ a)
   unfolding runOn
   next-done b n a e = rw (e, runOn)
 
   pub next-refused : (n : ℕ) → turnOf (s .board) (x ∷ rest) (room - length out) ≡ refused n →
-      runOn 0 (x ∷ rest) room s out ≡ record { outcome = stepped s (refused n) .outcome; answers = out }
+      runOn 0 (x ∷ rest) room s out ≡ record { outcome = stepped s (refused n); answers = out }
   unfolding runOn
   next-refused n e = rw (e, runOn)
 
@@ -77,18 +82,18 @@ drop-pred (suc n) x rest h = let e : suc n - 1 ≡ n = omega arith in ap (λ (k 
 -- where the call is done the run goes on behind it
 pub go-on : (l : List ℕ) (room : ℕ) (s : Outcome) (out : List ℕ) → 0 < length l → (b : Board) (n : ℕ) (a : List ℕ) →
     turnOf (s .board) l (room - length out) ≡ done b n a →
-    runOn 0 l room s out ≡ runOn 0 (drop n l) room (stepped s (done b n a) .outcome) (out ++ a)
+    runOn 0 l room s out ≡ runOn 0 (drop n l) room (stepped s (done b n a)) (out ++ a)
 go-on [] room s out h b n a e = absurd (omega arith)
 go-on (x ∷ rest) room s out h b n a e =
     next-done x rest room s out b n a e
-    ∙ skip-drop (n - 1) rest room (stepped s (done b n a) .outcome) (out ++ a)
-    ∙ ap (λ (k : List ℕ). runOn 0 k room (stepped s (done b n a) .outcome) (out ++ a))
+    ∙ skip-drop (n - 1) rest room (stepped s (done b n a)) (out ++ a)
+    ∙ ap (λ (k : List ℕ). runOn 0 k room (stepped s (done b n a)) (out ++ a))
     (drop-pred n x rest (done-fits (s .board) (x ∷ rest) (room - length out) b n a e .0))
 
 -- where it is refused the run ends
 pub stop-at : (l : List ℕ) (room : ℕ) (s : Outcome) (out : List ℕ) → 0 < length l → (n : ℕ) →
     turnOf (s .board) l (room - length out) ≡ refused n →
-    runOn 0 l room s out ≡ record { outcome = stepped s (refused n) .outcome; answers = out }
+    runOn 0 l room s out ≡ record { outcome = stepped s (refused n); answers = out }
 stop-at [] room s out h n e = absurd (omega arith)
 stop-at (x ∷ rest) room s out h n e = next-refused x rest room s out n e
 
@@ -166,9 +171,9 @@ module _ (list buf₀ : List ℕ) (s₀ : Outcome) (buf : List ℕ) (s : Outcome
     left = omega (arith, length-drop (s .used) list)
 
     -- the next call is done: the run goes on, farther in the list
-    pub more : (t : Turn) → Next t → buf′ ≡ sets buf (s .written) (bytesOf t) → stepped s t .served ≡ true →
-        sound (stepped s t .outcome .board) ≡ true → BoardFits (stepped s t .outcome .board) →
-        Running list buf₀ s₀ buf′ (stepped s t .outcome) × (s .used < stepped s t .outcome .used)
+    pub more : (t : Turn) → Next t → buf′ ≡ sets buf (s .written) (bytesOf t) → served t ≡ true →
+        sound (stepped s t .board) ≡ true → BoardFits (stepped s t .board) →
+        Running list buf₀ s₀ buf′ (stepped s t) × (s .used < stepped s t .used)
     unfolding stepped bytesOf
     more (refused n) e w served i f = absurd (false≢true served)
     more (done b n a) e w served i f =
@@ -186,7 +191,7 @@ module _ (list buf₀ : List ℕ) (s₀ : Outcome) (buf : List ℕ) (s : Outcome
             same = rw (w, length-sets) (r .same);
             bytes = store-more buf₀ buf buf′ (r .out) a (s .written) (r .counted) (r .bytes) w;
             whole =
-                ap (λ (m : List ℕ). runOn 0 m (length buf₀) (stepped s (done b n a) .outcome) (r .out ++ a))
+                ap (λ (m : List ℕ). runOn 0 m (length buf₀) (stepped s (done b n a)) (r .out ++ a))
                 (sym (drop-drop n (s .used) list))
                 ∙ sym (go-on (drop (s .used) list) (length buf₀) s (r .out) left b n a (here (done b n a) e))
                 ∙ r .whole;
@@ -195,11 +200,11 @@ module _ (list buf₀ : List ℕ) (s₀ : Outcome) (buf : List ℕ) (s : Outcome
         )
 
     -- the next call is refused: the run has stopped
-    pub stops : (t : Turn) → Next t → buf′ ≡ sets buf (s .written) (bytesOf t) → stepped s t .served ≡ false →
-        Ran list buf₀ s₀ buf′ (stepped s t .outcome)
+    pub stops : (t : Turn) → Next t → buf′ ≡ sets buf (s .written) (bytesOf t) → served t ≡ false →
+        Ran list buf₀ s₀ buf′ (stepped s t)
     unfolding stepped bytesOf
     stops (done b n a) e w served = absurd (true≢false served)
     stops (refused n) e w served =
-        stopped list buf₀ s₀ buf′ (stepped s (refused n) .outcome) (r .out) (r .room)
+        stopped list buf₀ s₀ buf′ (stepped s (refused n)) (r .out) (r .room)
         (rw append-nil at (store-more buf₀ buf buf′ (r .out) [] (s .written) (r .counted) (r .bytes) w))
         (sym (stop-at (drop (s .used) list) (length buf₀) s (r .out) left n (here (refused n) e)) ∙ r .whole)

@@ -1,7 +1,7 @@
 -- Document 01, 'The call list': what a run does.
 use Prim.Native.Nat.{ℕ, zero, suc, _+_, _-_}
 use mathlib.Core.List.{List, [], _∷_, _++_}
-use mathlib.Core.Bool.{Bool, true, false, cond}
+use mathlib.Core.Bool.{cond}
 use lib.ListN.{length, drop}
 use lib.Dec.{ltb, eqb}
 use Rattle.board.specs.declared.Board.{Board}
@@ -34,34 +34,23 @@ turnOf b l room =
 
 -- ---- a run
 
--- a run after one more call, and whether that call was done
-pub record Stepped : Type 0 where
-  pub outcome : Outcome
-  pub served : Bool
-
 -- the run so far after one more call; a refused call changes the refusal alone
-unfoldable pub stepped : Outcome → Turn → Stepped
+unfoldable pub stepped : Outcome → Turn → Outcome
 stepped s (done b n a) =
     record {
-      outcome = record {
-        board = b;
-        calls = s .calls + 1;
-        used = s .used + n;
-        written = s .written + length a;
-        refusal = 0;
-      };
-      served = true;
+      board = b;
+      calls = s .calls + 1;
+      used = s .used + n;
+      written = s .written + length a;
+      refusal = 0;
     }
 stepped s (refused n) =
     record {
-      outcome = record {
-        board = s .board;
-        calls = s .calls;
-        used = s .used;
-        written = s .written;
-        refusal = n;
-      };
-      served = false;
+      board = s .board;
+      calls = s .calls;
+      used = s .used;
+      written = s .written;
+      refusal = n;
     }
 
 unfoldable pub bytesOf : Turn → List ℕ
@@ -80,8 +69,8 @@ runOn skip [] room s out = record { outcome = s; answers = out }
 runOn (suc k) (x ∷ rest) room s out = runOn k rest room s out
 runOn zero (x ∷ rest) room s out =
     elim (turnOf (s .board) (x ∷ rest) (room - length out)) [
-      | done b n a ↦ runOn (n - 1) rest room (stepped s (done b n a) .outcome) (out ++ a)
-      | refused n ↦ record { outcome = stepped s (refused n) .outcome; answers = out }
+      | done b n a ↦ runOn (n - 1) rest room (stepped s (done b n a)) (out ++ a)
+      | refused n ↦ record { outcome = stepped s (refused n); answers = out }
     ]
 
 -- before the first call
