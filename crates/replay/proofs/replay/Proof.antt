@@ -46,34 +46,34 @@ returns-2 : tie.Need-returns-2 Inv-loop μ-loop
 returns-2 c = tt
 
 replay-record-requires : tie.Need-replay-record-requires Inv-loop μ-loop
-replay-record-requires c κs = (c .before .fits2 .ensures (not-false _ (c .if2 .left)), omega arith)
+replay-record-requires c κs = (c .before .fits2 .ensures .0 (not-false _ (c .if2 .left)), omega arith)
 
 joined-requires-3 : tie.Need-joined-requires-3 Inv-loop μ-loop
 joined-requires-3 c κs = tt
 
 add-at : tie.Need-add-at Inv-loop μ-loop
 add-at c =
-    let f = c .before .before .before .before .fits2 .ensures (not-false _ (c .before .before .before .if2 .left)) in
+    let f = c .before .before .before .before .fits2 .ensures .0 (not-false _ (c .before .before .before .if2 .left)) in
     omega (arith, f .bytes)
 
 add-at-2 : tie.Need-add-at-2 Inv-loop μ-loop
 add-at-2 c =
-    let f = c .before .before .before .before .fits2 .ensures (not-false _ (c .before .before .before .if2 .left)) in
+    let f = c .before .before .before .before .fits2 .ensures .0 (not-false _ (c .before .before .before .if2 .left)) in
     omega (arith, f .bytes)
 
 add-at-3 : tie.Need-add-at-3 Inv-loop μ-loop
 add-at-3 c =
-    let f = c .before .before .before .before .fits2 .ensures (not-false _ (c .before .before .before .if2 .left)) in
+    let f = c .before .before .before .before .fits2 .ensures .0 (not-false _ (c .before .before .before .if2 .left)) in
     omega (arith, f .bytes)
 
 loop-less : tie.Need-loop-less Inv-loop μ-loop
 loop-less c =
-    let f = c .before .before .before .before .fits2 .ensures (not-false _ (c .before .before .before .if2 .left)) in
+    let f = c .before .before .before .before .fits2 .ensures .0 (not-false _ (c .before .before .before .if2 .left)) in
     omega (arith, f .bytes)
 
 loop-again : tie.Need-loop-again Inv-loop μ-loop
 loop-again c =
-    let f = c .before .before .before .before .fits2 .ensures (not-false _ (c .before .before .before .if2 .left)) in
+    let f = c .before .before .before .before .fits2 .ensures .0 (not-false _ (c .before .before .before .if2 .left)) in
     omega (arith, f .bytes)
 
 returns-3 : tie.Need-returns-3 Inv-loop μ-loop
