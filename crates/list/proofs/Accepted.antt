@@ -30,10 +30,10 @@ use Rattle.perform.specs.Calls.{Told, callAt}
 use Rattle.perform.specs.Parts.{ownRefusal, sizes, sizeOf, told, cyclesAt, advanceValue, partsOf, partsAt}
 use Rattle.perform.proofs.Told.{own-told, size-told, write-told, advance-told, unadvanced-told, effect-told}
 use Rattle.list.specs.declared.Outcome.{Outcome}
-use Rattle.list.specs.Run.{done, refused, settle, turnOf, stepped, bytesOf}
+use Rattle.list.specs.Run.{done, refused, settle, turnOf, stepped}
 use Rattle.list.specs.Refusals.{refusalAt}
 use Rattle.list.proofs.Kept.{call-good}
-use Rattle.list.proofs.Runs.{Running, Ran, stateOf, more, stops}
+use Rattle.list.proofs.Runs.{bytesOf, Running, Ran, stateOf, more, stops}
 
 -- the tag of a call is above 0
 pub tag-above : (l : List ℕ) → frameRefusal l ≡ 0 → 0 < tagAt l
@@ -150,17 +150,17 @@ module _ (b : Board) (s : sound b ≡ true) (l : List ℕ) (tag : ℕ) where
   written-told t z address value p q b′ e = rw (e, p, q) (write-told b s l tag t z)
 
   module _ (t : (tag ≡ 4) ⊎ (tag ≡ 6)) (m : Passing) (p : m .made ≡ isPresent (cyclesAt tag l b))
-      (q : m .cycles ≡ orZero (cyclesAt tag l b)) (b′ : Board) (v : Bool) (h : v ≡ line b′) (a : Answer)
-      (w : valueBytes a ≡ advanceValue tag (m .cycles) v) where
-    pub moved-told : m .made ≡ true → b′ ≡ advancedBoard (m .cycles) b → callAt tag l b ≡ told b′ a
+      (q : m .cycles .0 ≡ orZero (cyclesAt tag l b)) (b′ : Board) (v : Bool) (h : v ≡ line b′) (a : Answer)
+      (w : valueBytes a ≡ advanceValue tag (m .cycles .0) v) where
+    pub moved-told : m .made ≡ true → b′ ≡ advancedBoard (m .cycles .0) b → callAt tag l b ≡ told b′ a
     moved-told f e =
         rw e
-        (advance-told b s l tag t (m .cycles) (present (cyclesAt tag l b) (m .made) (m .cycles) p q f) a
+        (advance-told b s l tag t (m .cycles .0) (present (cyclesAt tag l b) (m .made) (m .cycles .0) p q f) a
         (rw (h, e) at w))
 
     pub unmoved-told : m .made ≡ false → b′ ≡ b → callAt tag l b ≡ told b′ a
     unmoved-told f e =
-        let n = absent (cyclesAt tag l b) (m .made) (m .cycles) p q f in
+        let n = absent (cyclesAt tag l b) (m .made) (m .cycles .0) p q f in
         rw e (unadvanced-told b s l tag t (n .0) a (rw (h, e, n .1) at w))
 
   -- the controller's calls, source and host time

@@ -16,13 +16,18 @@ use Rattle.board.specs.Board.{BoardFits, sound}
 use Rattle.list.specs.declared.Outcome.{Outcome}
 use Rattle.format.specs.Format.{widthOf, tagAt, frameRefusal, recordOf}
 use Rattle.perform.specs.Calls.{callAt}
-use Rattle.list.specs.Run.{Turn, done, refused, settle, turnOf, stepped, bytesOf, Run, runOn, over}
+use Rattle.list.specs.Run.{Turn, done, refused, settle, turnOf, stepped, Run, runOn, over}
 use Rattle.format.proofs.Frames.{framed, sets-then, sets-front}
 
 -- whether a call was done
 abbrev pub served : Turn → Bool
 served (done b n a) = true
 served (refused n) = false
+
+-- the bytes that it writes
+unfoldable pub bytesOf : Turn → List ℕ
+bytesOf (done b n a) = a
+bytesOf (refused n) = []
 
 -- ---- one call
 

@@ -53,10 +53,6 @@ stepped s (refused n) =
       refusal = n;
     }
 
-unfoldable pub bytesOf : Turn → List ℕ
-bytesOf (done b n a) = a
-bytesOf (refused n) = []
-
 -- a run's result, and the answers of the calls carried out
 pub record Run : Type 0 where
   pub outcome : Outcome

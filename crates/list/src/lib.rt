@@ -5,7 +5,6 @@ ghost use lib.ListN.{length};
 ghost use Rattle.list.specs.Run.{runOf, over};
 ghost use Rattle.list.specs.Refusals.{refusalAt};
 use board::Board;
-use channel::Cycles;
 use format::Answer;
 
 // The board after a run, the calls done, the list bytes that they used, the answer bytes, and the refusal, 0 for none.
@@ -83,10 +82,11 @@ pub fn run(board: Board, list: &[u8], answers: &mut [u8]) -> Outcome
             }
             4 | 6 => {
                 let p = perform::passing_of(b, tag, rest);
+                let cycles = p.cycles;
                 if p.made {
-                    b = b.advanced(Cycles(p.cycles));
+                    b = b.advanced(cycles);
                 }
-                answer = perform::passed(tag, p.cycles, b.line());
+                answer = perform::passed(tag, cycles, b.line());
             }
             5 => {
                 answer = perform::deadline(b);

@@ -55,9 +55,8 @@ use Rattle.format.specs.Format.{valueBytes}
 use Rattle.format.specs.declared.Answer.{Answer}
 use Rattle.format.specs.declared.Answer.the-variants.{Empty, Byte}
 use Rattle.perform.specs.declared.Effect.{Effect}
-use Rattle.perform.specs.Calls.{Told, emptyTold, byteTold, deadlineTold, skipTold, callAt}
+use Rattle.perform.specs.Calls.{Told, emptyTold, byteTold, deadlineTold, skipTold, hostAt, callAt}
 use Rattle.perform.specs.Parts.{
-  hostAt,
   ownRefusal,
   sizeOf,
   told,

@@ -5,6 +5,7 @@ use mathlib.Core.Bool.{cond}
 use lib.Dec.{eqb}
 use Rattle.wide.specs.Bits.{flagOf}
 use Rattle.wide.specs.Fields.{beAt, be}
+use Rattle.clock.specs.declared.HostTime.{HostTime}
 use Rattle.board.specs.declared.Board.{Board}
 use Rattle.board.specs.declared.calls.EmptyAnswer.{EmptyAnswer}
 use Rattle.board.specs.declared.calls.AdvanceAnswer.{AdvanceAnswer}
@@ -66,12 +67,15 @@ abbrev pub outputTold : OutputAnswer → Told
 outputTold r =
     record { board = r .board; refusal = r .refusal; value = be 1 (flagOf (r .valid)) ++ be 1 (r .number) }
 
+-- the host time of call 01
+abbrev pub hostAt : List ℕ → HostTime
+hostAt l = record { seconds = beAt l 3 8; nanoseconds = beAt l 11 4 }
+
 -- the call with a known tag whose value stands from index 3 on: 01 host time, 02 read, 03 write, 04 advance,
 -- 05 deadline, 06 skip, 07 source, 08 controller read, 09 controller write, 0A output
 unfoldable pub callAt : ℕ → List ℕ → Board → Told
 callAt tag l b =
-    cond (eqb tag 1)
-    (emptyTold (hostTimeCall (record { seconds = beAt l 3 8; nanoseconds = beAt l 11 4 }) b))
+    cond (eqb tag 1) (emptyTold (hostTimeCall (hostAt l) b))
     (cond (eqb tag 2) (byteTold (readCall (beAt l 3 2) b))
     (cond (eqb tag 3) (emptyTold (writeCall (beAt l 3 2) (beAt l 5 1) b))
     (cond (eqb tag 4) (advanceTold (advanceCall (beAt l 3 8) b))

@@ -17,13 +17,9 @@ use Rattle.registers.specs.Calls.{addressRefusal}
 use Rattle.format.specs.declared.Answer.{Answer}
 use Rattle.format.specs.Format.{valueBytes}
 use Rattle.perform.specs.declared.Effect.{Effect}
-use Rattle.perform.specs.Calls.{Told}
+use Rattle.perform.specs.Calls.{Told, hostAt}
 
 -- ---- ahead of the call
-
--- the host time of call 01
-abbrev pub hostAt : List ℕ → HostTime
-hostAt l = record { seconds = beAt l 3 8; nanoseconds = beAt l 11 4 }
 
 -- the call's own refusal, 0 for none
 unfoldable pub ownRefusal : ℕ → List ℕ → ℕ

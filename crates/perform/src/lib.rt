@@ -9,11 +9,12 @@ ghost use Rattle.wide.specs.Fields.{beAt};
 ghost use Rattle.board.specs.Board.{sound};
 ghost use Rattle.board.specs.Calls.{isPresent, orZero};
 ghost use Rattle.format.specs.Format.{widthOf, valueBytes};
-ghost use Rattle.perform.specs.Calls.{deadlineTold};
-ghost use Rattle.perform.specs.Parts.{hostAt, ownRefusal, sizeOf, cyclesAt, advanceValue, partsOf, partsAt};
+ghost use Rattle.perform.specs.Calls.{deadlineTold, hostAt};
+ghost use Rattle.perform.specs.Parts.{ownRefusal, sizeOf, cyclesAt, advanceValue, partsOf, partsAt};
 use board::Board;
 use board::calls::host_time_refusal;
 use board::calls::source_refusal;
+use channel::Cycles;
 use clock::HostTime;
 use controller::IrqController;
 use controller::SourceNumber;
@@ -25,7 +26,7 @@ use wide::number::Wide;
 // Whether an advance is made, and its cycles.
 pub struct Passing {
     pub made: bool,
-    pub cycles: u64,
+    pub cycles: Cycles,
 }
 
 // What a call changes that changes host time or the controller at most, and its answer.
@@ -109,40 +110,40 @@ pub fn answer_size(tag: u8) -> usize
 pub fn passing_of(board: Board, tag: u8, rest: &[u8]) -> Passing
     requires { ⌜ (sound board ≡ true) × (3 + widthOf tag ≤ length (now rest)) ⌝ }
     ensures { λ r. ⌜ (r .made ≡ isPresent (cyclesAt tag (now (rest .entry)) board))
-        × (r .cycles ≡ orZero (cyclesAt tag (now (rest .entry)) board)) ⌝ }
+        × (r .cycles .0 ≡ orZero (cyclesAt tag (now (rest .entry)) board)) ⌝ }
 {
     if tag == 4 {
         return Passing {
             made: true,
-            cycles: fields::get(rest, 3, 8),
+            cycles: Cycles(fields::get(rest, 3, 8)),
         };
     }
     if board.line() {
         return Passing {
             made: false,
-            cycles: 0,
+            cycles: Cycles(0),
         };
     }
     let Deadline::At(exact) = board.exact_deadline() else {
         return Passing {
             made: false,
-            cycles: 0,
+            cycles: Cycles(0),
         };
     };
     Passing {
         made: true,
-        cycles: exact.capped(),
+        cycles: Cycles(exact.capped()),
     }
 }
 
 // What advance or skip answers.
-pub fn passed(tag: u8, cycles: u64, line: bool) -> Answer
-    ensures { λ r. ⌜ valueBytes r ≡ advanceValue tag cycles line ⌝ }
+pub fn passed(tag: u8, cycles: Cycles, line: bool) -> Answer
+    ensures { λ r. ⌜ valueBytes r ≡ advanceValue tag (cycles .0) line ⌝ }
 {
     if tag == 4 {
         return Answer::Byte(flag(line));
     }
-    Answer::Skip(cycles, flag(line))
+    Answer::Skip(cycles.0, flag(line))
 }
 
 pub fn deadline(board: Board) -> Answer

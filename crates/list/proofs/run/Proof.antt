@@ -123,12 +123,12 @@ accepted c =
     (λ w. same-told _ _ _ _ _
     (⊎-elim
     (λ v. moved-told b s (restOf c) (tagAt (restOf c)) (w .0 .keys3) (w .1 .result) (w .1 .ensures .0)
-    (w .1 .ensures .1) (w .2 .b) (w .3 .result) (w .3 .ensures) (w .4 .result) (w .4 .ensures) (v .0 .taken)
+    (w .1 .ensures .1) (w .3 .b) (w .4 .result) (w .4 .ensures) (w .5 .result) (w .5 .ensures) (v .0 .taken)
     (v .2 ∙ v .1 .ensures))
     (λ v. unmoved-told b s (restOf c) (tagAt (restOf c)) (w .0 .keys3) (w .1 .result) (w .1 .ensures .0)
-    (w .1 .ensures .1) (w .2 .b) (w .3 .result) (w .3 .ensures) (w .4 .result) (w .4 .ensures) (v .0 .left) (v .1))
-    (w .2 .came))
-    (w .5) (w .6))
+    (w .1 .ensures .1) (w .3 .b) (w .4 .result) (w .4 .ensures) (w .5 .result) (w .5 .ensures) (v .0 .left) (v .1))
+    (w .3 .came))
+    (w .6) (w .7))
     (⊎-elim
     (λ w. same-told _ _ _ _ _
     (deadline-told b s (restOf c) (tagAt (restOf c)) (w .0 .keys4) (w .1 .result) (w .1 .ensures))
@@ -295,7 +295,8 @@ passing-of-requires c κs =
     )
 
 advanced-requires : tie.Need-advanced-requires Inv-loop μ-loop
-advanced-requires c κs = c .before .before .before .before .before .before .before .before .before .before .loop
+advanced-requires c κs = c .before .before .before .before .before .before .before .before .before .before .before
+    .loop
     .inv .sound
 
 line-requires : tie.Need-line-requires Inv-loop μ-loop
