@@ -56,24 +56,20 @@ unsafe extern "C" {
     ) -> u8;
 }
 
+/// The outcome of a call of the library that writes calls, list bytes and answer bytes and gives the refusal.
+fn outcome_of(run: impl FnOnce(&mut usize, &mut usize, &mut usize) -> u8) -> Outcome {
+    let mut outcome = Outcome::default();
+    outcome.refusal = run(&mut outcome.calls, &mut outcome.list_bytes, &mut outcome.answer_bytes);
+    outcome
+}
+
 /// Runs a list over a fresh board. The buffer then holds the answers of the calls done, from its first byte, and
 /// after them its old bytes.
 pub fn run(list: &[u8], answers: &mut [u8]) -> Outcome {
-    let mut outcome = Outcome::default();
-    // SAFETY: the pointers and lengths are those of slices and of fields that live through the call, and none of
-    // what is written overlaps anything else that is lent.
-    outcome.refusal = unsafe {
-        pec_run(
-            list.as_ptr(),
-            list.len(),
-            answers.as_mut_ptr(),
-            answers.len(),
-            &mut outcome.calls,
-            &mut outcome.list_bytes,
-            &mut outcome.answer_bytes,
-        )
-    };
-    outcome
+    let (from, room) = (answers.as_mut_ptr(), answers.len());
+    // SAFETY: the pointers and lengths are those of slices and numbers that live through the call, and none of what is
+    // written overlaps anything else that is lent.
+    outcome_of(|calls, used, written| unsafe { pec_run(list.as_ptr(), list.len(), from, room, calls, used, written) })
 }
 
 /// Runs `first` over a fresh board, and then `list` so many times, each time over the board that the run before it
@@ -82,21 +78,21 @@ pub fn run(list: &[u8], answers: &mut [u8]) -> Outcome {
 ///
 /// With `times` 1 and a list that reads, this shows all that a run left of its board.
 pub fn run_repeated(first: &[u8], list: &[u8], times: u64, answers: &mut [u8]) -> Outcome {
-    let mut outcome = Outcome::default();
+    let (from, room) = (answers.as_mut_ptr(), answers.len());
+    let (start, length) = (first.as_ptr(), first.len());
     // SAFETY: as in `run`; the two lists are only read.
-    outcome.refusal = unsafe {
+    outcome_of(|calls, used, written| unsafe {
         pec_run_repeated(
-            first.as_ptr(),
-            first.len(),
+            start,
+            length,
             list.as_ptr(),
             list.len(),
             times,
-            answers.as_mut_ptr(),
-            answers.len(),
-            &mut outcome.calls,
-            &mut outcome.list_bytes,
-            &mut outcome.answer_bytes,
+            from,
+            room,
+            calls,
+            used,
+            written,
         )
-    };
-    outcome
+    })
 }
