@@ -42,11 +42,12 @@ timerId = 0x51540001
 abbrev pub pendingWord : List HardwareTimer → ℕ
 pendingWord = foldFrom (λ _ h. flagOf (h .pending)) (λ flag word. flag + 2 * word) 0 0
 
-unfoldable pub timerWord : ℕ → Board → ℕ
-timerWord register b =
+-- a register that all channels share, by timer enable and the channels
+unfoldable pub timerWord : ℕ → ℕ → List HardwareTimer → ℕ
+timerWord register enable timers =
     cond (eqb register timerIdAt) timerId
-    (cond (eqb register timerEnableAt) (b .«timer_enable»)
-    (cond (eqb register timerPendingAt) (pendingWord (b .timers))
+    (cond (eqb register timerEnableAt) enable
+    (cond (eqb register timerPendingAt) (pendingWord timers)
     0))
 
 unfoldable pub clockWord : ℕ → Clock → ℕ
@@ -68,7 +69,7 @@ channelWord offset b = wordOf (registerOf (placeOf offset)) (channelAt (channelO
 -- the word of the register at an offset
 unfoldable pub liveWord : ℕ → Board → ℕ
 liveWord offset b =
-    cond (inTimers offset) (timerWord (registerOf offset) b)
+    cond (inTimers offset) (timerWord (registerOf offset) (b .«timer_enable») (b .timers))
     (cond (inClock offset) (clockWord (registerOf offset) (b .clock))
     (cond (inChannels offset) (channelWord offset b)
     0))

@@ -31,19 +31,20 @@ fn timer_pending(timers: [HardwareTimer; 4]) -> u32
     word
 }
 
-fn timer_word(board: Board, register: u32) -> u32
-    ensures { λ r. ⌜ r ≡ timerWord register board ⌝ }
+// The word of a register that all channels share.
+pub fn timer_word(timers: [HardwareTimer; 4], timer_enable: u8, register: u32) -> u32
+    ensures { λ r. ⌜ r ≡ timerWord register «timer_enable» timers ⌝ }
 {
-    let timers = board.timers;
     match register {
         Registers::TIMER_ID => ID,
-        Registers::TIMER_ENABLE => board.timer_enable as u32,
+        Registers::TIMER_ENABLE => timer_enable as u32,
         Registers::TIMER_PENDING => timer_pending(timers),
         _ => 0,
     }
 }
 
-fn clock_word(clock: Clock, register: u32) -> u32
+// The word of a register of the clock.
+pub fn clock_word(clock: Clock, register: u32) -> u32
     requires { ⌜ Timed clockRate clock ⌝ }
     ensures { λ r. ⌜ r ≡ clockWord register clock ⌝ }
 {
@@ -74,9 +75,14 @@ pub fn live_word(board: Board, offset: u32) -> u32
     requires { ⌜ Timed clockRate (board .clock) ⌝ }
     ensures { λ r. ⌜ r ≡ liveWord offset board ⌝ }
 {
+    let timers = board.timers;
     let clock = board.clock;
     match offset {
-        Registers::TIMER_ID..=Registers::TIMER_LAST => timer_word(board, offset / 4 * 4),
+        Registers::TIMER_ID..=Registers::TIMER_LAST => timer_word(
+            timers,
+            board.timer_enable,
+            offset / 4 * 4,
+        ),
         Registers::RTC_CTRL..=Registers::RTC_LAST => clock_word(clock, offset / 4 * 4),
         Registers::TIMER_CHANNEL_BASE..=Registers::TIMER_CHANNEL_LAST => channel_word(
             board,

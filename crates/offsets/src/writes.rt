@@ -1,7 +1,8 @@
 // What a byte written to a register does.
 ghost use mathlib.Core.Path.{_≡_};
-ghost use Prim.Native.Nat.{_<_, _≤_};
+ghost use Prim.Native.Nat.{_<_, _≤_, _%_};
 ghost use Rattle.clock.specs.Clock.{clockRate};
+ghost use Rattle.clock.specs.Registers.{mergeByte};
 ghost use Rattle.clock.specs.Sound.{Timed};
 ghost use Rattle.offsets.specs.Writes.{clearedBy, acknowledged, timerWritten, clockWritten};
 ghost use Rattle.offsets.specs.Writes.{channelWritten, writtenAt};
@@ -27,7 +28,7 @@ fn cleared_by(mut timer: HardwareTimer, clear: bool) -> HardwareTimer
 }
 
 // Pending is cleared of each channel whose bit is set in the byte.
-fn acknowledged(timers: [HardwareTimer; 4], value: u8) -> [HardwareTimer; 4]
+pub fn acknowledged(timers: [HardwareTimer; 4], value: u8) -> [HardwareTimer; 4]
     ensures { λ r. ⌜ r ≡ acknowledged value timers ⌝ }
 {
     let mut out = timers;
@@ -41,6 +42,15 @@ fn acknowledged(timers: [HardwareTimer; 4], value: u8) -> [HardwareTimer; 4]
     out
 }
 
+// Timer enable after byte `byte` of it is written, 0 the most significant.
+pub fn enable_written(timer_enable: u8, byte: usize, value: u8) -> u8
+    requires { ⌜ byte < 4 ⌝ }
+    ensures { λ r. ⌜ r ≡ mergeByte byte value «timer_enable» % 16 ⌝ }
+{
+    let merged = wide::fields::with_byte(timer_enable as u64, 3 - byte, value);
+    (merged % Board::TIMER_ENABLE_VALUES as u64) as u8
+}
+
 // Byte `byte` of a register that all channels share, 0 the most significant.
 fn timer_written(board: Board, register: u32, byte: usize, value: u8) -> Board
     requires { ⌜ byte < 4 ⌝ }
@@ -49,8 +59,7 @@ fn timer_written(board: Board, register: u32, byte: usize, value: u8) -> Board
     let timers = board.timers;
     match register {
         Registers::TIMER_ENABLE => {
-            let merged = wide::fields::with_byte(board.timer_enable as u64, 3 - byte, value);
-            with_timer_enable(board, (merged % Board::TIMER_ENABLE_VALUES as u64) as u8)
+            with_timer_enable(board, enable_written(board.timer_enable, byte, value))
         }
         Registers::TIMER_ACK => {
             if byte == 3 {
@@ -63,7 +72,7 @@ fn timer_written(board: Board, register: u32, byte: usize, value: u8) -> Board
 }
 
 // Byte `byte` of a register of the clock, 0 the most significant.
-fn clock_written(clock: Clock, register: u32, byte: usize, value: u8) -> Clock
+pub fn clock_written(clock: Clock, register: u32, byte: usize, value: u8) -> Clock
     requires { ⌜ (byte < 4) × Timed clockRate clock ⌝ }
     ensures { λ r. ⌜ r ≡ clockWritten register byte value clock ⌝ }
 {

@@ -31,48 +31,48 @@ channel-word-requires c κs = search needs
 returns : tie.Need-returns
 unfolding liveWord
 returns c =
-    let x = c .before .before .before .before .args .offset in
+    let x = c .before .before .before .before .before .args .offset in
     rw (in-timers x (c .before .before .if1 .left) (c .before .if2 .taken)) (c .timer-word .ensures)
 
 returns-2 : tie.Need-returns-2
 unfolding liveWord
 returns-2 c =
-    let x = c .before .before .before .before .before .before .args .offset in
+    let x = c .before .before .before .before .before .before .before .args .offset in
     let t = in-clock x (c .before .before .if3 .left) (c .before .if4 .taken) in
     rw (t .0, t .1) (c .clock-word .ensures)
 
 returns-3 : tie.Need-returns-3
 unfolding liveWord
 returns-3 c =
-    let x = c .before .before .before .before .before .before .before .before .args .offset in
+    let x = c .before .before .before .before .before .before .before .before .before .args .offset in
     let t = in-channels x (c .before .before .if5 .left) (c .before .if6 .taken) in
     rw (t .0, t .1, t .2) (c .channel-word .ensures)
 
 returns-4 : tie.Need-returns-4
 unfolding liveWord
 returns-4 c =
-    let x = c .before .before .args .offset in
+    let x = c .before .before .before .args .offset in
     let t = before-timers x (c .if1 .taken) in
     rw (t .0, t .1, t .2)
 
 returns-5 : tie.Need-returns-5
 unfolding liveWord
 returns-5 c =
-    let x = c .before .before .before .before .args .offset in
+    let x = c .before .before .before .before .before .args .offset in
     let t = before-clock x (c .before .if2 .left) (c .if3 .taken) in
     rw (t .0, t .1, t .2)
 
 returns-6 : tie.Need-returns-6
 unfolding liveWord
 returns-6 c =
-    let x = c .before .before .before .before .before .before .args .offset in
+    let x = c .before .before .before .before .before .before .before .args .offset in
     let t = before-channels x (c .before .if4 .left) (c .if5 .taken) in
     rw (t .0, t .1, t .2)
 
 returns-7 : tie.Need-returns-7
 unfolding liveWord
 returns-7 c =
-    let x = c .before .before .before .before .before .before .before .args .offset in
+    let x = c .before .before .before .before .before .before .before .before .args .offset in
     let t = after-channels x (c .if6 .left) in
     rw (t .0, t .1, t .2)
 

@@ -5,9 +5,6 @@ use borrow.Author.Needs.{needs}
 use Rattle.offsets.proofs.words.timer_word.Statement.{statement}
 use Rattle.offsets.proofs.words.timer_word.Tie as tie
 
-cast-result : tie.Need-cast-result
-cast-result c = search needs
-
 timer-pending-requires : tie.Need-timer-pending-requires
 timer-pending-requires c κs = search needs
 
@@ -17,7 +14,7 @@ returns c = rw (c .match .keys1)
 
 returns-2 : tie.Need-returns-2
 unfolding timerWord
-returns-2 c = rw (c .before .match .keys2)
+returns-2 c = rw (c .match .keys2)
 
 returns-3 : tie.Need-returns-3
 unfolding timerWord
@@ -34,4 +31,4 @@ returns-4 c =
 
 pub timer-word-spec : {M : Type 1} → statement M
 timer-word-spec =
-    tie.close (tie.spec cast-result timer-pending-requires returns returns-2 returns-3 returns-4)
+    tie.close (tie.spec timer-pending-requires returns returns-2 returns-3 returns-4)

@@ -5,23 +5,8 @@ use borrow.Author.Needs.{needs}
 use Rattle.offsets.proofs.writes.timer_written.Statement.{statement}
 use Rattle.offsets.proofs.writes.timer_written.Tie as tie
 
-cast-with-byte : tie.Need-cast-with-byte
-cast-with-byte c = search needs
-
-sub-with-byte : tie.Need-sub-with-byte
-sub-with-byte c = search needs
-
-with-byte-requires : tie.Need-with-byte-requires
-with-byte-requires c κs = search needs
-
-cast-with-timer-enable : tie.Need-cast-with-timer-enable
-cast-with-timer-enable c = search needs
-
-rem-with-timer-enable : tie.Need-rem-with-timer-enable
-rem-with-timer-enable c = search needs
-
-cast-with-timer-enable-2 : tie.Need-cast-with-timer-enable-2
-cast-with-timer-enable-2 c = search needs
+enable-written-requires : tie.Need-enable-written-requires
+enable-written-requires c κs = search needs
 
 with-timer-enable-requires : tie.Need-with-timer-enable-requires
 with-timer-enable-requires c κs = search needs
@@ -45,7 +30,7 @@ returns c =
 returns-2 : tie.Need-returns-2
 unfolding timerWritten
 returns-2 c =
-    rw (c .before .before .before .match .keys1, c .with-timer-enable .ensures, c .before .with-byte .ensures)
+    rw (c .before .before .match .keys1, c .with-timer-enable .ensures, c .before .enable-written .ensures)
 
 returns-3 : tie.Need-returns-3
 unfolding timerWritten
@@ -59,12 +44,7 @@ pub timer-written-spec : {M : Type 1} → statement M
 timer-written-spec =
     tie.close
     (tie.spec
-    cast-with-byte
-    sub-with-byte
-    with-byte-requires
-    cast-with-timer-enable
-    rem-with-timer-enable
-    cast-with-timer-enable-2
+    enable-written-requires
     with-timer-enable-requires
     acknowledged-requires
     with-timers-requires
