@@ -15,10 +15,12 @@ use Rattle.wide.specs.Fields.{beAt}
 use Rattle.wide.proofs.Choices.{either, and-parts}
 use Rattle.clock.specs.Fields.{withHost}
 use Rattle.board.specs.declared.Board.{Board}
-use Rattle.board.specs.Board.{withClock, withController, line, sound}
+use Rattle.board.specs.Board.{withClock, withController, line, exactDeadline, wired, sound}
 use Rattle.board.specs.Calls.{advancedBoard, isPresent, orZero}
-use Rattle.board.proofs.Soundness.{facts-sound}
+use Rattle.board.proofs.Soundness.{facts-sound, wired-sound}
 use Rattle.board.proofs.Steps.{Good, good}
+use Rattle.offsets.specs.Registers.{base}
+use Rattle.offsets.specs.Writes.{writtenAt}
 use Rattle.registers.specs.Calls.{writtenBoard}
 use Rattle.format.specs.declared.Answer.{Answer}
 use Rattle.format.specs.declared.Answer.the-variants.{Empty}
@@ -144,24 +146,41 @@ absent : (o : Option ℕ) (made : Bool) (c : ℕ) → made ≡ isPresent o → c
 absent none made c p q t = (refl, q)
 absent (some d) made c p q t = absurd (false≢true (sym t ∙ p))
 
+-- the line does not look at the controller
+wired-line : (b : Board) → line (wired b) ≡ line b
+unfolding line wired
+wired-line b = refl
+
 module _ (b : Board) (s : sound b ≡ true) (l : List ℕ) (tag : ℕ) where
-  pub written-told : tag ≡ 3 → ownRefusal tag l ≡ 0 → (address value : ℕ) → address ≡ beAt l 3 2 → value ≡ beAt l 5 1 →
-      (b′ : Board) → b′ ≡ writtenBoard address value b → callAt tag l b ≡ told b′ Empty
-  written-told t z address value p q b′ e = rw (e, p, q) (write-told b s l tag t z)
+  pub written-told : tag ≡ 3 → ownRefusal tag l ≡ 0 → (offset value : ℕ) → offset ≡ beAt l 3 2 + base →
+      value ≡ beAt l 5 1 → (b′ : Board) → b′ ≡ wired (writtenAt offset value b) → callAt tag l b ≡ told b′ Empty
+  unfolding writtenBoard
+  written-told t z offset value p q b′ e = rw (e, p, q) (write-told b s l tag t z)
 
-  module _ (t : (tag ≡ 4) ⊎ (tag ≡ 6)) (m : Passing) (p : m .made ≡ isPresent (cyclesAt tag l b))
-      (q : m .cycles .0 ≡ orZero (cyclesAt tag l b)) (b′ : Board) (v : Bool) (h : v ≡ line b′) (a : Answer)
-      (w : valueBytes a ≡ advanceValue tag (m .cycles .0) v) where
-    pub moved-told : m .made ≡ true → b′ ≡ advancedBoard (m .cycles .0) b → callAt tag l b ≡ told b′ a
-    moved-told f e =
-        rw e
-        (advance-told b s l tag t (m .cycles .0) (present (cyclesAt tag l b) (m .made) (m .cycles .0) p q f) a
-        (rw (h, e) at w))
+  -- what advance or skip does, by the line v and the deadline d that skip has asked for
+  module _ (t : (tag ≡ 4) ⊎ (tag ≡ 6)) (v : Bool) (d : Option ℕ)
+      (asked : tag ≡ 6 → (v ≡ line b) × (d ≡ exactDeadline b)) (m : Passing)
+      (p : m .made ≡ isPresent (cyclesAt tag l v d)) (q : m .cycles .0 ≡ orZero (cyclesAt tag l v d)) (a : Answer) where
+    cycles-same : (u : (tag ≡ 4) ⊎ (tag ≡ 6)) → cyclesAt tag l v d ≡ cyclesAt tag l (line b) (exactDeadline b)
+    unfolding cyclesAt
+    cycles-same (inl e) = rw e
+    cycles-same (inr e) = rw (asked e .0, asked e .1)
 
-    pub unmoved-told : m .made ≡ false → b′ ≡ b → callAt tag l b ≡ told b′ a
-    unmoved-told f e =
-        let n = absent (cyclesAt tag l b) (m .made) (m .cycles .0) p q f in
-        rw e (unadvanced-told b s l tag t (n .0) a (rw (h, e, n .1) at w))
+    -- x is the board before source 3 is set
+    pub moved-told : m .made ≡ true → (x : Board) → wired x ≡ advancedBoard (m .cycles .0) b →
+        valueBytes a ≡ advanceValue tag (m .cycles .0) (line x) → (b′ : Board) → b′ ≡ wired x →
+        callAt tag l b ≡ told b′ a
+    moved-told f x e w b′ g =
+        let o = present (cyclesAt tag l v d) (m .made) (m .cycles .0) p q f in
+        let h : line x ≡ line (advancedBoard (m .cycles .0) b) = sym (wired-line x) ∙ ap (λ (y : Board). line y) e in
+        rw (g, e)
+        (advance-told b s l tag t (m .cycles .0) (sym (cycles-same t) ∙ o) a (rw h at w))
+
+    pub unmoved-told : m .made ≡ false → valueBytes a ≡ advanceValue tag (m .cycles .0) (line b) → (b′ : Board) →
+        b′ ≡ wired b → callAt tag l b ≡ told b′ a
+    unmoved-told f w b′ g =
+        let n = absent (cyclesAt tag l v d) (m .made) (m .cycles .0) p q f in
+        rw (g, wired-sound b s) (unadvanced-told b s l tag t (sym (cycles-same t) ∙ n .0) a (rw (n .1) at w))
 
   -- the controller's calls, source and host time
   pub parted-told : frameRefusal l ≡ 0 → tag ≡ tagAt l → (tag ≡ 2 → ⊥) → (tag ≡ 3 → ⊥) →

@@ -1,5 +1,7 @@
 mod Kept
 mod Runs
+mod Writes
+mod Advances
 mod Accepted
 pub mod Demand
 pub mod Parts

@@ -6,7 +6,15 @@ ghost use lib.ListN.{length};
 ghost use Rattle.list.specs.Run.{runOf, over};
 ghost use Rattle.list.specs.Refusals.{refusalAt};
 use board::Board;
+use channel::ChannelNumber;
+use controller::SourceNumber;
+use controller::with_source;
 use format::Answer;
+use offsets::Registers;
+use offsets::fields::channel_of;
+use offsets::fields::place_of;
+use offsets::writes;
+use wide::deadline::Deadline;
 
 // The board after a run, the calls done, the list bytes that they used, the answer bytes, and the refusal, 0 for none.
 pub struct Outcome {
@@ -79,15 +87,75 @@ pub fn run(board: Board, list: &[u8], answers: &mut [u8]) -> Outcome
                 answer = Answer::Byte(r.byte);
             }
             3 => {
-                b = registers::written(b, perform::address_at(rest), perform::byte_at(rest, 5));
+                let offset = perform::offset_at(rest);
+                let value = perform::byte_at(rest, 5);
+                let byte = (offset % 4) as usize;
+                match offset {
+                    Registers::TIMER_ENABLE..=Registers::TIMER_ENABLE_LAST => {
+                        let enable = b.timer_enable;
+                        let written = writes::enable_written(enable, byte, value);
+                        b.timer_enable = written;
+                    }
+                    Registers::TIMER_LAST => {
+                        let timers = b.timers;
+                        let cleared = writes::acknowledged(timers, value);
+                        b.timers = cleared;
+                    }
+                    Registers::RTC_CTRL..=Registers::RTC_LAST => {
+                        let clock = b.clock;
+                        let written = writes::clock_written(clock, offset / 4 * 4, byte, value);
+                        b.clock = written;
+                    }
+                    Registers::TIMER_CHANNEL_BASE..=Registers::TIMER_CHANNEL_LAST => {
+                        let i = channel_of(offset).0 as usize;
+                        let timer = b.timers[i];
+                        let written = timer.write_byte(place_of(offset) / 4 * 4, byte, value);
+                        b.timers[i] = written;
+                    }
+                    _ => {}
+                }
+                let line = b.line();
+                let controller = b.controller;
+                let set = with_source(controller, SourceNumber(Board::LINE_SOURCE), line);
+                b.controller = set;
             }
             4 | 6 => {
-                let p = perform::passing_of(b, tag, rest);
+                let mut high = false;
+                let mut soonest = Deadline::Never;
+                if tag == 6 {
+                    high = b.line();
+                    soonest = b.exact_deadline();
+                }
+                let p = perform::passing_of(tag, rest, high, soonest);
                 let cycles = p.cycles;
                 if p.made {
-                    b = b.advanced(cycles);
+                    let enable = b.timer_enable;
+                    let mut i = 0;
+                    while i < Registers::TIMER_CHANNELS {
+                        let timer = b.timers[i];
+                        let selected = ChannelNumber(i as u8).selected(enable);
+                        let moved = timer.advance_cycles(selected, cycles);
+                        b.timers[i].control = moved.control;
+                        b.timers[i].counter = moved.counter;
+                        b.timers[i].compare = moved.compare;
+                        b.timers[i].phase = moved.phase;
+                        b.timers[i].pending = moved.pending;
+                        b.timers[i].armed = moved.armed;
+                        i += 1;
+                    }
+                    let clock = b.clock;
+                    let later = clock.advance(cycles);
+                    b.clock.seconds = later.seconds;
+                    b.clock.subsecond = later.subsecond;
+                    b.clock.poll = later.poll;
+                    b.clock.alarm.pending = later.alarm.pending;
+                    b.clock.alarm.armed = later.alarm.armed;
                 }
-                answer = perform::passed(tag, cycles, b.line());
+                let line = b.line();
+                let controller = b.controller;
+                let set = with_source(controller, SourceNumber(Board::LINE_SOURCE), line);
+                b.controller = set;
+                answer = perform::passed(tag, cycles, line);
             }
             5 => {
                 answer = perform::deadline(b);

@@ -19,6 +19,8 @@ impl Registers {
 
     pub const TIMER_ENABLE: u32 = 0x184;
 
+    pub const TIMER_ENABLE_LAST: u32 = 0x187;
+
     pub const TIMER_PENDING: u32 = 0x188;
 
     pub const TIMER_ACK: u32 = 0x18C;

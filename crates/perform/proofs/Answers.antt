@@ -1,15 +1,15 @@
 -- What the parts of a call answer on a sound board, by what the code computes of them. Assumes nothing.
 use Prim.Native.Nat.{ℕ, min}
 use mathlib.Core.Path.{_≡_}
-use mathlib.Core.Bool.{true, false}
-use mathlib.Core.Option.{none, some}
+use mathlib.Core.Bool.{Bool, true, false}
+use mathlib.Core.Option.{Option, none, some}
 use mathlib.Core.List.{List, _++_}
 use lib.Dec.{eqb}
 use Rattle.wide.specs.declared.number.Wide.{Wide}
 use Rattle.wide.specs.Number.{valueOf, largest}
 use Rattle.wide.specs.Fields.{be}
 use Rattle.board.specs.declared.Board.{Board}
-use Rattle.board.specs.Board.{line, exactDeadline, sound}
+use Rattle.board.specs.Board.{exactDeadline, sound}
 use Rattle.perform.specs.Calls.{deadlineTold}
 use Rattle.perform.specs.Parts.{cyclesAt}
 
@@ -25,11 +25,11 @@ module _ (b : Board) (s : sound b ≡ true) where
   deadline-some w word e m = rw (s, e, m)
 
 -- the cycles of a skip with the line low
-module _ (tag : ℕ) (l : List ℕ) (b : Board) (t : eqb tag 4 ≡ false) (low : line b ≡ false) where
-  pub cycles-none : exactDeadline b ≡ none → cyclesAt tag l b ≡ none
+module _ (tag : ℕ) (l : List ℕ) (v : Bool) (d : Option ℕ) (t : eqb tag 4 ≡ false) (low : v ≡ false) where
+  pub cycles-none : d ≡ none → cyclesAt tag l v d ≡ none
   unfolding cyclesAt
   cycles-none e = rw (t, low, e)
 
-  pub cycles-some : (w : Wide) → exactDeadline b ≡ some (valueOf w) → cyclesAt tag l b ≡ some (min (valueOf w) largest)
+  pub cycles-some : (w : Wide) → d ≡ some (valueOf w) → cyclesAt tag l v d ≡ some (min (valueOf w) largest)
   unfolding cyclesAt
   cycles-some w e = rw (t, low, e)

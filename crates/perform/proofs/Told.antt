@@ -22,7 +22,7 @@ use Rattle.controller.proofs.Laws.{steady, level-other, written-levels}
 use Rattle.board.specs.declared.Board.{Board}
 use Rattle.board.specs.declared.calls.ByteAnswer.{ByteAnswer}
 use Rattle.board.specs.declared.calls.EmptyAnswer.{EmptyAnswer}
-use Rattle.board.specs.Board.{line, wired, sound, withClock, withController}
+use Rattle.board.specs.Board.{line, exactDeadline, wired, sound, withClock, withController}
 use Rattle.board.specs.Calls.{
   refusalOf,
   emptyAnswer,
@@ -87,6 +87,30 @@ by-tag P tag low high p1 p2 p3 p4 p5 p6 p7 p8 p9 p10 =
   where
     at : (k : ℕ) → P k → (eqb tag k ≡ false → P tag) → P tag
     at k p n = either (eqb tag k) (λ e. let q : tag ≡ k = eqb-true tag k e in rw q p) n
+
+above : (tag : ℕ) → (tag ≡ 0 → ⊥) → 0 < tag
+above tag n = omega arith
+
+-- the sizes that no arm of the code names
+pub size-else : (tag : ℕ) → tag < 11 → (tag ≡ 2 → ⊥) → (tag ≡ 4 → ⊥) → (tag ≡ 5 → ⊥) → (tag ≡ 6 → ⊥) →
+    (tag ≡ 8 → ⊥) → (tag ≡ 10 → ⊥) → 0 ≡ sizeOf tag
+size-else tag high n2 n4 n5 n6 n8 n10 =
+    either (eqb tag 0) (λ e. let q : tag ≡ 0 = eqb-true tag 0 e in rw q refl)
+    (λ e. let n0 = eqb-false tag 0 e in
+    by-tag
+    (λ (t : ℕ). (t ≡ 2 → ⊥) → (t ≡ 4 → ⊥) → (t ≡ 5 → ⊥) → (t ≡ 6 → ⊥) → (t ≡ 8 → ⊥) → (t ≡ 10 → ⊥) → 0 ≡ sizeOf t)
+    tag (above tag n0) high
+    (λ m2 m4 m5 m6 m8 m10. refl)
+    (λ m2 m4 m5 m6 m8 m10. absurd (m2 refl))
+    (λ m2 m4 m5 m6 m8 m10. refl)
+    (λ m2 m4 m5 m6 m8 m10. absurd (m4 refl))
+    (λ m2 m4 m5 m6 m8 m10. absurd (m5 refl))
+    (λ m2 m4 m5 m6 m8 m10. absurd (m6 refl))
+    (λ m2 m4 m5 m6 m8 m10. refl)
+    (λ m2 m4 m5 m6 m8 m10. absurd (m8 refl))
+    (λ m2 m4 m5 m6 m8 m10. refl)
+    (λ m2 m4 m5 m6 m8 m10. absurd (m10 refl))
+    n2 n4 n5 n6 n8 n10)
 
 -- ---- the call's own refusal
 
@@ -219,7 +243,7 @@ module _ (b : Board) (s : sound b ≡ true) (l : List ℕ) where
         rw t (accepted-empty (addressRefusal (beAt l 3 2)) (writtenBoard (beAt l 3 2) (beAt l 5 1) b) q)
 
     -- the advance that advance or skip makes
-    pub advance-told : (tag ≡ 4) ⊎ (tag ≡ 6) → (c : ℕ) → cyclesAt tag l b ≡ some c → (a : Answer) →
+    pub advance-told : (tag ≡ 4) ⊎ (tag ≡ 6) → (c : ℕ) → cyclesAt tag l (line b) (exactDeadline b) ≡ some c → (a : Answer) →
         valueBytes a ≡ advanceValue tag c (line (advancedBoard c b)) → Is (advancedBoard c b) a
     unfolding callAt cyclesAt advanceValue advanceCall
     advance-told (inl t) c e a v =
@@ -233,7 +257,7 @@ module _ (b : Board) (s : sound b ≡ true) (l : List ℕ) where
         rw (t, w) (skip-is (some c) f)
 
     -- no advance is made
-    pub unadvanced-told : (tag ≡ 4) ⊎ (tag ≡ 6) → cyclesAt tag l b ≡ none → (a : Answer) →
+    pub unadvanced-told : (tag ≡ 4) ⊎ (tag ≡ 6) → cyclesAt tag l (line b) (exactDeadline b) ≡ none → (a : Answer) →
         valueBytes a ≡ advanceValue tag 0 (line b) → Is b a
     unfolding callAt cyclesAt advanceValue
     unadvanced-told (inl t) e a v =

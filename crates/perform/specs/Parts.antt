@@ -3,7 +3,7 @@
 use Prim.Native.Nat.{ℕ}
 use mathlib.Core.List.{List, [], _∷_, _++_}
 use mathlib.Core.Bool.{Bool, cond}
-use mathlib.Core.Option.{Option, some}
+use mathlib.Core.Option.{Option, none, some}
 use lib.ListN.{getD}
 use lib.Dec.{eqb}
 use Rattle.wide.specs.Bits.{flagOf}
@@ -12,7 +12,8 @@ use Rattle.clock.specs.declared.HostTime.{HostTime}
 use Rattle.controller.specs.declared.IrqController.{IrqController}
 use Rattle.controller.specs.Controller.{sourceSet, byteRead, byteWritten, outputOf}
 use Rattle.board.specs.declared.Board.{Board}
-use Rattle.board.specs.Calls.{hostTimeRefusal, sourceRefusal, skipLength}
+use Rattle.board.specs.Board.{wordDeadline}
+use Rattle.board.specs.Calls.{hostTimeRefusal, sourceRefusal}
 use Rattle.registers.specs.Calls.{addressRefusal}
 use Rattle.format.specs.declared.Answer.{Answer}
 use Rattle.format.specs.Format.{valueBytes}
@@ -43,9 +44,9 @@ sizeOf tag = getD sizes tag 0
 abbrev pub told : Board → Answer → Told
 told b a = record { board = b; refusal = 0; value = valueBytes a }
 
--- 04 and 06: the cycles of the advance, none where skip makes none
-unfoldable pub cyclesAt : ℕ → List ℕ → Board → Option ℕ
-cyclesAt tag l b = cond (eqb tag 4) (some (beAt l 3 8)) (skipLength b)
+-- 04 and 06: the cycles of the advance, by the line and the deadline of the board, none where skip makes none
+unfoldable pub cyclesAt : ℕ → List ℕ → Bool → Option ℕ → Option ℕ
+cyclesAt tag l v d = cond (eqb tag 4) (some (beAt l 3 8)) (cond v none (wordDeadline d))
 
 -- their answer, by the cycles that have passed and the line
 unfoldable pub advanceValue : ℕ → ℕ → Bool → List ℕ

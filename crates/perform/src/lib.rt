@@ -6,8 +6,10 @@ ghost use Prim.Native.Nat.{_+_, _≤_, _<_};
 ghost use lib.ListN.{length};
 ghost use Rattle.wide.specs.Bits.{flagOf};
 ghost use Rattle.wide.specs.Fields.{beAt};
+ghost use Rattle.wide.specs.Deadline.{numberOf};
 ghost use Rattle.board.specs.Board.{sound};
 ghost use Rattle.board.specs.Calls.{isPresent, orZero};
+ghost use Rattle.offsets.specs.Registers.{base};
 ghost use Rattle.format.specs.Format.{widthOf, valueBytes};
 ghost use Rattle.perform.specs.Calls.{deadlineTold, hostAt};
 ghost use Rattle.perform.specs.Parts.{ownRefusal, sizeOf, cyclesAt, advanceValue, partsOf, partsAt};
@@ -19,6 +21,7 @@ use clock::HostTime;
 use controller::IrqController;
 use controller::SourceNumber;
 use format::Answer;
+use offsets::Registers;
 use wide::deadline::Deadline;
 use wide::fields;
 use wide::number::Wide;
@@ -35,9 +38,6 @@ pub struct Effect {
     pub controller: IrqController,
     pub answer: Answer,
 }
-
-// The bytes of the answers' members of the tags 1 to 10, with 0 ahead of them.
-const SIZES: [usize; 11] = [0, 0, 1, 0, 1, 25, 9, 0, 1, 0, 2];
 
 fn flag(value: bool) -> u8
     ensures { λ r. ⌜ r ≡ flagOf value ⌝ }
@@ -60,6 +60,14 @@ pub fn address_at(rest: &[u8]) -> u16
     ensures { λ r. ⌜ r ≡ beAt (now (rest .entry)) 3 2 ⌝ }
 {
     fields::get(rest, 3, 2) as u16
+}
+
+// The offset of a register.
+pub fn offset_at(rest: &[u8]) -> u32
+    requires { ⌜ 5 ≤ length (now rest) ⌝ }
+    ensures { λ r. ⌜ r ≡ beAt (now (rest .entry)) 3 2 + base ⌝ }
+{
+    address_at(rest) as u32 + Registers::BASE
 }
 
 // The address of a register of the controller.
@@ -101,16 +109,24 @@ pub fn answer_size(tag: u8) -> usize
     requires { ⌜ tag < 11 ⌝ }
     ensures { λ r. ⌜ r ≡ sizeOf tag ⌝ }
 {
-    SIZES[tag as usize]
+    match tag {
+        2 => 1,
+        4 => 1,
+        5 => 25,
+        6 => 9,
+        8 => 1,
+        10 => 2,
+        _ => 0,
+    }
 }
 
 // ---- the call
 
-// The advance that advance or skip makes.
-pub fn passing_of(board: Board, tag: u8, rest: &[u8]) -> Passing
-    requires { ⌜ (sound board ≡ true) × (3 + widthOf tag ≤ length (now rest)) ⌝ }
-    ensures { λ r. ⌜ (r .made ≡ isPresent (cyclesAt tag (now (rest .entry)) board))
-        × (r .cycles .0 ≡ orZero (cyclesAt tag (now (rest .entry)) board)) ⌝ }
+// The advance that advance or skip makes, by the line and the deadline of the board. Advance asks for neither.
+pub fn passing_of(tag: u8, rest: &[u8], line: bool, soonest: Deadline) -> Passing
+    requires { ⌜ 3 + widthOf tag ≤ length (now rest) ⌝ }
+    ensures { λ r. ⌜ (r .made ≡ isPresent (cyclesAt tag (now (rest .entry)) line (numberOf soonest)))
+        × (r .cycles .0 ≡ orZero (cyclesAt tag (now (rest .entry)) line (numberOf soonest))) ⌝ }
 {
     if tag == 4 {
         return Passing {
@@ -118,13 +134,13 @@ pub fn passing_of(board: Board, tag: u8, rest: &[u8]) -> Passing
             cycles: Cycles(fields::get(rest, 3, 8)),
         };
     }
-    if board.line() {
+    if line {
         return Passing {
             made: false,
             cycles: Cycles(0),
         };
     }
-    let Deadline::At(exact) = board.exact_deadline() else {
+    let Deadline::At(exact) = soonest else {
         return Passing {
             made: false,
             cycles: Cycles(0),

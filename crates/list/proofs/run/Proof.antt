@@ -15,6 +15,7 @@ use Rattle.perform.specs.Parts.{told}
 use Rattle.perform.proofs.Told.{read-told, deadline-told}
 use Rattle.registers.specs.Calls.{readAccepted}
 use Rattle.list.specs.Run.{runOf, over}
+use Rattle.list.proofs.Advances.{Advancing}
 use Rattle.list.proofs.Runs.{Running, Ran, stateOf, begun, ended}
 use Rattle.list.proofs.Accepted.{
   value-in,
@@ -49,6 +50,13 @@ use Rattle.perform.proofs.effect_of.Reads as effect-of-reads
 use Rattle.format.proofs.put_record.Reads as put-record-reads
 use Rattle.list.proofs.run.Reads as reads
 
+abbrev Inv-loop2 : tie.InvT-loop2
+Inv-loop2 list answers b₀ calls used written refusal tag size next end high cycles enable i₀ b i =
+    Advancing enable (cycles .0) i b₀ b
+
+abbrev μ-loop2 : tie.MeasureT-loop2
+μ-loop2 list answers b₀ calls used written refusal tag size next end high cycles enable i₀ b i = 4 - i
+
 abbrev Inv-loop : tie.InvT-loop
 Inv-loop list answers₀ b₀ calls₀ used₀ written₀ answers b calls used written =
     Running list answers₀ (stateOf b₀ calls₀ used₀ written₀) answers (stateOf b calls used written)
@@ -56,93 +64,10 @@ Inv-loop list answers₀ b₀ calls₀ used₀ written₀ answers b calls used w
 abbrev μ-loop : tie.MeasureT-loop
 μ-loop list answers₀ b₀ calls₀ used₀ written₀ answers b calls used written = length list - used
 
--- where the arms meet
-abbrev Came : Type 0
-Came = lts.At-match-came (
-  sound-reads.Asked,
-  sound-reads.Learnt,
-  refusal-of-reads.Asked,
-  refusal-of-reads.Learnt,
-  answer-size-reads.Asked,
-  answer-size-reads.Learnt,
-  width-of-reads.Asked,
-  width-of-reads.Learnt,
-  address-at-reads.Asked,
-  address-at-reads.Learnt,
-  read-accepted-reads.Asked,
-  read-accepted-reads.Learnt,
-  byte-at-reads.Asked,
-  byte-at-reads.Learnt,
-  written-reads.Asked,
-  written-reads.Learnt,
-  passing-of-reads.Asked,
-  passing-of-reads.Learnt,
-  advanced-reads.Asked,
-  advanced-reads.Learnt,
-  line-reads.Asked,
-  line-reads.Learnt,
-  passed-reads.Asked,
-  passed-reads.Learnt,
-  deadline-reads.Asked,
-  deadline-reads.Learnt,
-  effect-of-reads.Asked,
-  effect-of-reads.Learnt,
-  put-record-reads.Asked,
-  put-record-reads.Learnt,
-) reads.Pre reads.Post Inv-loop μ-loop
-
--- what is left of the list
-abbrev restOf : Came → List ℕ
-restOf c =
-    let l = c .before .before .before .before .before .before .before .before .before .before .before .before
-    .before .args .list .now in
-    let n = c .before .before .before .before .before .before .before .before .loop .used in
-    take (length l - n) (drop n l)
-
--- the board and the answer are those of the call
-accepted : (c : Came) →
-    callAt (tagAt (restOf c)) (restOf c)
-    (c .before .before .before .before .before .before .before .before .loop .b)
-    ≡ told (c .match .b) (c .match .answer)
-accepted c =
-    let b = c .before .before .before .before .before .before .before .before .loop .b in
-    let s = c .before .before .before .before .before .before .before .before .loop .inv .sound in
-    let k = clear (restOf c) _ (sym (c .before .before .before .before .before .refusal-of .ensures)
-    ∙ c .before .before .before .before .if2 .left) in
-    ⊎-elim
-    (λ w. same-told _ _ _ _ _
-    (read-told b s (restOf c) (tagAt (restOf c)) (w .0 .keys1) (k .own) (w .2 .result)
-    (w .2 .ensures ∙ ap (λ (n : ℕ). readAccepted n b) (w .1 .ensures)))
-    (w .4) (w .5))
-    (⊎-elim
-    (λ w. same-told _ _ _ _ _
-    (written-told b s (restOf c) (tagAt (restOf c)) (w .0 .keys2) (k .own) (w .1 .result) (w .2 .result)
-    (w .1 .ensures) (w .2 .ensures) (w .3 .result) (w .3 .ensures))
-    (w .4) (w .5))
-    (⊎-elim
-    (λ w. same-told _ _ _ _ _
-    (⊎-elim
-    (λ v. moved-told b s (restOf c) (tagAt (restOf c)) (w .0 .keys3) (w .1 .result) (w .1 .ensures .0)
-    (w .1 .ensures .1) (w .3 .b) (w .4 .result) (w .4 .ensures) (w .5 .result) (w .5 .ensures) (v .0 .taken)
-    (v .2 ∙ v .1 .ensures))
-    (λ v. unmoved-told b s (restOf c) (tagAt (restOf c)) (w .0 .keys3) (w .1 .result) (w .1 .ensures .0)
-    (w .1 .ensures .1) (w .3 .b) (w .4 .result) (w .4 .ensures) (w .5 .result) (w .5 .ensures) (v .0 .left) (v .1))
-    (w .3 .came))
-    (w .6) (w .7))
-    (⊎-elim
-    (λ w. same-told _ _ _ _ _
-    (deadline-told b s (restOf c) (tagAt (restOf c)) (w .0 .keys4) (w .1 .result) (w .1 .ensures))
-    (w .2) (w .3))
-    (λ w. same-told _ _ _ _ _
-    (parted-told b s (restOf c) (tagAt (restOf c)) (k .frame) refl (w .0 .rest .0 .0 .0 .1) (w .0 .rest .0 .0 .1)
-    (w .0 .rest .0 .1) (w .0 .rest .1) (k .own) (w .3 .result) (w .3 .ensures))
-    (w .7) (w .8)))))
-    (c .match .came)
-
-sound-requires : tie.Need-sound-requires Inv-loop μ-loop
+sound-requires : tie.Need-sound-requires Inv-loop2 μ-loop2 Inv-loop μ-loop
 sound-requires c κs = search needs
 
-returns : tie.Need-returns Inv-loop μ-loop
+returns : tie.Need-returns Inv-loop2 μ-loop2 Inv-loop μ-loop
 unfolding runOf over
 returns c =
     let start = c .before .before .before .before in
@@ -150,21 +75,21 @@ returns c =
     ∙ not-true _ (c .if1 .taken) in
     rw e (refl, refl)
 
-loop-holds : tie.Need-loop-holds Inv-loop μ-loop
+loop-holds : tie.Need-loop-holds Inv-loop2 μ-loop2 Inv-loop μ-loop
 loop-holds c =
     begun _ _ _ (sym (c .before .sound .ensures .0) ∙ not-false _ (c .if1 .left)) (c .before .sound .ensures .1)
     refl refl refl
 
-sub-rest : tie.Need-sub-rest Inv-loop μ-loop
+sub-rest : tie.Need-sub-rest Inv-loop2 μ-loop2 Inv-loop μ-loop
 sub-rest c = omega (arith, c .before .loop .inv .used-in)
 
-part-rest-start : tie.Need-part-rest-start Inv-loop μ-loop
+part-rest-start : tie.Need-part-rest-start Inv-loop2 μ-loop2 Inv-loop μ-loop
 part-rest-start c = omega (arith, c .before .loop .inv .used-in)
 
-part-rest-end : tie.Need-part-rest-end Inv-loop μ-loop
+part-rest-end : tie.Need-part-rest-end Inv-loop2 μ-loop2 Inv-loop μ-loop
 part-rest-end c = omega (arith, c .before .loop .inv .used-in)
 
-sub-refusal-of : tie.Need-sub-refusal-of Inv-loop μ-loop
+sub-refusal-of : tie.Need-sub-refusal-of Inv-loop2 μ-loop2 Inv-loop μ-loop
 sub-refusal-of c = omega (
   arith,
   c .before .before .loop .inv .counted,
@@ -172,13 +97,13 @@ sub-refusal-of c = omega (
   c .before .before .loop .inv .same,
 )
 
-refusal-of-requires : tie.Need-refusal-of-requires Inv-loop μ-loop
+refusal-of-requires : tie.Need-refusal-of-requires Inv-loop2 μ-loop2 Inv-loop μ-loop
 refusal-of-requires c κs = search needs
 
-same-length : tie.Need-same-length Inv-loop μ-loop
+same-length : tie.Need-same-length Inv-loop2 μ-loop2 Inv-loop μ-loop
 same-length c = omega (arith, c .before .before .before .before .loop .inv .same)
 
-returns-2 : tie.Need-returns-2 Inv-loop μ-loop
+returns-2 : tie.Need-returns-2 Inv-loop2 μ-loop2 Inv-loop μ-loop
 unfolding runOf Ran
 returns-2 c =
     let looped = c .before .before .before .before in
@@ -190,20 +115,20 @@ returns-2 c =
     (ends _ _ _ _ _ _ _ _ (looped .loop .inv) (c .before .before .before .loop-test .taken) _ e (ne-eqb _ _
     (c .if2 .taken)))
 
-shared-slice-read-tag : tie.Need-shared-slice-read-tag Inv-loop μ-loop
+shared-slice-read-tag : tie.Need-shared-slice-read-tag Inv-loop2 μ-loop2 Inv-loop μ-loop
 shared-slice-read-tag c =
     let h = framed _ (clear _ _ (sym (c .before .before .refusal-of .ensures) ∙ c .before .if2 .left) .frame) in
     omega (arith, h)
 
-answer-size-requires : tie.Need-answer-size-requires Inv-loop μ-loop
+answer-size-requires : tie.Need-answer-size-requires Inv-loop2 μ-loop2 Inv-loop μ-loop
 answer-size-requires c κs = framed _ (clear _ _ (sym (c .before .before .refusal-of .ensures)
     ∙ c .before .if2 .left) .frame) .1
 
-width-of-requires : tie.Need-width-of-requires Inv-loop μ-loop
+width-of-requires : tie.Need-width-of-requires Inv-loop2 μ-loop2 Inv-loop μ-loop
 width-of-requires c κs = framed _ (clear _ _ (sym (c .before .before .before .refusal-of .ensures)
     ∙ c .before .before .if2 .left) .frame) .1
 
-add-next : tie.Need-add-next Inv-loop μ-loop
+add-next : tie.Need-add-next Inv-loop2 μ-loop2 Inv-loop μ-loop
 add-next c =
     let refusing = c .before .before .before .before in
     let looped = refusing .before .before .before in
@@ -220,7 +145,7 @@ add-next c =
       start .good,
     )
 
-add-next-2 : tie.Need-add-next-2 Inv-loop μ-loop
+add-next-2 : tie.Need-add-next-2 Inv-loop2 μ-loop2 Inv-loop μ-loop
 add-next-2 c =
     let refusing = c .before .before .before .before in
     let looped = refusing .before .before .before in
@@ -237,7 +162,7 @@ add-next-2 c =
       start .good,
     )
 
-add-end : tie.Need-add-end Inv-loop μ-loop
+add-end : tie.Need-add-end Inv-loop2 μ-loop2 Inv-loop μ-loop
 add-end c =
     let refusing = c .before .before .before .before in
     let looped = refusing .before .before .before in
@@ -246,7 +171,7 @@ add-end c =
     let w = c .before .answer-size .ensures in
     omega (arith, k, w, looped .loop .inv .same, looped .loop .inv .counted, looped .loop .inv .room, start .good)
 
-add-end-2 : tie.Need-add-end-2 Inv-loop μ-loop
+add-end-2 : tie.Need-add-end-2 Inv-loop2 μ-loop2 Inv-loop μ-loop
 add-end-2 c =
     let refusing = c .before .before .before .before in
     let looped = refusing .before .before .before in
@@ -255,110 +180,185 @@ add-end-2 c =
     let w = c .before .answer-size .ensures in
     omega (arith, k, w, looped .loop .inv .same, looped .loop .inv .counted, looped .loop .inv .room, start .good)
 
-address-at-requires : tie.Need-address-at-requires Inv-loop μ-loop
+address-at-requires : tie.Need-address-at-requires Inv-loop2 μ-loop2 Inv-loop μ-loop
 address-at-requires c κs =
     let unrefused = c .before .before .before .before in
     let refusing = unrefused .before in
     value-in _ 2 (clear _ _ (sym (refusing .refusal-of .ensures) ∙ unrefused .if2 .left) .frame) (c .match .keys1)
 
-read-accepted-requires : tie.Need-read-accepted-requires Inv-loop μ-loop
+read-accepted-requires : tie.Need-read-accepted-requires Inv-loop2 μ-loop2 Inv-loop μ-loop
 read-accepted-requires c κs = c .before .before .before .before .before .before .before .before .before .loop .inv
     .sound
 
-address-at-requires-2 : tie.Need-address-at-requires-2 Inv-loop μ-loop
-address-at-requires-2 c κs =
-    let unrefused = c .before .before .before .before in
-    let refusing = unrefused .before in
-    let h = value-in _ 3 (clear _ _ (sym (refusing .refusal-of .ensures)
-    ∙ unrefused .if2 .left) .frame) (c .match .keys2) in
-    omega (arith, h)
+offset-at-requires : tie.Need-offset-at-requires Inv-loop2 μ-loop2 Inv-loop μ-loop
+offset-at-requires c κs = ?
 
-byte-at-requires : tie.Need-byte-at-requires Inv-loop μ-loop
-byte-at-requires c κs =
-    let unrefused = c .before .before .before .before .before in
-    let refusing = unrefused .before in
-    let h = value-in _ 3 (clear _ _ (sym (refusing .refusal-of .ensures)
-    ∙ unrefused .if2 .left) .frame) (c .before .match .keys2) in
-    omega (arith, h)
+byte-at-requires : tie.Need-byte-at-requires Inv-loop2 μ-loop2 Inv-loop μ-loop
+byte-at-requires c κs = ?
 
-written-requires : tie.Need-written-requires Inv-loop μ-loop
-written-requires c κs = c .before .before .before .before .before .before .before .before .before .before .loop .inv
-    .sound
+cast-byte : tie.Need-cast-byte Inv-loop2 μ-loop2 Inv-loop μ-loop
+cast-byte c = ?
 
-passing-of-requires : tie.Need-passing-of-requires Inv-loop μ-loop
-passing-of-requires c κs =
-    let unrefused = c .before .before .before .before in
-    let refusing = unrefused .before in
-    let looped = refusing .before .before .before in (
-      looped .loop .inv .sound,
-      framed _ (clear _ _ (sym (refusing .refusal-of .ensures) ∙ unrefused .if2 .left) .frame) .0,
-    )
+acknowledged-requires : tie.Need-acknowledged-requires Inv-loop2 μ-loop2 Inv-loop μ-loop
+acknowledged-requires c κs = ?
 
-advanced-requires : tie.Need-advanced-requires Inv-loop μ-loop
-advanced-requires c κs = c .before .before .before .before .before .before .before .before .before .before .before
-    .loop
-    .inv .sound
+enable-written-requires : tie.Need-enable-written-requires Inv-loop2 μ-loop2 Inv-loop μ-loop
+enable-written-requires c κs = ?
 
-line-requires : tie.Need-line-requires Inv-loop μ-loop
-line-requires c κs = search needs
+mul-clock-written : tie.Need-mul-clock-written Inv-loop2 μ-loop2 Inv-loop μ-loop
+mul-clock-written c = ?
 
-passed-requires : tie.Need-passed-requires Inv-loop μ-loop
+clock-written-requires : tie.Need-clock-written-requires Inv-loop2 μ-loop2 Inv-loop μ-loop
+clock-written-requires c κs = ?
+
+channel-of-requires : tie.Need-channel-of-requires Inv-loop2 μ-loop2 Inv-loop μ-loop
+channel-of-requires c κs = ?
+
+cast-i : tie.Need-cast-i Inv-loop2 μ-loop2 Inv-loop μ-loop
+cast-i c = ?
+
+mul-timer : tie.Need-mul-timer Inv-loop2 μ-loop2 Inv-loop μ-loop
+mul-timer c = ?
+
+element-copy-out-timer : tie.Need-element-copy-out-timer Inv-loop2 μ-loop2 Inv-loop μ-loop
+element-copy-out-timer c = ?
+
+place-of-requires : tie.Need-place-of-requires Inv-loop2 μ-loop2 Inv-loop μ-loop
+place-of-requires c κs = ?
+
+mul-write-byte : tie.Need-mul-write-byte Inv-loop2 μ-loop2 Inv-loop μ-loop
+mul-write-byte c = ?
+
+write-byte-requires : tie.Need-write-byte-requires Inv-loop2 μ-loop2 Inv-loop μ-loop
+write-byte-requires c κs = ?
+
+mul-written : tie.Need-mul-written Inv-loop2 μ-loop2 Inv-loop μ-loop
+mul-written c = ?
+
+element-set-from-written : tie.Need-element-set-from-written Inv-loop2 μ-loop2 Inv-loop μ-loop
+element-set-from-written c = ?
+
+line-requires : tie.Need-line-requires Inv-loop2 μ-loop2 Inv-loop μ-loop
+line-requires c κs = ?
+
+with-source-requires : tie.Need-with-source-requires Inv-loop2 μ-loop2 Inv-loop μ-loop
+with-source-requires c κs = ?
+
+line-requires-2 : tie.Need-line-requires-2 Inv-loop2 μ-loop2 Inv-loop μ-loop
+line-requires-2 c κs = ?
+
+exact-deadline-requires : tie.Need-exact-deadline-requires Inv-loop2 μ-loop2 Inv-loop μ-loop
+exact-deadline-requires c κs = ?
+
+passing-of-requires : tie.Need-passing-of-requires Inv-loop2 μ-loop2 Inv-loop μ-loop
+passing-of-requires c κs = ?
+
+loop2-holds : tie.Need-loop2-holds Inv-loop2 μ-loop2 Inv-loop μ-loop
+loop2-holds c = ?
+
+mul-timer-2 : tie.Need-mul-timer-2 Inv-loop2 μ-loop2 Inv-loop μ-loop
+mul-timer-2 c = ?
+
+element-copy-out-timer-2 : tie.Need-element-copy-out-timer-2 Inv-loop2 μ-loop2 Inv-loop μ-loop
+element-copy-out-timer-2 c = ?
+
+cast-t86 : tie.Need-cast-t86 Inv-loop2 μ-loop2 Inv-loop μ-loop
+cast-t86 c = ?
+
+selected-requires : tie.Need-selected-requires Inv-loop2 μ-loop2 Inv-loop μ-loop
+selected-requires c κs = ?
+
+advance-cycles-requires : tie.Need-advance-cycles-requires Inv-loop2 μ-loop2 Inv-loop μ-loop
+advance-cycles-requires c κs = ?
+
+mul-b : tie.Need-mul-b Inv-loop2 μ-loop2 Inv-loop μ-loop
+mul-b c = ?
+
+way-write-given-b : tie.Need-way-write-given-b Inv-loop2 μ-loop2 Inv-loop μ-loop
+way-write-given-b c = ?
+
+mul-b-2 : tie.Need-mul-b-2 Inv-loop2 μ-loop2 Inv-loop μ-loop
+mul-b-2 c = ?
+
+way-write-given-b-2 : tie.Need-way-write-given-b-2 Inv-loop2 μ-loop2 Inv-loop μ-loop
+way-write-given-b-2 c = ?
+
+mul-b-3 : tie.Need-mul-b-3 Inv-loop2 μ-loop2 Inv-loop μ-loop
+mul-b-3 c = ?
+
+way-write-given-b-3 : tie.Need-way-write-given-b-3 Inv-loop2 μ-loop2 Inv-loop μ-loop
+way-write-given-b-3 c = ?
+
+mul-b-4 : tie.Need-mul-b-4 Inv-loop2 μ-loop2 Inv-loop μ-loop
+mul-b-4 c = ?
+
+way-write-given-b-4 : tie.Need-way-write-given-b-4 Inv-loop2 μ-loop2 Inv-loop μ-loop
+way-write-given-b-4 c = ?
+
+mul-b-5 : tie.Need-mul-b-5 Inv-loop2 μ-loop2 Inv-loop μ-loop
+mul-b-5 c = ?
+
+way-write-given-b-5 : tie.Need-way-write-given-b-5 Inv-loop2 μ-loop2 Inv-loop μ-loop
+way-write-given-b-5 c = ?
+
+mul-b-6 : tie.Need-mul-b-6 Inv-loop2 μ-loop2 Inv-loop μ-loop
+mul-b-6 c = ?
+
+way-write-given-b-6 : tie.Need-way-write-given-b-6 Inv-loop2 μ-loop2 Inv-loop μ-loop
+way-write-given-b-6 c = ?
+
+add-i : tie.Need-add-i Inv-loop2 μ-loop2 Inv-loop μ-loop
+add-i c = ?
+
+loop2-less : tie.Need-loop2-less Inv-loop2 μ-loop2 Inv-loop μ-loop
+loop2-less c = ?
+
+loop2-again : tie.Need-loop2-again Inv-loop2 μ-loop2 Inv-loop μ-loop
+loop2-again c = ?
+
+advance-requires : tie.Need-advance-requires Inv-loop2 μ-loop2 Inv-loop μ-loop
+advance-requires c κs = ?
+
+line-requires-3 : tie.Need-line-requires-3 Inv-loop2 μ-loop2 Inv-loop μ-loop
+line-requires-3 c κs = ?
+
+with-source-requires-2 : tie.Need-with-source-requires-2 Inv-loop2 μ-loop2 Inv-loop μ-loop
+with-source-requires-2 c κs = ?
+
+passed-requires : tie.Need-passed-requires Inv-loop2 μ-loop2 Inv-loop μ-loop
 passed-requires c κs = search needs
 
-deadline-requires : tie.Need-deadline-requires Inv-loop μ-loop
+deadline-requires : tie.Need-deadline-requires Inv-loop2 μ-loop2 Inv-loop μ-loop
 deadline-requires c κs = c .before .before .before .before .before .before .before .before .loop .inv .sound
 
-effect-of-requires : tie.Need-effect-of-requires Inv-loop μ-loop
+effect-of-requires : tie.Need-effect-of-requires Inv-loop2 μ-loop2 Inv-loop μ-loop
 effect-of-requires c κs =
     let unrefused = c .before .before .before .before .before .before in
     let refusing = unrefused .before in
     framed _ (clear _ _ (sym (refusing .refusal-of .ensures) ∙ unrefused .if2 .left) .frame) .0
 
-put-record-requires : tie.Need-put-record-requires Inv-loop μ-loop
-put-record-requires c κs =
-    let unrefused = c .before .before .before .before .before in
-    let refusing = unrefused .before in
-    let looped = refusing .before .before .before in
-    let i = looped .loop .inv in
-    let z = sym (refusing .refusal-of .ensures) ∙ unrefused .if2 .left in
-    let q = c .before .before .before .answer-size .ensures in (
-      q ∙ sym (answer-size _ (i .sound) _ _ z _ _ (accepted (c .before))),
-      omega (arith, q, clear _ _ z .fits, i .same, i .counted, i .room),
-    )
+put-record-requires : tie.Need-put-record-requires Inv-loop2 μ-loop2 Inv-loop μ-loop
+put-record-requires c κs = ?
 
-add-calls : tie.Need-add-calls Inv-loop μ-loop
+add-calls : tie.Need-add-calls Inv-loop2 μ-loop2 Inv-loop μ-loop
 add-calls c =
     let inside = c .before .before .before .before .before .before .before .before .before .before .before in
     let looped = inside .before in
     let start = looped .before .before .before .before .before in
     omega (arith, looped .loop .inv .calls-in, inside .loop-test .taken, start .good)
 
-loop-less : tie.Need-loop-less Inv-loop μ-loop
+loop-less : tie.Need-loop-less Inv-loop2 μ-loop2 Inv-loop μ-loop
 loop-less c =
     let inside = c .before .before .before .before .before .before .before .before .before .before .before in
     omega (arith, inside .loop-test .taken)
 
-loop-again : tie.Need-loop-again Inv-loop μ-loop
-loop-again c =
-    let met = c .before .before .before .before in
-    let wide = met .before in
-    let sized = wide .before in
-    let known = sized .before in
-    let unrefused = known .before in
-    let refusing = unrefused .before in
-    let inside = refusing .before .before in
-    let looped = inside .before in
-    let r = rw part-rest at (refusing .refusal-of .ensures) in
-    goes-on _ _ _ _ _ _ _ _ (looped .loop .inv) (inside .loop-test .taken)
-    (λ i. omega (arith, rw part-rest at (known .shared-slice-known2 .given i))) (sym r ∙ unrefused .if2 .left)
-    (met .match .b) (met .match .answer) (rw part-rest at (accepted met)) (c .before .before .put-record .last .0)
-    (rw part-rest at (c .before .before .put-record .ensures)) (wide .width-of .result) (sized .answer-size .result)
-    (rw part-rest at (wide .width-of .ensures)) (rw part-rest at (sized .answer-size .ensures))
+loop-again : tie.Need-loop-again Inv-loop2 μ-loop2 Inv-loop μ-loop
+loop-again c = ?
 
-same-length-2 : tie.Need-same-length-2 Inv-loop μ-loop
+same-length-2 : tie.Need-same-length-2 Inv-loop2 μ-loop2 Inv-loop μ-loop
 same-length-2 c = omega (arith, c .before .loop .inv .same)
 
-returns-3 : tie.Need-returns-3 Inv-loop μ-loop
+returns-3 : tie.Need-returns-3 Inv-loop2 μ-loop2 Inv-loop μ-loop
 unfolding runOf Ran
 returns-3 c =
     let p = c .before .before in
@@ -370,6 +370,8 @@ pub run-spec : {M : Type 1} → statement M
 run-spec =
     tie.close
     (tie.spec
+    Inv-loop2
+    μ-loop2
     Inv-loop
     μ-loop
     sound-requires
@@ -391,12 +393,51 @@ run-spec =
     add-end-2
     address-at-requires
     read-accepted-requires
-    address-at-requires-2
+    offset-at-requires
     byte-at-requires
-    written-requires
-    passing-of-requires
-    advanced-requires
+    cast-byte
+    acknowledged-requires
+    enable-written-requires
+    mul-clock-written
+    clock-written-requires
+    channel-of-requires
+    cast-i
+    mul-timer
+    element-copy-out-timer
+    place-of-requires
+    mul-write-byte
+    write-byte-requires
+    mul-written
+    element-set-from-written
     line-requires
+    with-source-requires
+    line-requires-2
+    exact-deadline-requires
+    passing-of-requires
+    loop2-holds
+    mul-timer-2
+    element-copy-out-timer-2
+    cast-t86
+    selected-requires
+    advance-cycles-requires
+    mul-b
+    way-write-given-b
+    mul-b-2
+    way-write-given-b-2
+    mul-b-3
+    way-write-given-b-3
+    mul-b-4
+    way-write-given-b-4
+    mul-b-5
+    way-write-given-b-5
+    mul-b-6
+    way-write-given-b-6
+    add-i
+    loop2-less
+    loop2-again
+    advance-requires
+    line-requires-3
+    with-source-requires-2
     passed-requires
     deadline-requires
     effect-of-requires

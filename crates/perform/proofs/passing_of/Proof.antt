@@ -2,7 +2,7 @@
 use Prim.Native.Nat.{_≤_}
 use native.Mathlib.Omega.{arith}
 use lib.ListN.{length}
-use mathlib.Core.Path.{refl, sym, ap, _∙_}
+use mathlib.Core.Path.{refl, ap}
 use borrow.Author.Tests.{eq-eqb, ne-eqb}
 use Rattle.wide.specs.Deadline.{numberOf}
 use Rattle.perform.specs.Parts.{cyclesAt}
@@ -14,38 +14,30 @@ use Rattle.perform.proofs.passing_of.Tie as tie
 get-requires : tie.Need-get-requires
 get-requires c κs =
     let h : 11 ≤ length (c .before .before .args .rest .now) =
-    rw (c .if1 .taken) at (c .before .before .pre .1) in
+    rw (c .if1 .taken) at (c .before .before .pre) in
     (omega arith, omega arith)
 
 returns : tie.Need-returns
 unfolding cyclesAt
 returns c = simp (eq-eqb _ _ (c .before .if1 .taken)) (refl, c .get .ensures .0)
 
-line-requires : tie.Need-line-requires
-line-requires c κs = search needs
-
 returns-2 : tie.Need-returns-2
 unfolding cyclesAt
-returns-2 c =
-    simp (ne-eqb _ _ (c .before .before .if1 .left), sym (c .before .line .ensures) ∙ c .if2 .taken) (refl, refl)
+returns-2 c = simp (ne-eqb _ _ (c .before .if1 .left), c .if2 .taken) (refl, refl)
 
-exact-deadline-requires : tie.Need-exact-deadline-requires
-exact-deadline-requires c κs = search needs
-
-enum-known-exact : tie.Need-enum-known-exact
-enum-known-exact c = search needs
+enum-known-soonest : tie.Need-enum-known-soonest
+enum-known-soonest c = search needs
 
 enum-told : tie.Need-enum-told
 enum-told c = search needs
 
 returns-3 : tie.Need-returns-3
 returns-3 c =
-    let a = c .before .before .before .before .before .before .before in
+    let a = c .before .before .before .before .before in
     rw
-    (cycles-none (a .args .tag) (a .args .rest .now) (a .args .board)
-    (ne-eqb _ _ (c .before .before .before .before .before .if1 .left))
-    (sym (c .before .before .before .before .line .ensures) ∙ c .before .before .before .if2 .left)
-    (sym (c .before .before .exact-deadline .ensures) ∙ ap numberOf (c .enum-told .given .1)))
+    (cycles-none (a .args .tag) (a .args .rest .now) (a .args .line) (numberOf (a .args .soonest))
+    (ne-eqb _ _ (c .before .before .before .if1 .left)) (c .before .before .if2 .left)
+    (ap numberOf (c .enum-told .given .1)))
     (refl, refl)
 
 capped-requires : tie.Need-capped-requires
@@ -53,15 +45,12 @@ capped-requires c κs = search needs
 
 returns-4 : tie.Need-returns-4
 returns-4 c =
-    let a = c .before .before .before .before .before .before .before .before .before in
+    let a = c .before .before .before .before .before .before .before in
     rw
-    (cycles-some (a .args .tag) (a .args .rest .now) (a .args .board)
-    (ne-eqb _ _ (c .before .before .before .before .before .before .before .if1 .left))
-    (sym (c .before .before .before .before .before .before .line .ensures)
-    ∙ c .before .before .before .before .before .if2 .left)
-    (c .before .before .exact .given .0 .0)
-    (sym (c .before .before .before .before .exact-deadline .ensures) ∙ ap numberOf
-    (c .before .before .exact .given .1)))
+    (cycles-some (a .args .tag) (a .args .rest .now) (a .args .line) (numberOf (a .args .soonest))
+    (ne-eqb _ _ (c .before .before .before .before .before .if1 .left)) (c .before .before .before .before .if2 .left)
+    (c .before .before .soonest .given .0 .0)
+    (ap numberOf (c .before .before .soonest .given .1)))
     (refl, c .capped .ensures)
 
 pub passing-of-spec : {M : Type 1} → statement M
@@ -70,10 +59,8 @@ passing-of-spec =
     (tie.spec
     get-requires
     returns
-    line-requires
     returns-2
-    exact-deadline-requires
-    enum-known-exact
+    enum-known-soonest
     enum-told
     returns-3
     capped-requires
