@@ -1,5 +1,6 @@
 pub mod Soundness
 pub mod Law
+pub mod Stores
 mod Settings
 mod Tests
 mod Durations

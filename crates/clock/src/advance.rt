@@ -24,6 +24,16 @@ fn elapsed(part: u32, cycles: Cycles, period: u64) -> Periods
     ensures { λ r. ⌜ (r .whole ≡ (part + cycles .0) / period) × (r .rest ≡ (part + cycles .0) % period) ⌝ }
 {
     let c = cycles.0;
+    // Cycles that stay within the period need no division.
+    if c < period {
+        let sum = part as u64 + c;
+        if sum < period {
+            return Periods {
+                whole: 0,
+                rest: sum,
+            };
+        }
+    }
     let sum = part as u64 + c % period;
     Periods {
         whole: c / period + sum / period,

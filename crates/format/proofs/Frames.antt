@@ -21,6 +21,24 @@ field-before l m at zero h = refl
 field-before l m at (suc n) h =
     rw (field-before l m at n (omega arith), List·getD-append l m 0 (at + n) (omega arith))
 
+-- ---- the length of a value
+
+-- a tag other than these has an empty value
+pub empty-is : (tag : ℕ) → (tag ≡ 1 → ⊥) → (tag ≡ 2 → ⊥) → (tag ≡ 3 → ⊥) → (tag ≡ 4 → ⊥) → (tag ≡ 7 → ⊥) →
+    (tag ≡ 8 → ⊥) → (tag ≡ 9 → ⊥) → 0 ≡ widthOf tag
+empty-is zero a b c d e f g = refl
+empty-is (suc zero) a b c d e f g = absurd (a refl)
+empty-is (suc (suc zero)) a b c d e f g = absurd (b refl)
+empty-is (suc (suc (suc zero))) a b c d e f g = absurd (c refl)
+empty-is (suc (suc (suc (suc zero)))) a b c d e f g = absurd (d refl)
+empty-is (suc (suc (suc (suc (suc zero))))) a b c d e f g = refl
+empty-is (suc (suc (suc (suc (suc (suc zero)))))) a b c d e f g = refl
+empty-is (suc (suc (suc (suc (suc (suc (suc zero))))))) a b c d e f g = absurd (e refl)
+empty-is (suc (suc (suc (suc (suc (suc (suc (suc zero)))))))) a b c d e f g = absurd (f refl)
+empty-is (suc (suc (suc (suc (suc (suc (suc (suc (suc zero))))))))) a b c d e f g = absurd (g refl)
+empty-is (suc (suc (suc (suc (suc (suc (suc (suc (suc (suc zero)))))))))) a b c d e f g = refl
+empty-is (suc (suc (suc (suc (suc (suc (suc (suc (suc (suc (suc n))))))))))) a b c d e f g = refl
+
 -- ---- a call at the front
 
 -- no refusal, no test met

@@ -24,9 +24,6 @@ pub const HEADER: usize = 3;
 
 const LAST_TAG: u8 = 10;
 
-// The lengths of the values of the tags 1 to 10, with 0 ahead of them.
-const WIDTHS: [usize; 11] = [0, 12, 2, 3, 8, 0, 0, 2, 4, 5, 0];
-
 // The members of an answer.
 pub enum Answer {
     Empty,
@@ -36,11 +33,21 @@ pub enum Answer {
     Pair(u8, u8),
 }
 
+// The length of a tag's value. The values of 5, 6 and 10 are empty.
 pub fn width_of(tag: u8) -> usize
     requires { ⌜ tag < 11 ⌝ }
     ensures { λ r. ⌜ r ≡ widthOf tag ⌝ }
 {
-    WIDTHS[tag as usize]
+    match tag {
+        1 => 12,
+        2 => 2,
+        3 => 3,
+        4 => 8,
+        7 => 2,
+        8 => 4,
+        9 => 5,
+        _ => 0,
+    }
 }
 
 // The refusal of the bytes at the front of a list, 0 where they are a call.

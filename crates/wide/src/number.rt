@@ -24,6 +24,15 @@ impl Wide {
     pub fn product(a: u64, b: u64) -> Self
         ensures { λ r. ⌜ valueOf r ≡ a * b ⌝ }
     {
+        // Two numbers of half a word have a product of one word.
+        if a < Self::HALF {
+            if b < Self::HALF {
+                return Wide {
+                    high: 0,
+                    low: a * b,
+                };
+            }
+        }
         let a1 = a / Self::HALF;
         let a0 = a % Self::HALF;
         let b1 = b / Self::HALF;
