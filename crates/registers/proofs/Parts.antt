@@ -255,9 +255,9 @@ module _ (o : ℕ) (b : Board) where
         unfolding readChannel
         channel-parts =
             choose (λ (r : ByteAnswer). r ≡ answer b (by full)) (eqb (placeOf o) countLowAt)
-            (λ p. ap (readLive o) (sym (count-filled p))
-            ∙ read-none full
-            (none-serves full (high-at ∙ below 0x0C 0x0F (placeOf o) (omega (arith, eqb-true (placeOf o) countLowAt p)))))
+            (λ p. let l = eqb-true (placeOf o) countLowAt p in
+            ap (readLive o) (sym (count-filled p))
+            ∙ read-none full (none-serves full (high-at ∙ below 0x0C 0x0F (placeOf o) (omega (arith, l)))))
             (λ p. rw (none-filled (not-count p))
             (choose (λ (r : ByteAnswer). r ≡ answer b (by (b .latches))) (within 0x0C 0x0F (placeOf o)) count-parts
             (λ q. read-none (b .latches) (none-serves (b .latches) (high-at ∙ q)))))
