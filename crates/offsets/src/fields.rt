@@ -2,12 +2,9 @@
 ghost use mathlib.Core.Path.{_≡_};
 ghost use Prim.Native.Nat.{_<_, _≤_};
 ghost use Rattle.offsets.specs.Registers.{byteOfWord, channelOf, placeOf, channelAt, withChannel};
-ghost use Rattle.offsets.specs.Registers.{withTimerEnable, withCountLatch, withClockLatches};
+ghost use Rattle.offsets.specs.Registers.{withTimerEnable};
 use crate::Registers;
 use board::Board;
-use board::CountLatch;
-use board::Latch;
-use board::Latches;
 use channel::ChannelNumber;
 use channel::HardwareTimer;
 
@@ -60,29 +57,5 @@ pub fn with_timer_enable(mut board: Board, timer_enable: u8) -> Board
     ensures { λ r. ⌜ r ≡ withTimerEnable «timer_enable» board ⌝ }
 {
     board.timer_enable = timer_enable;
-    board
-}
-
-pub fn with_count_latch(mut board: Board, number: ChannelNumber, latch: Latch) -> Board
-    requires { ⌜ number .0 < 4 ⌝ }
-    ensures { λ r. ⌜ r ≡ withCountLatch (number .0) latch board ⌝ }
-{
-    let i = number.0 as usize;
-    let mut latches = board.latches;
-    latches.counts[i] = CountLatch { high: latch };
-    board.latches = latches;
-    board
-}
-
-pub fn with_clock_latches(mut board: Board, low: Latch, high: Latch) -> Board
-    ensures { λ r. ⌜ r ≡ withClockLatches low high board ⌝ }
-{
-    let latches = board.latches;
-    let made = Latches {
-        low,
-        high,
-        ..latches
-    };
-    board.latches = made;
     board
 }

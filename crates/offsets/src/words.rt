@@ -1,14 +1,9 @@
-// The words that registers read as.
+// The words that the timers' and the clock's registers read as.
 ghost use mathlib.Core.Path.{_≡_};
-ghost use Prim.Native.Nat.{_≤_};
 ghost use Rattle.clock.specs.Clock.{clockRate};
 ghost use Rattle.clock.specs.Sound.{Timed};
-ghost use Rattle.offsets.specs.Words.{pendingWord, timerWord, clockWord, channelWord, liveWord};
+ghost use Rattle.offsets.specs.Words.{pendingWord, timerWord, clockWord};
 use crate::Registers;
-use crate::fields::channel_at;
-use crate::fields::channel_of;
-use crate::fields::place_of;
-use board::Board;
 use channel::HardwareTimer;
 use clock::Clock;
 use wide::words::high;
@@ -58,36 +53,6 @@ pub fn clock_word(clock: Clock, register: u32) -> u32
         Registers::RTC_ALARM_LO => low(alarm.seconds),
         Registers::RTC_ALARM_HI => high(alarm.seconds),
         Registers::RTC_IRQ_CTRL => alarm.enable as u32,
-        _ => 0,
-    }
-}
-
-fn channel_word(board: Board, offset: u32) -> u32
-    requires { ⌜ (0x400 ≤ offset) × (offset ≤ 0x4FF) ⌝ }
-    ensures { λ r. ⌜ r ≡ channelWord offset board ⌝ }
-{
-    let timer = channel_at(board, channel_of(offset));
-    timer.read_word(place_of(offset) / 4 * 4)
-}
-
-// The word of the register at an offset.
-pub fn live_word(board: Board, offset: u32) -> u32
-    requires { ⌜ Timed clockRate (board .clock) ⌝ }
-    ensures { λ r. ⌜ r ≡ liveWord offset board ⌝ }
-{
-    let timers = board.timers;
-    let clock = board.clock;
-    match offset {
-        Registers::TIMER_ID..=Registers::TIMER_LAST => timer_word(
-            timers,
-            board.timer_enable,
-            offset / 4 * 4,
-        ),
-        Registers::RTC_CTRL..=Registers::RTC_LAST => clock_word(clock, offset / 4 * 4),
-        Registers::TIMER_CHANNEL_BASE..=Registers::TIMER_CHANNEL_LAST => channel_word(
-            board,
-            offset,
-        ),
         _ => 0,
     }
 }

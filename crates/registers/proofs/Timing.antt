@@ -3,7 +3,6 @@ use Prim.Native.Nat.{ℕ}
 use mathlib.Core.Path.{_≡_, refl}
 use mathlib.Core.Bool.{Bool, true, false, cond}
 use native.Mathlib.Omega.{arith}
-use lib.Dec.{eqb}
 use Rattle.clock.specs.Clock.{clockRate, checkAlarm, alarmReached}
 use Rattle.clock.specs.declared.Clock.{Clock}
 use Rattle.clock.specs.Sound.{ClockFits, Timed}
@@ -13,8 +12,6 @@ use Rattle.board.specs.declared.Board.{Board}
 use Rattle.board.specs.Board.{sound}
 use Rattle.board.specs.Calls.{refusalOf}
 use Rattle.board.proofs.Soundness.{clock-facts}
-use Rattle.offsets.specs.Registers.{secondsLowAt}
-use Rattle.registers.specs.Reads.{secondsLatched}
 
 pub sound-times : (b : Board) → ClockFits (b .clock) → sound b ≡ true → Timed clockRate (b .clock)
 sound-times b f s = sound-timed clockRate (b .clock) (clock-facts b f s)
@@ -34,10 +31,3 @@ accepted-sound b own = accepted (sound b)
     accepted : (v : Bool) → cond v own 1 ≡ 0 → v ≡ true
     accepted true e = refl
     accepted false e = absurd (omega arith)
-
--- latching the seconds leaves the clock
-pub latched-timed : (offset : ℕ) (b : Board) → Timed clockRate (b .clock) →
-    Timed clockRate (secondsLatched offset b .clock)
-unfolding secondsLatched
-latched-timed offset b t =
-    choose (λ (r : Board). Timed clockRate (r .clock)) (eqb offset secondsLowAt) (λ _. t) (λ _. t)

@@ -4,14 +4,16 @@ ghost use mathlib.Core.Path.{_≡_};
 ghost use mathlib.Core.Bool.{true};
 ghost use Rattle.board.specs.Board.{sound};
 ghost use Rattle.registers.specs.Calls.{addressRefusal, readAccepted, writtenBoard, readCall, writeCall};
-use crate::reads::read_at;
+use crate::reads::channel_index;
+use crate::reads::reading_of;
 use board::Board;
 use board::calls::ByteAnswer;
 use board::calls::EmptyAnswer;
 use offsets::Registers;
+use offsets::words::timer_word;
 use offsets::writes::written_at;
 
-mod reads;
+pub mod reads;
 
 // The refusal of an address itself, 0 for none.
 pub fn address_refusal(address: u16) -> u8
@@ -28,7 +30,25 @@ pub fn read_accepted(board: Board, address: u16) -> ByteAnswer
     requires { ⌜ sound board ≡ true ⌝ }
     ensures { λ r. ⌜ r ≡ readAccepted address board ⌝ }
 {
-    read_at(board, address as u32 + Registers::BASE)
+    let offset = address as u32 + Registers::BASE;
+    let mut b = board;
+    let timers = b.timers;
+    let clock = b.clock;
+    let latches = b.latches;
+    let i = channel_index(offset);
+    let timer = timers[i];
+    let shared = timer_word(timers, b.timer_enable, offset / 4 * 4);
+    let r = reading_of(timer, shared, clock, latches, offset);
+    let after = r.latches;
+    b.latches = after;
+    b.clock.alarm.pending = r.pending;
+    b.clock.alarm.armed = r.armed;
+    let board = b.wired();
+    ByteAnswer {
+        board,
+        refusal: 0,
+        byte: r.byte,
+    }
 }
 
 // The board after an accepted write.

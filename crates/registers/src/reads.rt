@@ -1,159 +1,217 @@
-// Reads of a byte, with the latches.
+// Reads of a byte, with the latches, as functions of the parts of a board that a read takes.
 ghost use mathlib.Core.Path.{_≡_};
-ghost use Prim.Native.Nat.{_≤_};
+ghost use Prim.Native.Nat.{_<_};
 ghost use Rattle.clock.specs.Clock.{clockRate};
 ghost use Rattle.clock.specs.Sound.{Timed};
-ghost use Rattle.registers.specs.Reads.{answered, readLive, freed, readCountHigh, readChannel, secondsLatched};
-ghost use Rattle.registers.specs.Reads.{readLow, readHigh, readAt};
-use board::Board;
+ghost use Rattle.offsets.specs.Registers.{inChannels};
+ghost use Rattle.registers.specs.Parts.{channelIndex, atCountLow, atCountHigh, withCount, filled, countServing};
+ghost use Rattle.registers.specs.Parts.{serving, countEmptied, emptied, freedAt, wordAt, readingOf};
+use board::CountLatch;
 use board::Latch;
-use board::calls::ByteAnswer;
+use board::Latches;
 use channel::HardwareTimer;
+use clock::Clock;
 use offsets::Registers;
 use offsets::fields::byte_of_word;
-use offsets::fields::channel_at;
 use offsets::fields::channel_of;
 use offsets::fields::place_of;
-use offsets::fields::with_clock_latches;
-use offsets::fields::with_count_latch;
-use offsets::words::live_word;
+use offsets::words::clock_word;
+use wide::flags::both;
 use wide::words::high;
 use wide::words::low;
 
-// The byte of a word at an offset, and the board after the read.
-fn answered(board: Board, offset: u32, word: u32) -> ByteAnswer
-    ensures { λ r. ⌜ r ≡ answered offset word board ⌝ }
-{
-    let board = board.wired();
-    ByteAnswer {
-        board,
-        refusal: 0,
-        byte: byte_of_word(word, offset % 4),
-    }
+// What a read answers, and after it the latches and the alarm's two flags.
+pub struct Reading {
+    pub byte: u8,
+    pub latches: Latches,
+    pub pending: bool,
+    pub armed: bool,
 }
 
-// A read that no latch serves: the alarm check comes first.
-fn read_live(board: Board, offset: u32) -> ByteAnswer
-    requires { ⌜ Timed clockRate (board .clock) ⌝ }
-    ensures { λ r. ⌜ r ≡ readLive offset board ⌝ }
-{
-    let clock = board.clock;
-    let checked = board.with_clock(clock.check_alarm());
-    answered(checked, offset, live_word(checked, offset))
-}
+// ---- where the offset is
 
-// The latch after a read at an offset that it served: empty after byte 3.
-fn freed(latch: Latch, offset: u32) -> Latch
-    ensures { λ r. ⌜ r ≡ freed offset latch ⌝ }
+fn in_channels(offset: u32) -> bool
+    ensures { λ r. ⌜ r ≡ inChannels offset ⌝ }
 {
-    if offset % 4 == 3 {
-        return Latch::Empty;
-    }
-    latch
-}
-
-// A byte of a count's high word.
-fn read_count_high(board: Board, offset: u32) -> ByteAnswer
-    requires { ⌜ (0x400 ≤ offset) × ((offset ≤ 0x4FF) × Timed clockRate (board .clock)) ⌝ }
-    ensures { λ r. ⌜ r ≡ readCountHigh offset board ⌝ }
-{
-    let number = channel_of(offset);
-    let i = number.0 as usize;
-    let latches = board.latches;
-    let count = latches.counts[i];
-    let latch = count.high;
-    let Latch::Held(word) = latch else {
-        return read_live(board, offset);
-    };
-    answered(
-        with_count_latch(board, number, freed(latch, offset)),
-        offset,
-        word,
+    both(
+        Registers::TIMER_CHANNEL_BASE <= offset,
+        offset <= Registers::TIMER_CHANNEL_LAST,
     )
 }
 
-// A byte of a channel's register. Byte 0 of a count's low word latches its high word, and is itself read live.
-fn read_channel(board: Board, offset: u32) -> ByteAnswer
-    requires { ⌜ (0x400 ≤ offset) × ((offset ≤ 0x4FF) × Timed clockRate (board .clock)) ⌝ }
-    ensures { λ r. ⌜ r ≡ readChannel offset board ⌝ }
+// The number of the channel in whose block the offset is, 0 elsewhere.
+pub fn channel_index(offset: u32) -> usize
+    ensures { λ r. ⌜ (r ≡ channelIndex offset) × (r < 4) ⌝ }
 {
-    let number = channel_of(offset);
-    let place = place_of(offset);
-    if place == HardwareTimer::COUNT_LO {
-        let timer = channel_at(board, number);
-        let held = with_count_latch(board, number, Latch::Held(high(timer.counter)));
-        return read_live(held, offset);
+    if in_channels(offset) {
+        let number = channel_of(offset);
+        return number.0 as usize;
     }
-    if HardwareTimer::COUNT_HI <= place && place < HardwareTimer::COMPARE_LO {
-        return read_count_high(board, offset);
-    }
-    read_live(board, offset)
+    0
 }
 
-// Byte 0 of the clock's low seconds latches both words.
-fn seconds_latched(board: Board, offset: u32) -> Board
-    requires { ⌜ Timed clockRate (board .clock) ⌝ }
-    ensures { λ r. ⌜ r ≡ secondsLatched offset board ⌝ }
+// Byte 0 of a count's low word.
+fn at_count_low(offset: u32) -> bool
+    ensures { λ r. ⌜ r ≡ atCountLow offset ⌝ }
+{
+    if in_channels(offset) {
+        return place_of(offset) == HardwareTimer::COUNT_LO;
+    }
+    false
+}
+
+// A count's high word.
+fn at_count_high(offset: u32) -> bool
+    ensures { λ r. ⌜ r ≡ atCountHigh offset ⌝ }
+{
+    if in_channels(offset) {
+        return place_of(offset) / 4 * 4 == HardwareTimer::COUNT_HI;
+    }
+    false
+}
+
+// ---- the latches
+
+fn with_count(mut latches: Latches, index: usize, latch: Latch) -> Latches
+    requires { ⌜ index < 4 ⌝ }
+    ensures { λ r. ⌜ r ≡ withCount index latch latches ⌝ }
+{
+    latches.counts[index] = CountLatch { high: latch };
+    latches
+}
+
+// Byte 0 of the clock's low seconds fills both of the clock's latches; byte 0 of a count's low word fills the latch of
+// its high word.
+fn filled(latches: Latches, counter: u64, clock: Clock, offset: u32) -> Latches
+    requires { ⌜ Timed clockRate clock ⌝ }
+    ensures { λ r. ⌜ r ≡ filled offset counter clock latches ⌝ }
 {
     if offset == Registers::RTC_SECONDS_LO {
-        let clock = board.clock;
         let seconds = clock.time_seconds();
-        return with_clock_latches(board, Latch::Held(low(seconds)), Latch::Held(high(seconds)));
+        return Latches {
+            low: Latch::Held(low(seconds)),
+            high: Latch::Held(high(seconds)),
+            ..latches
+        };
     }
-    board
+    if at_count_low(offset) {
+        return with_count(latches, channel_index(offset), Latch::Held(high(counter)));
+    }
+    latches
 }
 
-// A byte of the clock's low seconds, once byte 0 has latched them.
-fn read_low(board: Board, offset: u32) -> ByteAnswer
-    requires { ⌜ Timed clockRate (board .clock) ⌝ }
-    ensures { λ r. ⌜ r ≡ readLow offset board ⌝ }
+// The latch of a count that serves an offset.
+fn count_serving(latches: Latches, offset: u32) -> Latch
+    ensures { λ r. ⌜ r ≡ countServing offset latches ⌝ }
 {
-    let latches = board.latches;
-    let latch = latches.low;
-    let other = latches.high;
-    let Latch::Held(word) = latch else {
-        return read_live(board, offset);
-    };
-    answered(
-        with_clock_latches(board, freed(latch, offset), other),
-        offset,
-        word,
-    )
+    if at_count_high(offset) {
+        let i = channel_index(offset);
+        let count = latches.counts[i];
+        let latch = count.high;
+        return latch;
+    }
+    Latch::Empty
 }
 
-// A byte of the clock's high seconds.
-fn read_high(board: Board, offset: u32) -> ByteAnswer
-    requires { ⌜ Timed clockRate (board .clock) ⌝ }
-    ensures { λ r. ⌜ r ≡ readHigh offset board ⌝ }
+// The latch that serves an offset; elsewhere an empty one.
+fn serving(latches: Latches, offset: u32) -> Latch
+    ensures { λ r. ⌜ r ≡ serving offset latches ⌝ }
 {
-    let latches = board.latches;
-    let other = latches.low;
-    let latch = latches.high;
-    let Latch::Held(word) = latch else {
-        return read_live(board, offset);
-    };
-    answered(
-        with_clock_latches(board, other, freed(latch, offset)),
-        offset,
-        word,
-    )
+    let low = latches.low;
+    let high = latches.high;
+    match offset {
+        Registers::RTC_SECONDS_LO..=Registers::RTC_SECONDS_LO_LAST => low,
+        Registers::RTC_SECONDS_HI..=Registers::RTC_SECONDS_HI_LAST => high,
+        _ => count_serving(latches, offset),
+    }
 }
 
-// The byte at an offset.
-pub fn read_at(board: Board, offset: u32) -> ByteAnswer
-    requires { ⌜ Timed clockRate (board .clock) ⌝ }
-    ensures { λ r. ⌜ r ≡ readAt offset board ⌝ }
+// The latch of a count that serves an offset is empty.
+fn count_emptied(latches: Latches, offset: u32) -> Latches
+    ensures { λ r. ⌜ r ≡ countEmptied offset latches ⌝ }
+{
+    if at_count_high(offset) {
+        return with_count(latches, channel_index(offset), Latch::Empty);
+    }
+    latches
+}
+
+// The latch that serves an offset is empty.
+fn emptied(latches: Latches, offset: u32) -> Latches
+    ensures { λ r. ⌜ r ≡ emptied offset latches ⌝ }
 {
     match offset {
-        Registers::RTC_SECONDS_LO..=Registers::RTC_SECONDS_LO_LAST => read_low(
-            seconds_latched(board, offset),
-            offset,
-        ),
-        Registers::RTC_SECONDS_HI..=Registers::RTC_SECONDS_HI_LAST => read_high(board, offset),
-        Registers::TIMER_CHANNEL_BASE..=Registers::TIMER_CHANNEL_LAST => read_channel(
-            board,
-            offset,
-        ),
-        _ => read_live(board, offset),
+        Registers::RTC_SECONDS_LO..=Registers::RTC_SECONDS_LO_LAST => Latches {
+            low: Latch::Empty,
+            ..latches
+        },
+        Registers::RTC_SECONDS_HI..=Registers::RTC_SECONDS_HI_LAST => Latches {
+            high: Latch::Empty,
+            ..latches
+        },
+        _ => count_emptied(latches, offset),
+    }
+}
+
+// The latches after a read that one of them served: it is empty after byte 3.
+fn freed_at(latches: Latches, offset: u32) -> Latches
+    ensures { λ r. ⌜ r ≡ freedAt offset latches ⌝ }
+{
+    if offset % 4 == 3 {
+        return emptied(latches, offset);
+    }
+    latches
+}
+
+// ---- the reading
+
+// The word of the register at an offset.
+fn word_of(timer: HardwareTimer, clock: Clock, shared: u32, offset: u32) -> u32
+    requires { ⌜ Timed clockRate clock ⌝ }
+    ensures { λ r. ⌜ r ≡ wordAt timer clock shared offset ⌝ }
+{
+    match offset {
+        Registers::TIMER_ID..=Registers::TIMER_LAST => shared,
+        Registers::RTC_CTRL..=Registers::RTC_LAST => clock_word(clock, offset / 4 * 4),
+        Registers::TIMER_CHANNEL_BASE..=Registers::TIMER_CHANNEL_LAST => {
+            timer.read_word(place_of(offset) / 4 * 4)
+        }
+        _ => 0,
+    }
+}
+
+// A read at an offset. `timer` is the channel of its index, `shared` the word of the register that all channels share.
+// The alarm check comes ahead of a read that no latch serves.
+pub fn reading_of(
+    timer: HardwareTimer,
+    shared: u32,
+    clock: Clock,
+    latches: Latches,
+    offset: u32,
+) -> Reading
+    requires { ⌜ Timed clockRate clock ⌝ }
+    ensures { λ r. ⌜ r ≡ readingOf timer shared clock latches offset ⌝ }
+{
+    let held = filled(latches, timer.counter, clock, offset);
+    let latch = serving(held, offset);
+    let Latch::Held(word) = latch else {
+        let checked = clock.check_alarm();
+        let word = word_of(timer, checked, shared, offset);
+        let pending = checked.alarm.pending;
+        let armed = checked.alarm.armed;
+        return Reading {
+            byte: byte_of_word(word, offset % 4),
+            latches: held,
+            pending,
+            armed,
+        };
+    };
+    let pending = clock.alarm.pending;
+    let armed = clock.alarm.armed;
+    Reading {
+        byte: byte_of_word(word, offset % 4),
+        latches: freed_at(held, offset),
+        pending,
+        armed,
     }
 }

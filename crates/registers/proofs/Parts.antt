@@ -1,0 +1,305 @@
+-- A read by its parts is the read of the rules. Assumes nothing.
+use Prim.Native.Nat.{ℕ, zero, suc, _+_, _*_, _/_, _≤_}
+use native.Mathlib.Omega.{arith}
+use mathlib.Core.Path.{_≡_, refl, sym, ap, _∙_}
+use mathlib.Core.Bool.{Bool, true, false, cond, false≢true}
+use mathlib.Core.List.{List, [], _∷_}
+use lib.Dec.{leb, eqb}
+use lib.ListN.{getD, set}
+use borrow.Author.Tests.{leb-true, eqb-true, eq-eqb, ne-eqb}
+use Rattle.wide.proofs.Choices.{choose, either, and-parts}
+use Rattle.channel.specs.declared.HardwareTimer.{HardwareTimer}
+use Rattle.channel.specs.Channel.{freshTimer}
+use Rattle.channel.specs.Registers.{countLowAt}
+use Rattle.clock.specs.declared.Clock.{Clock}
+use Rattle.clock.specs.Fields.{withAlarm}
+use Rattle.clock.specs.Clock.{clockRate, alarmReached, checkAlarm}
+use Rattle.board.specs.declared.Latch.{Latch}
+use Rattle.board.specs.declared.Latch.the-variants.{Empty}
+use Rattle.board.specs.declared.Latches.{Latches}
+use Rattle.board.specs.declared.Board.{Board}
+use Rattle.board.specs.declared.calls.ByteAnswer.{ByteAnswer}
+use Rattle.board.specs.Board.{withClock, heldOf, heldValue, wired}
+use Rattle.offsets.specs.Registers.{
+  base,
+  secondsLowAt,
+  within,
+  inChannels,
+  registerOf,
+  byteOf,
+  channelOf,
+  placeOf,
+  countLatch,
+  withLatches,
+}
+use Rattle.offsets.specs.Words.{timerWord, liveWord}
+use Rattle.offsets.proofs.Ranges.{inside, below}
+use Rattle.registers.specs.declared.reads.Reading.{Reading}
+use Rattle.registers.specs.Reads.{
+  answered,
+  checked,
+  readLive,
+  freed,
+  countHeld,
+  readCountHigh,
+  readChannel,
+  secondsLatched,
+  readLow,
+  readHigh,
+  readAt,
+}
+use Rattle.registers.specs.Calls.{readAccepted}
+use Rattle.registers.specs.Parts.{
+  channelIndex,
+  atCountLow,
+  atCountHigh,
+  withCount,
+  withSeconds,
+  filled,
+  countServing,
+  serving,
+  countEmptied,
+  emptied,
+  freedAt,
+  wordAt,
+  liveReading,
+  latchReading,
+  readingBy,
+  readingOf,
+  offsetReading,
+  readingAt,
+  afterReading,
+}
+
+-- ---- ranges
+
+pub bounds : (first last n : ℕ) → within first last n ≡ true → (first ≤ n) × (n ≤ last)
+bounds first last n e =
+    let p = and-parts (leb first n) (leb n last) e in
+    (leb-true first n (p .0), leb-true n last (p .1))
+
+-- the bytes of a count's high word
+high-place : (p : ℕ) → eqb (p / 4 * 4) 0x0C ≡ within 0x0C 0x0F p
+high-place p =
+    either (within 0x0C 0x0F p)
+    (λ e. let w = bounds 0x0C 0x0F p e in eq-eqb (p / 4 * 4) 0x0C (omega (arith, w .0, w .1)) ∙ sym e)
+    (λ e. ne-eqb (p / 4 * 4) 0x0C
+    (λ h. false≢true (sym e ∙ inside 0x0C 0x0F p (omega (arith, h)) (omega (arith, h)))) ∙ sym e)
+
+-- an element put where it is
+set-same : {A : Type 0} (d : A) (l : List A) (n : ℕ) → set l n (getD l n d) ≡ l
+set-same d [] n = refl
+set-same d (x ∷ xs) zero = refl
+set-same d (x ∷ xs) (suc n) = ap (λ t. x ∷ t) (set-same d xs n)
+
+-- the alarm check changes the alarm's two flags alone
+check-flags : (k : Clock) →
+    withAlarm
+    (record {
+      enable = k .alarm .enable;
+      seconds = k .alarm .seconds;
+      pending = checkAlarm clockRate k .alarm .pending;
+      armed = checkAlarm clockRate k .alarm .armed;
+    })
+    k
+    ≡ checkAlarm clockRate k
+unfolding checkAlarm
+check-flags k =
+    choose
+    (λ (r : Clock).
+    withAlarm
+    (record {
+      enable = k .alarm .enable;
+      seconds = k .alarm .seconds;
+      pending = r .alarm .pending;
+      armed = r .alarm .armed;
+    })
+    k
+    ≡ r)
+    (alarmReached clockRate k) (λ _. refl) (λ _. refl)
+
+-- ---- a read at an offset
+
+-- what a read answers, by its reading
+abbrev answer : Board → Reading → ByteAnswer
+answer b r = record { board = wired (afterReading r b); refusal = 0; byte = r .byte }
+
+cond-answer : (b : Board) (v : Bool) (x y : Reading) {p q : ByteAnswer} → p ≡ answer b x → q ≡ answer b y →
+    cond v p q ≡ answer b (cond v x y)
+cond-answer b true x y e f = e
+cond-answer b false x y e f = f
+
+module _ (o : ℕ) (b : Board) where
+  abbrev timer : HardwareTimer
+  timer = getD (b .timers) (channelIndex o) freshTimer
+
+  abbrev shared : ℕ
+  shared = timerWord (registerOf o) (b .«timer_enable») (b .timers)
+
+  -- the reading by latches that are filled
+  abbrev by : Latches → Reading
+  by ls = readingBy timer shared (b .clock) ls o
+
+  abbrev full : Latches
+  full = filled o (timer .counter) (b .clock) (b .latches)
+
+  word-parts : (k : Clock) (ls : Latches) → liveWord o (withClock k (withLatches ls b)) ≡ wordAt timer k shared o
+  unfolding liveWord wordAt channelIndex
+  word-parts k ls = either (inChannels o) (λ e. rw e) (λ e. rw e)
+
+  live-parts : (ls : Latches) →
+      readLive o (withLatches ls b) ≡ answer b (liveReading timer shared (checkAlarm clockRate (b .clock)) ls o)
+  unfolding readLive
+  live-parts ls =
+      let k = checkAlarm clockRate (b .clock) in
+      ap (λ (w : ℕ). answered o w (checked (withLatches ls b))) (word-parts k ls)
+      ∙ ap (λ (h : Clock). answered o (wordAt timer k shared o) (withClock h (withLatches ls b)))
+      (sym (check-flags (b .clock)))
+
+  -- no latch serves
+  read-none : (ls : Latches) → serving o ls ≡ Empty → readLive o (withLatches ls b) ≡ answer b (by ls)
+  unfolding readingBy
+  read-none ls e = rw e (live-parts ls)
+
+  -- the latch l serves; `after` are the latches after that
+  read-by : (ls after : Latches) (l : Latch) → serving o ls ≡ l → after ≡ freedAt o ls →
+      cond (heldOf l) (answered o (heldValue l) (withLatches after b)) (readLive o (withLatches ls b))
+      ≡ answer b (by ls)
+  unfolding readingBy
+  read-by ls after l e f =
+      rw (e, f)
+      (cond-answer b (heldOf l) (latchReading (heldValue l) (b .clock) ls o)
+      (liveReading timer shared (checkAlarm clockRate (b .clock)) ls o) refl (live-parts ls))
+
+  -- ---- the clock's seconds
+
+  low-freed : (ls : Latches) → within 0x208 0x20B o ≡ true →
+      withSeconds (freed o (ls .low)) (ls .high) ls ≡ freedAt o ls
+  unfolding freedAt emptied
+  low-freed ls e = either (eqb (byteOf o) 3) (λ t. rw (t, e)) (λ t. rw t)
+
+  low-parts : (ls : Latches) → within 0x208 0x20B o ≡ true → readLow o (withLatches ls b) ≡ answer b (by ls)
+  unfolding readLow serving
+  low-parts ls e =
+      read-by ls (withSeconds (freed o (ls .low)) (ls .high) ls) (ls .low) (rw e) (low-freed ls e)
+
+  -- byte 0 of the low word
+  low-filled : inChannels o ≡ false → secondsLatched o b ≡ withLatches full b
+  unfolding secondsLatched filled atCountLow
+  low-filled n = either (eqb o secondsLowAt) (λ t. rw t) (λ t. rw (t, n))
+
+  high-freed : (ls : Latches) → within 0x208 0x20B o ≡ false → within 0x20C 0x20F o ≡ true →
+      withSeconds (ls .low) (freed o (ls .high)) ls ≡ freedAt o ls
+  unfolding freedAt emptied
+  high-freed ls d e = either (eqb (byteOf o) 3) (λ t. rw (t, d, e)) (λ t. rw t)
+
+  high-parts : within 0x208 0x20B o ≡ false → within 0x20C 0x20F o ≡ true →
+      readHigh o b ≡ answer b (by (b .latches))
+  unfolding readHigh serving
+  high-parts d e =
+      let ls = b .latches in
+      read-by ls (withSeconds (ls .low) (freed o (ls .high)) ls) (ls .high) (rw (d, e)) (high-freed ls d e)
+
+  -- ---- elsewhere
+
+  module _ (d : within 0x208 0x20B o ≡ false) where
+    not-low : eqb o secondsLowAt ≡ false
+    not-low =
+        ne-eqb o secondsLowAt
+        (λ h. false≢true (sym d ∙ inside 0x208 0x20B o (omega (arith, h)) (omega (arith, h))))
+
+    -- nothing is filled
+    none-filled : atCountLow o ≡ false → full ≡ b .latches
+    unfolding filled
+    none-filled n = rw (not-low, n)
+
+    module _ (e : within 0x20C 0x20F o ≡ false) where
+      none-serves : (ls : Latches) → atCountHigh o ≡ false → serving o ls ≡ Empty
+      unfolding serving countServing
+      none-serves ls n = rw (d, e, n)
+
+      -- a channel's registers
+      module _ (c : inChannels o ≡ true) where
+        index : channelIndex o ≡ channelOf o
+        unfolding channelIndex
+        index = rw c
+
+        high-at : atCountHigh o ≡ within 0x0C 0x0F (placeOf o)
+        unfolding atCountHigh
+        high-at = rw c (high-place (placeOf o))
+
+        count-filled : eqb (placeOf o) countLowAt ≡ true → withLatches full b ≡ countHeld (channelOf o) b
+        unfolding filled atCountLow
+        count-filled p = rw (not-low, c, p, index)
+
+        count-freed : within 0x0C 0x0F (placeOf o) ≡ true →
+            withCount (channelOf o) (freed o (countLatch (channelOf o) b)) (b .latches) ≡ freedAt o (b .latches)
+        unfolding freedAt emptied countEmptied
+        count-freed q =
+            either (eqb (byteOf o) 3) (λ t. rw (t, d, e, high-at, q, index))
+            (λ t. rw t
+            (ap (λ (counts : _). record { counts = counts; low = b .latches .low; high = b .latches .high })
+            (set-same (record { high = Empty }) (b .latches .counts) (channelOf o))))
+
+        count-parts : within 0x0C 0x0F (placeOf o) ≡ true → readCountHigh o b ≡ answer b (by (b .latches))
+        unfolding readCountHigh serving countServing
+        count-parts q =
+            read-by (b .latches) (withCount (channelOf o) (freed o (countLatch (channelOf o) b)) (b .latches))
+            (countLatch (channelOf o) b) (rw (d, e, high-at, q, index)) (count-freed q)
+
+        not-count : eqb (placeOf o) countLowAt ≡ false → atCountLow o ≡ false
+        unfolding atCountLow
+        not-count p = rw (c, p)
+
+        channel-parts : readChannel o b ≡ answer b (by full)
+        unfolding readChannel
+        channel-parts =
+            choose (λ (r : ByteAnswer). r ≡ answer b (by full)) (eqb (placeOf o) countLowAt)
+            (λ p. let l = eqb-true (placeOf o) countLowAt p in
+            ap (readLive o) (sym (count-filled p))
+            ∙ read-none full (none-serves full (high-at ∙ below 0x0C 0x0F (placeOf o) (omega (arith, l)))))
+            (λ p. rw (none-filled (not-count p))
+            (choose (λ (r : ByteAnswer). r ≡ answer b (by (b .latches))) (within 0x0C 0x0F (placeOf o)) count-parts
+            (λ q. read-none (b .latches) (none-serves (b .latches) (high-at ∙ q)))))
+
+  -- ---- every offset
+
+  outside-low : inChannels o ≡ false → atCountLow o ≡ false
+  unfolding atCountLow
+  outside-low n = rw n
+
+  outside-high : inChannels o ≡ false → atCountHigh o ≡ false
+  unfolding atCountHigh
+  outside-high n = rw n
+
+  before-channels : (last : ℕ) → o ≤ last → last ≤ 0x3FF → inChannels o ≡ false
+  before-channels last p q = below 0x400 0x4FF o (omega (arith, p, q))
+
+  read-at-parts : readAt o b ≡ answer b (offsetReading o b)
+  unfolding readAt readingOf
+  read-at-parts =
+      choose P (within 0x208 0x20B o)
+      (λ d. ap (readLow o) (low-filled (before-channels 0x20B (bounds 0x208 0x20B o d .1) (omega arith)))
+      ∙ low-parts full d)
+      (λ d. choose P (within 0x20C 0x20F o)
+      (λ e. high-parts d e
+      ∙ sym (kept d (outside-low (before-channels 0x20F (bounds 0x20C 0x20F o e .1) (omega arith)))))
+      (λ e. choose P (inChannels o) (λ c. channel-parts d e c)
+      (λ n. read-none (b .latches) (none-serves d e (b .latches) (outside-high n)) ∙ sym (kept d (outside-low n)))))
+    where
+      P : ByteAnswer → Type 0
+      P r = r ≡ answer b (by full)
+
+      kept : within 0x208 0x20B o ≡ false → atCountLow o ≡ false → answer b (by full) ≡ answer b (by (b .latches))
+      kept d n = ap (λ (ls : Latches). answer b (by ls)) (none-filled d n)
+
+-- an accepted read
+pub read-parts : (address : ℕ) (b : Board) →
+    readAccepted address b
+    ≡ record {
+      board = wired (afterReading (readingAt address b) b);
+      refusal = 0;
+      byte = readingAt address b .byte;
+    }
+unfolding readAccepted
+read-parts address b = read-at-parts (address + base) b

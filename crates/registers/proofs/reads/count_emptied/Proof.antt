@@ -1,0 +1,33 @@
+-- `reads::count_emptied` meets its contract. Assumes nothing.
+use Rattle.registers.specs.Parts.{countEmptied}
+use borrow.Author.Needs.{needs}
+use Rattle.registers.proofs.reads.count_emptied.Statement.{statement}
+use Rattle.registers.proofs.reads.count_emptied.Tie as tie
+
+at-count-high-requires : tie.Need-at-count-high-requires
+at-count-high-requires c κs = search needs
+
+channel-index-requires : tie.Need-channel-index-requires
+channel-index-requires c κs = search needs
+
+with-count-requires : tie.Need-with-count-requires
+with-count-requires c κs = search needs
+
+returns : tie.Need-returns
+unfolding countEmptied
+returns c =
+    rw (
+      ← c .before .before .before .at-count-high .ensures,
+      c .before .before .if1 .taken,
+      c .with-count .ensures,
+      c .before .channel-index .ensures .0,
+    )
+
+returns-2 : tie.Need-returns-2
+unfolding countEmptied
+returns-2 c = rw (← c .before .at-count-high .ensures, c .if1 .left)
+
+pub count-emptied-spec : {M : Type 1} → statement M
+count-emptied-spec =
+    tie.close
+    (tie.spec at-count-high-requires channel-index-requires with-count-requires returns returns-2)

@@ -1,0 +1,161 @@
+-- A read in the parts that the code computes, of one channel, the clock and the latches. These are not document 01's
+-- sentences: the rules are those of Reads, and the proofs show that these parts are them.
+use Prim.Native.Nat.{ℕ, _+_}
+use mathlib.Core.Bool.{Bool, cond, _&&_}
+use lib.ListN.{getD, set}
+use lib.Dec.{eqb}
+use Rattle.wide.specs.Words.{lowWord, highWord}
+use Rattle.channel.specs.declared.HardwareTimer.{HardwareTimer}
+use Rattle.channel.specs.Channel.{freshTimer}
+use Rattle.channel.specs.Registers.{countLowAt, countHighAt, wordOf}
+use Rattle.clock.specs.declared.Clock.{Clock}
+use Rattle.clock.specs.Fields.{withAlarm}
+use Rattle.clock.specs.Clock.{clockRate, timeSeconds, checkAlarm}
+use Rattle.board.specs.declared.Latch.{Latch}
+use Rattle.board.specs.declared.Latch.the-variants.{Empty, Held}
+use Rattle.board.specs.declared.Latches.{Latches}
+use Rattle.board.specs.declared.Board.{Board}
+use Rattle.board.specs.Board.{heldOf, heldValue}
+use Rattle.offsets.specs.Registers.{
+  base,
+  secondsLowAt,
+  within,
+  inTimers,
+  inClock,
+  inChannels,
+  registerOf,
+  byteOf,
+  channelOf,
+  placeOf,
+  byteOfWord,
+}
+use Rattle.offsets.specs.Words.{timerWord, clockWord}
+use Rattle.registers.specs.declared.reads.Reading.{Reading}
+
+-- ---- where the offset is
+
+-- the channel in whose block it is, 0 elsewhere
+unfoldable pub channelIndex : ℕ → ℕ
+channelIndex offset = cond (inChannels offset) (channelOf offset) 0
+
+-- byte 0 of a count's low word
+unfoldable pub atCountLow : ℕ → Bool
+atCountLow offset = inChannels offset && eqb (placeOf offset) countLowAt
+
+-- a count's high word
+unfoldable pub atCountHigh : ℕ → Bool
+atCountHigh offset = inChannels offset && eqb (registerOf (placeOf offset)) countHighAt
+
+-- ---- the latches
+
+abbrev pub withCount : ℕ → Latch → Latches → Latches
+withCount n l ls =
+    record { counts = set (ls .counts) n (record { high = l }); low = ls .low; high = ls .high }
+
+abbrev pub withSeconds : Latch → Latch → Latches → Latches
+withSeconds low high ls = record { counts = ls .counts; low = low; high = high }
+
+-- byte 0 of a low word fills the latches of its pair
+unfoldable pub filled : ℕ → ℕ → Clock → Latches → Latches
+filled offset counter k ls =
+    cond (eqb offset secondsLowAt)
+    (withSeconds (Held (lowWord (timeSeconds clockRate k))) (Held (highWord (timeSeconds clockRate k))) ls)
+    (cond (atCountLow offset) (withCount (channelIndex offset) (Held (highWord counter)) ls)
+    ls)
+
+-- the latch of a count that serves the offset
+unfoldable pub countServing : ℕ → Latches → Latch
+countServing offset ls =
+    cond (atCountHigh offset) (getD (ls .counts) (channelIndex offset) (record { high = Empty }) .high) Empty
+
+-- the latch that serves the offset; elsewhere an empty one
+unfoldable pub serving : ℕ → Latches → Latch
+serving offset ls =
+    cond (within 0x208 0x20B offset) (ls .low)
+    (cond (within 0x20C 0x20F offset) (ls .high)
+    (countServing offset ls))
+
+-- that latch of a count is empty
+unfoldable pub countEmptied : ℕ → Latches → Latches
+countEmptied offset ls = cond (atCountHigh offset) (withCount (channelIndex offset) Empty ls) ls
+
+-- the latch that serves the offset is empty
+unfoldable pub emptied : ℕ → Latches → Latches
+emptied offset ls =
+    cond (within 0x208 0x20B offset) (withSeconds Empty (ls .high) ls)
+    (cond (within 0x20C 0x20F offset) (withSeconds (ls .low) Empty ls)
+    (countEmptied offset ls))
+
+-- the same after byte 3 alone
+unfoldable pub freedAt : ℕ → Latches → Latches
+freedAt offset ls = cond (eqb (byteOf offset) 3) (emptied offset ls) ls
+
+-- ---- the reading
+
+-- the word of the register at an offset, by its channel, its clock and the word that all channels share
+unfoldable pub wordAt : HardwareTimer → Clock → ℕ → ℕ → ℕ
+wordAt h k shared offset =
+    cond (inTimers offset) shared
+    (cond (inClock offset) (clockWord (registerOf offset) k)
+    (cond (inChannels offset) (wordOf (registerOf (placeOf offset)) h)
+    0))
+
+-- no latch serves: k is the clock after the alarm check
+abbrev pub liveReading : HardwareTimer → ℕ → Clock → Latches → ℕ → Reading
+liveReading h shared k ls offset =
+    record {
+      byte = byteOfWord (byteOf offset) (wordAt h k shared offset);
+      latches = ls;
+      pending = k .alarm .pending;
+      armed = k .alarm .armed;
+    }
+
+-- a latch serves, which holds a word
+abbrev pub latchReading : ℕ → Clock → Latches → ℕ → Reading
+latchReading word k ls offset =
+    record {
+      byte = byteOfWord (byteOf offset) word;
+      latches = freedAt offset ls;
+      pending = k .alarm .pending;
+      armed = k .alarm .armed;
+    }
+
+-- by the latches that byte 0 of a low word has filled
+unfoldable pub readingBy : HardwareTimer → ℕ → Clock → Latches → ℕ → Reading
+readingBy h shared k ls offset =
+    cond (heldOf (serving offset ls)) (latchReading (heldValue (serving offset ls)) k ls offset)
+    (liveReading h shared (checkAlarm clockRate k) ls offset)
+
+unfoldable pub readingOf : HardwareTimer → ℕ → Clock → Latches → ℕ → Reading
+readingOf h shared k ls offset = readingBy h shared k (filled offset (h .counter) k ls) offset
+
+-- ---- of a board
+
+-- the reading at an offset
+abbrev pub offsetReading : ℕ → Board → Reading
+offsetReading offset b =
+    readingOf (getD (b .timers) (channelIndex offset) freshTimer)
+    (timerWord (registerOf offset) (b .«timer_enable») (b .timers)) (b .clock) (b .latches) offset
+
+-- the reading at an address
+abbrev pub readingAt : ℕ → Board → Reading
+readingAt address = offsetReading (address + base)
+
+-- the board with a reading's latches and flags
+abbrev pub afterReading : Reading → Board → Board
+afterReading r b =
+    record {
+      timers = b .timers;
+      «timer_enable» = b .«timer_enable»;
+      clock =
+          withAlarm
+          (record {
+            enable = b .clock .alarm .enable;
+            seconds = b .clock .alarm .seconds;
+            pending = r .pending;
+            armed = r .armed;
+          })
+          (b .clock);
+      latches = r .latches;
+      controller = b .controller;
+    }
