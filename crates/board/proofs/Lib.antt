@@ -1,5 +1,5 @@
 pub mod Loops
-mod Phases
+pub mod Phases
 pub mod FourChannels
 pub mod Soundness
 pub mod Steps

@@ -76,7 +76,7 @@ line-due b g =
 -- ---- source 3 is set to the line
 
 module _ (b : Board) where
-  wired-line : line (wired b) ≡ line b
+  pub wired-line : line (wired b) ≡ line b
   unfolding line wired
   wired-line = refl
 

@@ -1,6 +1,7 @@
 // The four channels together: loops that apply a channel's operation to each, or join what each answers.
 ghost use mathlib.Core.Path.{_≡_};
 ghost use mathlib.Core.Bool.{true};
+ghost use lib.ListN.{length};
 ghost use Rattle.wide.specs.Deadline.{numberOf};
 ghost use Rattle.channel.specs.Channel.{TimerFits};
 ghost use Rattle.board.specs.Loops.{All};
@@ -11,6 +12,12 @@ use channel::HardwareTimer;
 use wide::deadline::Deadline;
 
 const COUNT: usize = 4;
+
+pub fn count_of(timers: [HardwareTimer; 4]) -> usize
+    ensures { λ r. ⌜ (r ≡ 4) × (length timers ≡ 4) ⌝ }
+{
+    COUNT
+}
 
 // The contract also says that the channels' words are words.
 pub fn all_sound(timers: [HardwareTimer; 4]) -> bool

@@ -14,23 +14,30 @@ use borrow.Author.Tests.{leb-true, ltb-false, lt-ltb, le-ltb, eqb-true, eq-eqb, 
 use Rattle.wide.specs.Fields.{beAt}
 use Rattle.wide.proofs.Choices.{either, and-parts}
 use Rattle.clock.specs.Fields.{withHost}
+use Rattle.controller.specs.declared.IrqController.{IrqController}
+use Rattle.controller.specs.Controller.{sourceSet}
 use Rattle.board.specs.declared.Board.{Board}
-use Rattle.board.specs.Board.{withClock, withController, line, exactDeadline, wired, sound}
+use Rattle.board.specs.Board.{BoardFits, withClock, withController, line, exactDeadline, wired, sound}
 use Rattle.board.specs.Calls.{advancedBoard, isPresent, orZero}
 use Rattle.board.proofs.Soundness.{facts-sound, wired-sound}
-use Rattle.board.proofs.Steps.{Good, good}
-use Rattle.offsets.specs.Registers.{base}
+use Rattle.board.proofs.Steps.{Good, good, wired-line}
+use Rattle.channel.specs.Channel.{freshTimer}
+use Rattle.offsets.specs.Registers.{base, registerOf}
+use Rattle.offsets.specs.Words.{timerWord}
 use Rattle.offsets.specs.Writes.{writtenAt}
+use Rattle.registers.specs.declared.reads.Reading.{Reading}
 use Rattle.registers.specs.Calls.{writtenBoard}
+use Rattle.registers.specs.Parts.{channelIndex, readingOf, readingAt, afterReading}
+use Rattle.registers.proofs.Parts.{read-parts}
 use Rattle.format.specs.declared.Answer.{Answer}
-use Rattle.format.specs.declared.Answer.the-variants.{Empty}
+use Rattle.format.specs.declared.Answer.the-variants.{Empty, Byte}
 use Rattle.format.specs.Format.{widthOf, tagAt, frameRefusal, valueBytes, recordOf}
 use Rattle.format.proofs.Frames.{framed, record-length}
 use Rattle.perform.specs.declared.Passing.{Passing}
 use Rattle.perform.specs.declared.Effect.{Effect}
 use Rattle.perform.specs.Calls.{Told, callAt}
-use Rattle.perform.specs.Parts.{ownRefusal, sizes, sizeOf, told, cyclesAt, advanceValue, partsOf, partsAt}
-use Rattle.perform.proofs.Told.{own-told, size-told, write-told, advance-told, unadvanced-told, effect-told}
+use Rattle.perform.specs.Parts.{ownRefusal, sizes, sizeOf, told, cyclesAt, answeredValue, partsOf, partsAt}
+use Rattle.perform.proofs.Told.{own-told, size-told, read-told, write-told, advance-told, unadvanced-told, effect-told}
 use Rattle.list.specs.declared.Outcome.{Outcome}
 use Rattle.list.specs.Run.{done, refused, settle, turnOf, stepped}
 use Rattle.list.specs.Refusals.{refusalAt}
@@ -133,8 +140,33 @@ module _ (b : Board) (s : sound b ≡ true) (l : List ℕ) (room : ℕ) where
 
 -- ---- the arms of the code: the board and the answer of an accepted call
 
-pub same-told : (x : Told) (b b′ : Board) (a a′ : Answer) → x ≡ told b a → b′ ≡ b → a′ ≡ a → x ≡ told b′ a′
-same-told x b b′ a a′ e p q = rw (p, q) e
+-- the answer, by another name of the line
+pub by-line : (tag c : ℕ) (u v : Bool) (l l′ : List ℕ) → l′ ≡ answeredValue tag c u l → u ≡ v →
+    l′ ≡ answeredValue tag c v l
+by-line tag c u v l l′ e q = rw q at e
+
+-- source 3 is set to the line
+pub wired-is : (y : Board) (q : IrqController) (u : Bool) → u ≡ line y → q ≡ sourceSet (y .controller) 3 u →
+    withController q y ≡ wired y
+unfolding wired
+wired-is y q u e p = rw (p, e)
+
+-- a call that answers neither cycles nor the line; y is the board before source 3 is set
+pub other-told : (x : Told) (tag c : ℕ) (v : Bool) (y b : Board) (a′ a₀ a : Answer) → x ≡ told (wired b) a₀ → y ≡ b →
+    a′ ≡ a₀ → eqb tag 4 ≡ false → eqb tag 6 ≡ false → valueBytes a ≡ answeredValue tag c v (valueBytes a′) →
+    x ≡ told (wired y) a
+unfolding answeredValue
+other-told x tag c v y b a′ a₀ a e p q n4 n6 h =
+    let w : valueBytes a ≡ valueBytes a₀ = rw (n4, n6, q) at h in
+    rw p (e ∙ ap (λ (l : List ℕ). record { board = wired b; refusal = 0; value = l }) (sym w))
+
+-- the board of an accepted call has source 3 at its line
+pub wired-told : (l : List ℕ) → ((i : ℕ) → getD l i 0 < 256) → (b : Board) → BoardFits b → sound b ≡ true → (tag : ℕ)
+    (y : Board) (a : Answer) → callAt tag l b ≡ told y a → callAt tag l b ≡ told (wired y) a
+wired-told l bytes b f s tag y a e =
+    let g = call-good l bytes b (good b f s) tag in
+    let g′ : Good y = rw e at g in
+    e ∙ ap (λ (x : Board). told x a) (sym (wired-sound y (facts-sound y (g′ .facts))))
 
 -- an optional number, by the flag and the number that the code has of it
 present : (o : Option ℕ) (made : Bool) (c : ℕ) → made ≡ isPresent o → c ≡ orZero o → made ≡ true → o ≡ some c
@@ -146,41 +178,44 @@ absent : (o : Option ℕ) (made : Bool) (c : ℕ) → made ≡ isPresent o → c
 absent none made c p q t = (refl, q)
 absent (some d) made c p q t = absurd (false≢true (sym t ∙ p))
 
--- the line does not look at the controller
-wired-line : (b : Board) → line (wired b) ≡ line b
-unfolding line wired
-wired-line b = refl
-
 module _ (b : Board) (s : sound b ≡ true) (l : List ℕ) (tag : ℕ) where
+  -- y is the board before source 3 is set
+  pub read-parted : tag ≡ 2 → ownRefusal tag l ≡ 0 → (offset : ℕ) → offset ≡ beAt l 3 2 + base → (i shared : ℕ) →
+      i ≡ channelIndex offset → shared ≡ timerWord (registerOf offset) (b .«timer_enable») (b .timers) →
+      (r : Reading) → r ≡ readingOf (getD (b .timers) i freshTimer) shared (b .clock) (b .latches) offset →
+      callAt tag l b ≡ told (wired (afterReading r b)) (Byte (r .byte))
+  read-parted t z offset p i shared n h r q =
+      let e : r ≡ readingAt (beAt l 3 2) b = rw (n, h, p) at q in
+      rw e (read-told b s l tag t z _ (sym (read-parts (beAt l 3 2) b)))
+
   pub written-told : tag ≡ 3 → ownRefusal tag l ≡ 0 → (offset value : ℕ) → offset ≡ beAt l 3 2 + base →
-      value ≡ beAt l 5 1 → (b′ : Board) → b′ ≡ wired (writtenAt offset value b) → callAt tag l b ≡ told b′ Empty
+      value ≡ beAt l 5 1 → (y : Board) → y ≡ writtenAt offset value b → callAt tag l b ≡ told (wired y) Empty
   unfolding writtenBoard
-  written-told t z offset value p q b′ e = rw (e, p, q) (write-told b s l tag t z)
+  written-told t z offset value p q y e = rw (e, p, q) (write-told b s l tag t z)
 
   -- what advance or skip does, by the line v and the deadline d that skip has asked for
   module _ (t : (tag ≡ 4) ⊎ (tag ≡ 6)) (v : Bool) (d : Option ℕ)
       (asked : tag ≡ 6 → (v ≡ line b) × (d ≡ exactDeadline b)) (m : Passing)
-      (p : m .made ≡ isPresent (cyclesAt tag l v d)) (q : m .cycles .0 ≡ orZero (cyclesAt tag l v d)) (a : Answer) where
+      (p : m .made ≡ isPresent (cyclesAt tag l v d)) (q : m .cycles .0 ≡ orZero (cyclesAt tag l v d)) (a : Answer)
+      (l′ : List ℕ) where
     cycles-same : (u : (tag ≡ 4) ⊎ (tag ≡ 6)) → cyclesAt tag l v d ≡ cyclesAt tag l (line b) (exactDeadline b)
     unfolding cyclesAt
     cycles-same (inl e) = rw e
     cycles-same (inr e) = rw (asked e .0, asked e .1)
 
-    -- x is the board before source 3 is set
-    pub moved-told : m .made ≡ true → (x : Board) → wired x ≡ advancedBoard (m .cycles .0) b →
-        valueBytes a ≡ advanceValue tag (m .cycles .0) (line x) → (b′ : Board) → b′ ≡ wired x →
-        callAt tag l b ≡ told b′ a
-    moved-told f x e w b′ g =
+    pub moved-told : m .made ≡ true → (y : Board) → wired y ≡ advancedBoard (m .cycles .0) b →
+        valueBytes a ≡ answeredValue tag (m .cycles .0) (line y) l′ → callAt tag l b ≡ told (wired y) a
+    moved-told f y e w =
         let o = present (cyclesAt tag l v d) (m .made) (m .cycles .0) p q f in
-        let h : line x ≡ line (advancedBoard (m .cycles .0) b) = sym (wired-line x) ∙ ap (λ (y : Board). line y) e in
-        rw (g, e)
-        (advance-told b s l tag t (m .cycles .0) (sym (cycles-same t) ∙ o) a (rw h at w))
+        let h : line y ≡ line (advancedBoard (m .cycles .0) b) = sym (wired-line y) ∙ ap (λ (x : Board). line x) e in
+        rw e (advance-told b s l tag t (m .cycles .0) (sym (cycles-same t) ∙ o) a l′ (rw h at w))
 
-    pub unmoved-told : m .made ≡ false → valueBytes a ≡ advanceValue tag (m .cycles .0) (line b) → (b′ : Board) →
-        b′ ≡ wired b → callAt tag l b ≡ told b′ a
-    unmoved-told f w b′ g =
+    pub unmoved-told : m .made ≡ false → (y : Board) → y ≡ b →
+        valueBytes a ≡ answeredValue tag (m .cycles .0) (line y) l′ → callAt tag l b ≡ told (wired y) a
+    unmoved-told f y e w =
         let n = absent (cyclesAt tag l v d) (m .made) (m .cycles .0) p q f in
-        rw (g, wired-sound b s) (unadvanced-told b s l tag t (sym (cycles-same t) ∙ n .0) a (rw (n .1) at w))
+        rw (e, wired-sound b s)
+        (unadvanced-told b s l tag t (sym (cycles-same t) ∙ n .0) a l′ (rw (e, n .1) at w))
 
   -- the controller's calls, source and host time
   pub parted-told : frameRefusal l ≡ 0 → tag ≡ tagAt l → (tag ≡ 2 → ⊥) → (tag ≡ 3 → ⊥) →

@@ -4,13 +4,18 @@ use native.Mathlib.Omega.{arith}
 use mathlib.Core.Path.{_≡_, refl}
 use mathlib.Core.Bool.{false, _&&_, and-false}
 use lib.Dec.{leb, eqb}
+use lib.ListN.{getD}
 use borrow.Author.Tests.{leb-true, leb-false, eqb-true, ne-eqb}
 use Rattle.wide.proofs.Choices.{either}
+use Rattle.channel.specs.declared.HardwareTimer.{HardwareTimer}
+use Rattle.channel.specs.Channel.{freshTimer}
+use Rattle.channel.specs.Registers.{byteWritten}
 use Rattle.clock.specs.Registers.{mergeByte}
 use Rattle.board.specs.declared.Board.{Board}
 use Rattle.board.specs.Board.{withTimers, withClock}
-use Rattle.offsets.specs.Registers.{registerOf, byteOf, withTimerEnable}
-use Rattle.offsets.specs.Writes.{acknowledged, timerWritten, clockWritten, channelWritten, writtenAt}
+use Rattle.offsets.specs.Registers.{registerOf, byteOf, channelOf, placeOf, withChannel, withTimerEnable}
+use Rattle.offsets.specs.Writes.{acknowledged, timerWritten, clockWritten, writtenAt}
+use Rattle.registers.specs.Parts.{channelIndex}
 use Rattle.offsets.proofs.Ranges.{
   in-timers,
   in-clock,
@@ -38,9 +43,14 @@ module _ (o v : ℕ) (b : Board) where
   unfolding writtenAt
   clock-at p q = let t = in-clock o p q in rw (t .0, t .1)
 
-  pub channel-at : 0x400 ≤ o → o < 0x500 → writtenAt o v b ≡ channelWritten o v b
-  unfolding writtenAt
-  channel-at p q = let t = in-channels o p q in rw (t .0, t .1, t .2)
+  pub channel-at : 0x400 ≤ o → o < 0x500 → (i place : ℕ) → i ≡ channelIndex o → place ≡ placeOf o →
+      (h : HardwareTimer) → h ≡ byteWritten (registerOf place) (byteOf o) v (getD (b .timers) i freshTimer) →
+      writtenAt o v b ≡ withChannel i h b
+  unfolding writtenAt channelIndex
+  channel-at p q i place e f h g =
+      let t = in-channels o p q in
+      let n : i ≡ channelOf o = rw (t .2) at e in
+      rw (t .0, t .1, t .2, g, n, f)
 
   -- the other registers of the timers take no byte
   shared-at : 0x180 ≤ o → o < 0x190 → (o / 4 * 4 ≡ 0x184 → ⊥) → (o ≡ 0x18F → ⊥) → writtenAt o v b ≡ b

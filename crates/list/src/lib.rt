@@ -7,13 +7,15 @@ ghost use Rattle.list.specs.Run.{runOf, over};
 ghost use Rattle.list.specs.Refusals.{refusalAt};
 use board::Board;
 use channel::ChannelNumber;
+use channel::Cycles;
 use controller::SourceNumber;
 use controller::with_source;
 use format::Answer;
 use offsets::Registers;
-use offsets::fields::channel_of;
 use offsets::fields::place_of;
+use offsets::words::timer_word;
 use offsets::writes;
+use registers::reads;
 use wide::deadline::Deadline;
 
 // The board after a run, the calls done, the list bytes that they used, the answer bytes, and the refusal, 0 for none.
@@ -80,10 +82,22 @@ pub fn run(board: Board, list: &[u8], answers: &mut [u8]) -> Outcome
         let next = used + (format::HEADER + format::width_of(tag));
         let end = written + (format::HEADER + size);
         let mut answer = Answer::Empty;
+        let mut cycles = Cycles(0);
         match tag {
             2 => {
-                let r = registers::read_accepted(b, perform::address_at(rest));
-                b = r.board;
+                let offset = perform::offset_at(rest);
+                let timers = b.timers;
+                let enable = b.timer_enable;
+                let shared = timer_word(timers, enable, offset / 4 * 4);
+                let i = reads::channel_index(offset);
+                let timer = b.timers[i];
+                let clock = b.clock;
+                let latches = b.latches;
+                let r = reads::reading_of(timer, shared, clock, latches, offset);
+                let after = r.latches;
+                b.latches = after;
+                b.clock.alarm.pending = r.pending;
+                b.clock.alarm.armed = r.armed;
                 answer = Answer::Byte(r.byte);
             }
             3 => {
@@ -107,17 +121,13 @@ pub fn run(board: Board, list: &[u8], answers: &mut [u8]) -> Outcome
                         b.clock = written;
                     }
                     Registers::TIMER_CHANNEL_BASE..=Registers::TIMER_CHANNEL_LAST => {
-                        let i = channel_of(offset).0 as usize;
+                        let i = reads::channel_index(offset);
                         let timer = b.timers[i];
                         let written = timer.write_byte(place_of(offset) / 4 * 4, byte, value);
                         b.timers[i] = written;
                     }
                     _ => {}
                 }
-                let line = b.line();
-                let controller = b.controller;
-                let set = with_source(controller, SourceNumber(Board::LINE_SOURCE), line);
-                b.controller = set;
             }
             4 | 6 => {
                 let mut high = false;
@@ -127,11 +137,12 @@ pub fn run(board: Board, list: &[u8], answers: &mut [u8]) -> Outcome
                     soonest = b.exact_deadline();
                 }
                 let p = perform::passing_of(tag, rest, high, soonest);
-                let cycles = p.cycles;
+                cycles = p.cycles;
                 if p.made {
                     let enable = b.timer_enable;
+                    let count = b.channels();
                     let mut i = 0;
-                    while i < Registers::TIMER_CHANNELS {
+                    while i < count {
                         let timer = b.timers[i];
                         let selected = ChannelNumber(i as u8).selected(enable);
                         let moved = timer.advance_cycles(selected, cycles);
@@ -151,11 +162,6 @@ pub fn run(board: Board, list: &[u8], answers: &mut [u8]) -> Outcome
                     b.clock.alarm.pending = later.alarm.pending;
                     b.clock.alarm.armed = later.alarm.armed;
                 }
-                let line = b.line();
-                let controller = b.controller;
-                let set = with_source(controller, SourceNumber(Board::LINE_SOURCE), line);
-                b.controller = set;
-                answer = perform::passed(tag, cycles, line);
             }
             5 => {
                 answer = perform::deadline(b);
@@ -173,7 +179,12 @@ pub fn run(board: Board, list: &[u8], answers: &mut [u8]) -> Outcome
                 answer = e.answer;
             }
         }
-        format::put_record(answers, written, tag, size, answer);
+        let line = b.line();
+        let controller = b.controller;
+        let set = with_source(controller, SourceNumber(Board::LINE_SOURCE), line);
+        b.controller = set;
+        let told = perform::answered(tag, cycles, line, answer);
+        format::put_record(answers, written, tag, size, told);
         calls += 1;
         used = next;
         written = end;

@@ -61,7 +61,7 @@ use Rattle.perform.specs.Parts.{
   sizeOf,
   told,
   cyclesAt,
-  advanceValue,
+  answeredValue,
   Parts,
   partsOf,
   partsAt,
@@ -244,26 +244,26 @@ module _ (b : Board) (s : sound b ≡ true) (l : List ℕ) where
 
     -- the advance that advance or skip makes
     pub advance-told : (tag ≡ 4) ⊎ (tag ≡ 6) → (c : ℕ) → cyclesAt tag l (line b) (exactDeadline b) ≡ some c → (a : Answer) →
-        valueBytes a ≡ advanceValue tag c (line (advancedBoard c b)) → Is (advancedBoard c b) a
-    unfolding callAt cyclesAt advanceValue advanceCall
-    advance-told (inl t) c e a v =
+        (l′ : List ℕ) → valueBytes a ≡ answeredValue tag c (line (advancedBoard c b)) l′ → Is (advancedBoard c b) a
+    unfolding callAt cyclesAt answeredValue advanceCall
+    advance-told (inl t) c e a l′ v =
         let f : some (beAt l 3 8) ≡ some c = rw t at e in
         let q : beAt l 3 8 ≡ c = ap orZero f in
         let w : valueBytes a ≡ be 1 (flagOf (line (advancedBoard c b))) = rw t at v in
         rw (t, s, w, q)
-    advance-told (inr t) c e a v =
+    advance-told (inr t) c e a l′ v =
         let f : skipLength b ≡ some c = rw t at e in
         let w : valueBytes a ≡ (be 8 c ++ be 1 (flagOf (line (advancedBoard c b)))) = rw t at v in
         rw (t, w) (skip-is (some c) f)
 
     -- no advance is made
     pub unadvanced-told : (tag ≡ 4) ⊎ (tag ≡ 6) → cyclesAt tag l (line b) (exactDeadline b) ≡ none → (a : Answer) →
-        valueBytes a ≡ advanceValue tag 0 (line b) → Is b a
-    unfolding callAt cyclesAt advanceValue
-    unadvanced-told (inl t) e a v =
+        (l′ : List ℕ) → valueBytes a ≡ answeredValue tag 0 (line b) l′ → Is b a
+    unfolding callAt cyclesAt answeredValue
+    unadvanced-told (inl t) e a l′ v =
         let f : some (beAt l 3 8) ≡ none = rw t at e in
         absurd (true≢false (ap isPresent f))
-    unadvanced-told (inr t) e a v =
+    unadvanced-told (inr t) e a l′ v =
         let f : skipLength b ≡ none = rw t at e in
         let w : valueBytes a ≡ (be 8 0 ++ be 1 (flagOf (line b))) = rw t at v in
         rw (t, w) (skip-is none f ∙ ap (λ (c : Board). skipTold (unskipped (line b) c)) (wired-sound b s))

@@ -48,9 +48,9 @@ told b a = record { board = b; refusal = 0; value = valueBytes a }
 unfoldable pub cyclesAt : ℕ → List ℕ → Bool → Option ℕ → Option ℕ
 cyclesAt tag l v d = cond (eqb tag 4) (some (beAt l 3 8)) (cond v none (wordDeadline d))
 
--- their answer, by the cycles that have passed and the line
-unfoldable pub advanceValue : ℕ → ℕ → Bool → List ℕ
-advanceValue tag c v = cond (eqb tag 4) (be 1 (flagOf v)) (be 8 c ++ be 1 (flagOf v))
+-- the answer of a call, by the cycles that have passed, the line after it, and what another call answers
+unfoldable pub answeredValue : ℕ → ℕ → Bool → List ℕ → List ℕ
+answeredValue tag c v l = cond (eqb tag 4) (be 1 (flagOf v)) (cond (eqb tag 6) (be 8 c ++ be 1 (flagOf v)) l)
 
 -- 01 and 07 to 0A: host time and controller after the call, and the answer
 pub record Parts : Type 0 where

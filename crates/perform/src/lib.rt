@@ -12,7 +12,7 @@ ghost use Rattle.board.specs.Calls.{isPresent, orZero};
 ghost use Rattle.offsets.specs.Registers.{base};
 ghost use Rattle.format.specs.Format.{widthOf, valueBytes};
 ghost use Rattle.perform.specs.Calls.{deadlineTold, hostAt};
-ghost use Rattle.perform.specs.Parts.{ownRefusal, sizeOf, cyclesAt, advanceValue, partsOf, partsAt};
+ghost use Rattle.perform.specs.Parts.{ownRefusal, sizeOf, cyclesAt, answeredValue, partsOf, partsAt};
 use board::Board;
 use board::calls::host_time_refusal;
 use board::calls::source_refusal;
@@ -55,7 +55,7 @@ pub fn byte_at(rest: &[u8], at: usize) -> u8
 }
 
 // The address of a register.
-pub fn address_at(rest: &[u8]) -> u16
+fn address_at(rest: &[u8]) -> u16
     requires { ⌜ 5 ≤ length (now rest) ⌝ }
     ensures { λ r. ⌜ r ≡ beAt (now (rest .entry)) 3 2 ⌝ }
 {
@@ -152,14 +152,16 @@ pub fn passing_of(tag: u8, rest: &[u8], line: bool, soonest: Deadline) -> Passin
     }
 }
 
-// What advance or skip answers.
-pub fn passed(tag: u8, cycles: Cycles, line: bool) -> Answer
-    ensures { λ r. ⌜ valueBytes r ≡ advanceValue tag (cycles .0) line ⌝ }
+// The answer of a call after which the line is as given. Advance and skip answer it, skip with the cycles too; another
+// call has its answer.
+pub fn answered(tag: u8, cycles: Cycles, line: bool, answer: Answer) -> Answer
+    ensures { λ r. ⌜ valueBytes r ≡ answeredValue tag (cycles .0) line (valueBytes answer) ⌝ }
 {
-    if tag == 4 {
-        return Answer::Byte(flag(line));
+    match tag {
+        4 => Answer::Byte(flag(line)),
+        6 => Answer::Skip(cycles.0, flag(line)),
+        _ => answer,
     }
-    Answer::Skip(cycles.0, flag(line))
 }
 
 pub fn deadline(board: Board) -> Answer

@@ -1,4 +1,4 @@
-mod Timing
+pub mod Timing
 mod Latches
 mod Channels
 pub mod Kept

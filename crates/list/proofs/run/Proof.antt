@@ -1,27 +1,48 @@
 -- `run` meets its contract. Assumes nothing.
 use mathlib.Core.Path.{_≡_, refl, sym, ap, _∙_}
 use mathlib.Core.Bool.{true, false}
-use mathlib.Core.Logic.{⊎-elim}
+use mathlib.Core.Logic.{⊎-elim, inl, inr}
 use mathlib.Core.List.{List}
-use Prim.Native.Nat.{ℕ, _-_}
+use Prim.Native.Nat.{ℕ, _-_, _<_}
 use native.Mathlib.Omega.{arith}
-use lib.ListN.{length, take, drop, length-drop}
+use lib.Dec.{eqb}
+use lib.ListN.{getD, length, take, drop, length-drop}
 use borrow.Author.Tests.{not-true, not-false, ne-eqb}
-use Rattle.board.specs.Board.{sound}
-use Rattle.format.specs.Format.{tagAt}
+use Rattle.board.specs.declared.Board.{Board}
+use Rattle.board.specs.Board.{sound, line, wired, withTimers, withClock}
+use Rattle.offsets.specs.Registers.{withTimerEnable}
+use Rattle.clock.specs.declared.Clock.{Clock}
+use Rattle.wide.specs.Deadline.{numberOf}
+use Rattle.format.specs.declared.Answer.{Answer}
+use Rattle.board.proofs.Soundness.{sound-facts}
+use Rattle.registers.proofs.Timing.{sound-times}
+use Rattle.format.specs.Format.{tagAt, valueBytes}
 use Rattle.format.proofs.Frames.{framed, part-rest}
 use Rattle.perform.specs.Calls.{callAt}
-use Rattle.perform.specs.Parts.{told}
-use Rattle.perform.proofs.Told.{read-told, deadline-told}
-use Rattle.registers.specs.Calls.{readAccepted}
+use Rattle.perform.specs.Parts.{told, answeredValue}
+use Rattle.perform.proofs.Told.{deadline-told}
 use Rattle.list.specs.Run.{runOf, over}
-use Rattle.list.proofs.Advances.{Advancing}
+use Rattle.list.proofs.Advances.{Advancing, begins, next-phase, turns, still-timed, all-advanced}
+use Rattle.list.proofs.Writes.{
+  enable-at,
+  ack-at,
+  clock-at,
+  channel-at,
+  below-enable,
+  below-clock,
+  below-channels,
+  above-channels,
+}
 use Rattle.list.proofs.Runs.{Running, Ran, stateOf, begun, ended}
 use Rattle.list.proofs.Accepted.{
   value-in,
   clear,
   answer-size,
-  same-told,
+  by-line,
+  wired-is,
+  other-told,
+  wired-told,
+  read-parted,
   written-told,
   moved-told,
   unmoved-told,
@@ -33,29 +54,40 @@ use borrow.Author.Needs.{needs}
 use Rattle.list.proofs.run.Statement.{statement}
 use Rattle.list.proofs.run.Tie as tie
 use Rattle.list.proofs.run.Lts as lts
-use Rattle.board.proofs.Board.sound.Reads as sound-reads
-use Rattle.list.proofs.refusal_of.Reads as refusal-of-reads
-use Rattle.perform.proofs.answer_size.Reads as answer-size-reads
-use Rattle.format.proofs.width_of.Reads as width-of-reads
-use Rattle.perform.proofs.address_at.Reads as address-at-reads
-use Rattle.registers.proofs.read_accepted.Reads as read-accepted-reads
-use Rattle.perform.proofs.byte_at.Reads as byte-at-reads
-use Rattle.registers.proofs.written.Reads as written-reads
-use Rattle.perform.proofs.passing_of.Reads as passing-of-reads
-use Rattle.board.proofs.Board.advanced.Reads as advanced-reads
+use Rattle.list.proofs.run.Reads as reads
+use Rattle.board.proofs.Board.channels.Reads as channels-reads
+use Rattle.board.proofs.Board.exact_deadline.Reads as exact-deadline-reads
 use Rattle.board.proofs.Board.line.Reads as line-reads
-use Rattle.perform.proofs.passed.Reads as passed-reads
+use Rattle.board.proofs.Board.sound.Reads as sound-reads
+use Rattle.channel.proofs.ChannelNumber.selected.Reads as selected-reads
+use Rattle.channel.proofs.HardwareTimer.advance_cycles.Reads as advance-cycles-reads
+use Rattle.channel.proofs.HardwareTimer.write_byte.Reads as write-byte-reads
+use Rattle.clock.proofs.Clock.advance.Reads as advance-reads
+use Rattle.controller.proofs.with_source.Reads as with-source-reads
+use Rattle.format.proofs.put_record.Reads as put-record-reads
+use Rattle.format.proofs.width_of.Reads as width-of-reads
+use Rattle.list.proofs.refusal_of.Reads as refusal-of-reads
+use Rattle.offsets.proofs.fields.place_of.Reads as place-of-reads
+use Rattle.offsets.proofs.words.timer_word.Reads as timer-word-reads
+use Rattle.offsets.proofs.writes.acknowledged.Reads as acknowledged-reads
+use Rattle.offsets.proofs.writes.clock_written.Reads as clock-written-reads
+use Rattle.offsets.proofs.writes.enable_written.Reads as enable-written-reads
+use Rattle.perform.proofs.answer_size.Reads as answer-size-reads
+use Rattle.perform.proofs.answered.Reads as answered-reads
+use Rattle.perform.proofs.byte_at.Reads as byte-at-reads
 use Rattle.perform.proofs.deadline.Reads as deadline-reads
 use Rattle.perform.proofs.effect_of.Reads as effect-of-reads
-use Rattle.format.proofs.put_record.Reads as put-record-reads
-use Rattle.list.proofs.run.Reads as reads
+use Rattle.perform.proofs.offset_at.Reads as offset-at-reads
+use Rattle.perform.proofs.passing_of.Reads as passing-of-reads
+use Rattle.registers.proofs.reads.channel_index.Reads as channel-index-reads
+use Rattle.registers.proofs.reads.reading_of.Reads as reading-of-reads
 
 abbrev Inv-loop2 : tie.InvT-loop2
-Inv-loop2 list answers b₀ calls used written refusal tag size next end high cycles enable i₀ b i =
-    Advancing enable (cycles .0) i b₀ b
+Inv-loop2 list answers b₀ calls used written refusal tag size next end answer cycles high enable count i₀ b i =
+    (count ≡ 4) × Advancing enable (cycles .0) i b₀ b
 
 abbrev μ-loop2 : tie.MeasureT-loop2
-μ-loop2 list answers b₀ calls used written refusal tag size next end high cycles enable i₀ b i = 4 - i
+μ-loop2 list answers b₀ calls used written refusal tag size next end answer cycles high enable count i₀ b i = count - i
 
 abbrev Inv-loop : tie.InvT-loop
 Inv-loop list answers₀ b₀ calls₀ used₀ written₀ answers b calls used written =
@@ -63,6 +95,158 @@ Inv-loop list answers₀ b₀ calls₀ used₀ written₀ answers b calls used w
 
 abbrev μ-loop : tie.MeasureT-loop
 μ-loop list answers₀ b₀ calls₀ used₀ written₀ answers b calls used written = length list - used
+
+-- where the arms meet
+abbrev Came : Type 0
+Came = lts.At-match-came (
+  sound-reads.Asked,
+  sound-reads.Learnt,
+  refusal-of-reads.Asked,
+  refusal-of-reads.Learnt,
+  answer-size-reads.Asked,
+  answer-size-reads.Learnt,
+  width-of-reads.Asked,
+  width-of-reads.Learnt,
+  offset-at-reads.Asked,
+  offset-at-reads.Learnt,
+  timer-word-reads.Asked,
+  timer-word-reads.Learnt,
+  channel-index-reads.Asked,
+  channel-index-reads.Learnt,
+  reading-of-reads.Asked,
+  reading-of-reads.Learnt,
+  byte-at-reads.Asked,
+  byte-at-reads.Learnt,
+  acknowledged-reads.Asked,
+  acknowledged-reads.Learnt,
+  enable-written-reads.Asked,
+  enable-written-reads.Learnt,
+  clock-written-reads.Asked,
+  clock-written-reads.Learnt,
+  place-of-reads.Asked,
+  place-of-reads.Learnt,
+  write-byte-reads.Asked,
+  write-byte-reads.Learnt,
+  line-reads.Asked,
+  line-reads.Learnt,
+  exact-deadline-reads.Asked,
+  exact-deadline-reads.Learnt,
+  passing-of-reads.Asked,
+  passing-of-reads.Learnt,
+  channels-reads.Asked,
+  channels-reads.Learnt,
+  selected-reads.Asked,
+  selected-reads.Learnt,
+  advance-cycles-reads.Asked,
+  advance-cycles-reads.Learnt,
+  advance-reads.Asked,
+  advance-reads.Learnt,
+  deadline-reads.Asked,
+  deadline-reads.Learnt,
+  effect-of-reads.Asked,
+  effect-of-reads.Learnt,
+  with-source-reads.Asked,
+  with-source-reads.Learnt,
+  answered-reads.Asked,
+  answered-reads.Learnt,
+  put-record-reads.Asked,
+  put-record-reads.Learnt,
+) reads.Pre reads.Post Inv-loop2 μ-loop2 Inv-loop μ-loop
+
+-- what is left of the list
+abbrev restOf : Came → List ℕ
+restOf c =
+    let l = c .before .before .before .before .before .before .before .before .before .before .before .before
+    .before .args .list .now in
+    let n = c .before .before .before .before .before .before .before .before .loop .used in
+    take (length l - n) (drop n l)
+
+-- the board before the call
+abbrev boardOf : Came → Board
+boardOf c = c .before .before .before .before .before .before .before .before .loop .b
+
+-- the board and the answer are those of the call
+accepted : (c : Came) (a : Answer) →
+    valueBytes a ≡ answeredValue (tagAt (restOf c)) (c .match .cycles .0) (line (c .match .b))
+    (valueBytes (c .match .answer)) →
+    callAt (tagAt (restOf c)) (restOf c) (boardOf c) ≡ told (wired (c .match .b)) a
+accepted c a v =
+    let l = restOf c in
+    let tag = tagAt (restOf c) in
+    let b = boardOf c in
+    let i = c .before .before .before .before .before .before .before .before .loop .inv in
+    let s = i .sound in
+    let k = clear (restOf c) _ (sym (c .before .before .before .before .before .refusal-of .ensures)
+    ∙ c .before .before .before .before .if2 .left) in
+    let bytes : (n : ℕ) → getD l n 0 < 256 =
+    λ n. omega (arith, c .before .before .before .shared-slice-known2 .given n) in
+    ⊎-elim
+    (λ w. other-told _ tag _ _ _ _ _ _ a
+    (read-parted b s l tag (w .0 .keys1) (k .own) (w .1 .result) (w .1 .ensures) (w .4 .result) (w .3 .result)
+    (w .4 .ensures .0) (w .3 .ensures) (w .8 .result) (w .8 .ensures))
+    (w .12) (w .13) (ap (λ (n : ℕ). eqb n 4) (w .0 .keys1)) (ap (λ (n : ℕ). eqb n 6) (w .0 .keys1)) v)
+    (⊎-elim
+    (λ w. other-told _ tag _ _ _ _ _ _ a
+    (written-told b s l tag (w .0 .keys2) (k .own) (w .1 .result) (w .2 .result) (w .1 .ensures) (w .2 .ensures)
+    (c .match .b) (w .6 ∙ ap (λ ts. withTimers ts b) (w .5 .ensures) ∙ sym (ack-at (w .1 .result) (w .2 .result) b (w .3 .keys1))))
+    refl (w .7) (ap (λ (n : ℕ). eqb n 4) (w .0 .keys2)) (ap (λ (n : ℕ). eqb n 6) (w .0 .keys2)) v)
+    (⊎-elim
+    (λ w. other-told _ tag _ _ _ _ _ _ a
+    (written-told b s l tag (w .0 .keys2) (k .own) (w .1 .result) (w .2 .result) (w .1 .ensures) (w .2 .ensures)
+    (c .match .b) (w .5 ∙ sym (below-enable (w .1 .result) (w .2 .result) b (w .4 .taken))))
+    refl (w .6) (ap (λ (n : ℕ). eqb n 4) (w .0 .keys2)) (ap (λ (n : ℕ). eqb n 6) (w .0 .keys2)) v)
+    (⊎-elim
+    (λ w. other-told _ tag _ _ _ _ _ _ a
+    (written-told b s l tag (w .0 .keys2) (k .own) (w .1 .result) (w .2 .result) (w .1 .ensures) (w .2 .ensures)
+    (c .match .b) (w .7 ∙ ap (λ (n : ℕ). withTimerEnable n b) (w .6 .ensures) ∙ sym (enable-at (w .1 .result) (w .2 .result) b (w .4 .left) (w .5 .taken))))
+    refl (w .8) (ap (λ (n : ℕ). eqb n 4) (w .0 .keys2)) (ap (λ (n : ℕ). eqb n 6) (w .0 .keys2)) v)
+    (⊎-elim
+    (λ w. other-told _ tag _ _ _ _ _ _ a
+    (written-told b s l tag (w .0 .keys2) (k .own) (w .1 .result) (w .2 .result) (w .1 .ensures) (w .2 .ensures)
+    (c .match .b) (w .7 ∙ sym (below-clock (w .1 .result) (w .2 .result) b (w .5 .left) (w .6 .taken) (w .3 .rest .1))))
+    refl (w .8) (ap (λ (n : ℕ). eqb n 4) (w .0 .keys2)) (ap (λ (n : ℕ). eqb n 6) (w .0 .keys2)) v)
+    (⊎-elim
+    (λ w. other-told _ tag _ _ _ _ _ _ a
+    (written-told b s l tag (w .0 .keys2) (k .own) (w .1 .result) (w .2 .result) (w .1 .ensures) (w .2 .ensures)
+    (c .match .b) (w .10 ∙ ap (λ (x : Clock). withClock x b) (w .9 .ensures) ∙ sym (clock-at (w .1 .result) (w .2 .result) b (w .6 .left) (w .7 .taken))))
+    refl (w .11) (ap (λ (n : ℕ). eqb n 4) (w .0 .keys2)) (ap (λ (n : ℕ). eqb n 6) (w .0 .keys2)) v)
+    (⊎-elim
+    (λ w. other-told _ tag _ _ _ _ _ _ a
+    (written-told b s l tag (w .0 .keys2) (k .own) (w .1 .result) (w .2 .result) (w .1 .ensures) (w .2 .ensures)
+    (c .match .b) (w .9 ∙ sym (below-channels (w .1 .result) (w .2 .result) b (w .7 .left) (w .8 .taken))))
+    refl (w .10) (ap (λ (n : ℕ). eqb n 4) (w .0 .keys2)) (ap (λ (n : ℕ). eqb n 6) (w .0 .keys2)) v)
+    (⊎-elim
+    (λ w. other-told _ tag _ _ _ _ _ _ a
+    (written-told b s l tag (w .0 .keys2) (k .own) (w .1 .result) (w .2 .result) (w .1 .ensures) (w .2 .ensures)
+    (c .match .b) (w .14 ∙ sym (channel-at (w .1 .result) (w .2 .result) b (w .8 .left) (w .9 .taken) (w .10 .result) (w .12 .result) (w .10 .ensures .0) (w .12 .ensures) (w .13 .result) (w .13 .ensures))))
+    refl (w .15) (ap (λ (n : ℕ). eqb n 4) (w .0 .keys2)) (ap (λ (n : ℕ). eqb n 6) (w .0 .keys2)) v)
+    (⊎-elim
+    (λ w. other-told _ tag _ _ _ _ _ _ a
+    (written-told b s l tag (w .0 .keys2) (k .own) (w .1 .result) (w .2 .result) (w .1 .ensures) (w .2 .ensures)
+    (c .match .b) (w .10 ∙ sym (above-channels (w .1 .result) (w .2 .result) b (w .9 .left))))
+    refl (w .11) (ap (λ (n : ℕ). eqb n 4) (w .0 .keys2)) (ap (λ (n : ℕ). eqb n 6) (w .0 .keys2)) v)
+    (⊎-elim
+    (λ w. moved-told b s l tag (w .0 .keys3) (w .1 .high) (numberOf (w .1 .soonest)) (λ e. ⊎-elim (λ u. (u .3 ∙ u .1 .ensures, ap numberOf (u .4) ∙ u .2 .ensures)) (λ u. absurd (u .0 .left e)) (w .1 .came))
+    (w .2 .result) (w .2 .ensures .0) (w .2 .ensures .1) a (valueBytes (c .match .answer)) (w .4 .taken) (c .match .b)
+    (ap wired (w .15)
+    ∙ all-advanced _ _ _ _ _ (w .6 .inv .1) (omega (arith, w .7 .left, w .6 .inv .0)) refl (w .9 .result)
+    (w .9 .ensures))
+    (rw (w .17) at v))
+    (⊎-elim
+    (λ w. unmoved-told b s l tag (w .0 .keys3) (w .1 .high) (numberOf (w .1 .soonest)) (λ e. ⊎-elim (λ u. (u .3 ∙ u .1 .ensures, ap numberOf (u .4) ∙ u .2 .ensures)) (λ u. absurd (u .0 .left e)) (w .1 .came))
+    (w .2 .result) (w .2 .ensures .0) (w .2 .ensures .1) a (valueBytes (c .match .answer)) (w .4 .left) (c .match .b)
+    (w .5) (rw (w .7) at v))
+    (⊎-elim
+    (λ w. other-told _ tag _ _ _ _ _ _ a
+    (wired-told l bytes b (i .fits) s tag _ _
+    (deadline-told b s l tag (w .0 .keys4) (w .1 .result) (w .1 .ensures)))
+    (w .2) (w .3) (ap (λ (n : ℕ). eqb n 4) (w .0 .keys4)) (ap (λ (n : ℕ). eqb n 6) (w .0 .keys4)) v)
+    (λ w. other-told _ tag _ _ _ _ _ _ a
+    (wired-told l bytes b (i .fits) s tag _ _
+    (parted-told b s l tag (k .frame) refl (w .0 .rest .0 .0 .0 .1) (w .0 .rest .0 .0 .1)
+    (w .0 .rest .0 .1) (w .0 .rest .1) (k .own) (w .3 .result) (w .3 .ensures)))
+    (w .7) (w .8) (ne-eqb tag 4 (λ e. w .0 .rest .0 .1 (inl e))) (ne-eqb tag 6 (λ e. w .0 .rest .0 .1 (inr e))) v))))))))))))
+    (c .match .came)
 
 sound-requires : tie.Need-sound-requires Inv-loop2 μ-loop2 Inv-loop μ-loop
 sound-requires c κs = search needs
@@ -180,153 +364,180 @@ add-end-2 c =
     let w = c .before .answer-size .ensures in
     omega (arith, k, w, looped .loop .inv .same, looped .loop .inv .counted, looped .loop .inv .room, start .good)
 
-address-at-requires : tie.Need-address-at-requires Inv-loop2 μ-loop2 Inv-loop μ-loop
-address-at-requires c κs =
+offset-at-requires : tie.Need-offset-at-requires Inv-loop2 μ-loop2 Inv-loop μ-loop
+offset-at-requires c κs =
     let unrefused = c .before .before .before .before in
     let refusing = unrefused .before in
-    value-in _ 2 (clear _ _ (sym (refusing .refusal-of .ensures) ∙ unrefused .if2 .left) .frame) (c .match .keys1)
+    let h = value-in _ 2 (clear _ _ (sym (refusing .refusal-of .ensures)
+    ∙ unrefused .if2 .left) .frame) (c .match .keys1) in
+    omega (arith, h)
 
-read-accepted-requires : tie.Need-read-accepted-requires Inv-loop2 μ-loop2 Inv-loop μ-loop
-read-accepted-requires c κs = c .before .before .before .before .before .before .before .before .before .loop .inv
-    .sound
+mul-timer-word : tie.Need-mul-timer-word Inv-loop2 μ-loop2 Inv-loop μ-loop
+mul-timer-word c = search needs
 
-offset-at-requires : tie.Need-offset-at-requires Inv-loop2 μ-loop2 Inv-loop μ-loop
-offset-at-requires c κs = ?
+timer-word-requires : tie.Need-timer-word-requires Inv-loop2 μ-loop2 Inv-loop μ-loop
+timer-word-requires c κs = search needs
 
-byte-at-requires : tie.Need-byte-at-requires Inv-loop2 μ-loop2 Inv-loop μ-loop
-byte-at-requires c κs = ?
-
-cast-byte : tie.Need-cast-byte Inv-loop2 μ-loop2 Inv-loop μ-loop
-cast-byte c = ?
-
-acknowledged-requires : tie.Need-acknowledged-requires Inv-loop2 μ-loop2 Inv-loop μ-loop
-acknowledged-requires c κs = ?
-
-enable-written-requires : tie.Need-enable-written-requires Inv-loop2 μ-loop2 Inv-loop μ-loop
-enable-written-requires c κs = ?
-
-mul-clock-written : tie.Need-mul-clock-written Inv-loop2 μ-loop2 Inv-loop μ-loop
-mul-clock-written c = ?
-
-clock-written-requires : tie.Need-clock-written-requires Inv-loop2 μ-loop2 Inv-loop μ-loop
-clock-written-requires c κs = ?
-
-channel-of-requires : tie.Need-channel-of-requires Inv-loop2 μ-loop2 Inv-loop μ-loop
-channel-of-requires c κs = ?
-
-cast-i : tie.Need-cast-i Inv-loop2 μ-loop2 Inv-loop μ-loop
-cast-i c = ?
+channel-index-requires : tie.Need-channel-index-requires Inv-loop2 μ-loop2 Inv-loop μ-loop
+channel-index-requires c κs = search needs
 
 mul-timer : tie.Need-mul-timer Inv-loop2 μ-loop2 Inv-loop μ-loop
-mul-timer c = ?
+mul-timer c = omega (arith, c .channel-index .ensures .1)
 
 element-copy-out-timer : tie.Need-element-copy-out-timer Inv-loop2 μ-loop2 Inv-loop μ-loop
-element-copy-out-timer c = ?
+element-copy-out-timer c = c .channel-index .ensures .1
 
-place-of-requires : tie.Need-place-of-requires Inv-loop2 μ-loop2 Inv-loop μ-loop
-place-of-requires c κs = ?
+reading-of-requires : tie.Need-reading-of-requires Inv-loop2 μ-loop2 Inv-loop μ-loop
+reading-of-requires c κs =
+    let i = c .before .before .before .before .before .before .before .before .before .before .before .before .before .before .before .loop .inv in
+    sound-times _ (i .fits .clock) (i .sound)
 
-mul-write-byte : tie.Need-mul-write-byte Inv-loop2 μ-loop2 Inv-loop μ-loop
-mul-write-byte c = ?
+offset-at-requires-2 : tie.Need-offset-at-requires-2 Inv-loop2 μ-loop2 Inv-loop μ-loop
+offset-at-requires-2 c κs =
+    let unrefused = c .before .before .before .before in
+    let refusing = unrefused .before in
+    let h = value-in _ 3 (clear _ _ (sym (refusing .refusal-of .ensures)
+    ∙ unrefused .if2 .left) .frame) (c .match .keys2) in
+    omega (arith, h)
 
-write-byte-requires : tie.Need-write-byte-requires Inv-loop2 μ-loop2 Inv-loop μ-loop
-write-byte-requires c κs = ?
+byte-at-requires : tie.Need-byte-at-requires Inv-loop2 μ-loop2 Inv-loop μ-loop
+byte-at-requires c κs =
+    let unrefused = c .before .before .before .before .before in
+    let refusing = unrefused .before in
+    let h = value-in _ 3 (clear _ _ (sym (refusing .refusal-of .ensures)
+    ∙ unrefused .if2 .left) .frame) (c .before .match .keys2) in
+    omega (arith, h)
 
-mul-written : tie.Need-mul-written Inv-loop2 μ-loop2 Inv-loop μ-loop
-mul-written c = ?
+cast-byte : tie.Need-cast-byte Inv-loop2 μ-loop2 Inv-loop μ-loop
+cast-byte c = search needs
 
-element-set-from-written : tie.Need-element-set-from-written Inv-loop2 μ-loop2 Inv-loop μ-loop
-element-set-from-written c = ?
+acknowledged-requires : tie.Need-acknowledged-requires Inv-loop2 μ-loop2 Inv-loop μ-loop
+acknowledged-requires c κs = search needs
 
-line-requires : tie.Need-line-requires Inv-loop2 μ-loop2 Inv-loop μ-loop
-line-requires c κs = ?
+enable-written-requires : tie.Need-enable-written-requires Inv-loop2 μ-loop2 Inv-loop μ-loop
+enable-written-requires c κs = omega arith
 
-with-source-requires : tie.Need-with-source-requires Inv-loop2 μ-loop2 Inv-loop μ-loop
-with-source-requires c κs = ?
+mul-clock-written : tie.Need-mul-clock-written Inv-loop2 μ-loop2 Inv-loop μ-loop
+mul-clock-written c = search needs
 
-line-requires-2 : tie.Need-line-requires-2 Inv-loop2 μ-loop2 Inv-loop μ-loop
-line-requires-2 c κs = ?
+clock-written-requires : tie.Need-clock-written-requires Inv-loop2 μ-loop2 Inv-loop μ-loop
+clock-written-requires c κs =
+    let i = c .before .before .before .before .before .before .before .before .before .before .before .before .before .before .before .before .loop .inv in
+    (omega arith, sound-times _ (i .fits .clock) (i .sound))
 
-exact-deadline-requires : tie.Need-exact-deadline-requires Inv-loop2 μ-loop2 Inv-loop μ-loop
-exact-deadline-requires c κs = ?
-
-passing-of-requires : tie.Need-passing-of-requires Inv-loop2 μ-loop2 Inv-loop μ-loop
-passing-of-requires c κs = ?
-
-loop2-holds : tie.Need-loop2-holds Inv-loop2 μ-loop2 Inv-loop μ-loop
-loop2-holds c = ?
+channel-index-requires-2 : tie.Need-channel-index-requires-2 Inv-loop2 μ-loop2 Inv-loop μ-loop
+channel-index-requires-2 c κs = search needs
 
 mul-timer-2 : tie.Need-mul-timer-2 Inv-loop2 μ-loop2 Inv-loop μ-loop
-mul-timer-2 c = ?
+mul-timer-2 c = omega (arith, c .channel-index2 .ensures .1)
 
 element-copy-out-timer-2 : tie.Need-element-copy-out-timer-2 Inv-loop2 μ-loop2 Inv-loop μ-loop
-element-copy-out-timer-2 c = ?
+element-copy-out-timer-2 c = c .channel-index2 .ensures .1
 
-cast-t86 : tie.Need-cast-t86 Inv-loop2 μ-loop2 Inv-loop μ-loop
-cast-t86 c = ?
+place-of-requires : tie.Need-place-of-requires Inv-loop2 μ-loop2 Inv-loop μ-loop
+place-of-requires c κs =
+    let t = c .before .before in
+    (omega (arith, t .before .if7 .left), omega (arith, t .if8 .taken))
+
+mul-write-byte : tie.Need-mul-write-byte Inv-loop2 μ-loop2 Inv-loop μ-loop
+mul-write-byte c = search needs
+
+write-byte-requires : tie.Need-write-byte-requires Inv-loop2 μ-loop2 Inv-loop μ-loop
+write-byte-requires c κs = omega arith
+
+mul-written : tie.Need-mul-written Inv-loop2 μ-loop2 Inv-loop μ-loop
+mul-written c = omega (arith, c .before .before .before .channel-index2 .ensures .1)
+
+element-set-from-written : tie.Need-element-set-from-written Inv-loop2 μ-loop2 Inv-loop μ-loop
+element-set-from-written c = c .before .before .before .channel-index2 .ensures .1
+
+line-requires : tie.Need-line-requires Inv-loop2 μ-loop2 Inv-loop μ-loop
+line-requires c κs = search needs
+
+exact-deadline-requires : tie.Need-exact-deadline-requires Inv-loop2 μ-loop2 Inv-loop μ-loop
+exact-deadline-requires c κs = c .before .before .before .before .before .before .before .before .before .before .loop .inv .sound
+
+passing-of-requires : tie.Need-passing-of-requires Inv-loop2 μ-loop2 Inv-loop μ-loop
+passing-of-requires c κs =
+    let unrefused = c .before .before .before .before .before in
+    let refusing = unrefused .before in
+    framed _ (clear _ _ (sym (refusing .refusal-of .ensures) ∙ unrefused .if2 .left) .frame) .0
+
+channels-requires : tie.Need-channels-requires Inv-loop2 μ-loop2 Inv-loop μ-loop
+channels-requires c κs = search needs
+
+loop2-holds : tie.Need-loop2-holds Inv-loop2 μ-loop2 Inv-loop μ-loop
+loop2-holds c =
+    let i = c .before .before .before .before .before .before .before .before .before .before .before .before .before .loop .inv in
+    (c .channels .ensures .0, begins _ _ _ (c .channels .ensures .1) (sound-facts _ (i .sound) .timers))
+
+mul-timer-3 : tie.Need-mul-timer-3 Inv-loop2 μ-loop2 Inv-loop μ-loop
+mul-timer-3 c = omega (arith, c .loop2-test .taken, c .before .loop2 .inv .0)
+
+element-copy-out-timer-3 : tie.Need-element-copy-out-timer-3 Inv-loop2 μ-loop2 Inv-loop μ-loop
+element-copy-out-timer-3 c = omega (arith, c .loop2-test .taken, c .before .loop2 .inv .0)
+
+cast-t96 : tie.Need-cast-t96 Inv-loop2 μ-loop2 Inv-loop μ-loop
+cast-t96 c = omega (arith, c .before .loop2-test .taken, c .before .before .loop2 .inv .0)
 
 selected-requires : tie.Need-selected-requires Inv-loop2 μ-loop2 Inv-loop μ-loop
-selected-requires c κs = ?
+selected-requires c κs = search needs
 
 advance-cycles-requires : tie.Need-advance-cycles-requires Inv-loop2 μ-loop2 Inv-loop μ-loop
-advance-cycles-requires c κs = ?
+advance-cycles-requires c κs =
+    next-phase _ _ _ _ _ (c .before .before .before .loop2 .inv .1) (omega (arith, c .before .before .loop2-test .taken, c .before .before .before .loop2 .inv .0))
 
 mul-b : tie.Need-mul-b Inv-loop2 μ-loop2 Inv-loop μ-loop
-mul-b c = ?
+mul-b c = omega (arith, c .before .before .before .loop2-test .taken, c .before .before .before .before .loop2 .inv .0)
 
 way-write-given-b : tie.Need-way-write-given-b Inv-loop2 μ-loop2 Inv-loop μ-loop
-way-write-given-b c = ?
+way-write-given-b c = (omega (arith, c .before .before .before .loop2-test .taken, c .before .before .before .before .loop2 .inv .0), tt)
 
 mul-b-2 : tie.Need-mul-b-2 Inv-loop2 μ-loop2 Inv-loop μ-loop
-mul-b-2 c = ?
+mul-b-2 c = omega (arith, c .before .before .before .before .loop2-test .taken, c .before .before .before .before .before .loop2 .inv .0)
 
 way-write-given-b-2 : tie.Need-way-write-given-b-2 Inv-loop2 μ-loop2 Inv-loop μ-loop
-way-write-given-b-2 c = ?
+way-write-given-b-2 c = (omega (arith, c .before .before .before .before .loop2-test .taken, c .before .before .before .before .before .loop2 .inv .0), tt)
 
 mul-b-3 : tie.Need-mul-b-3 Inv-loop2 μ-loop2 Inv-loop μ-loop
-mul-b-3 c = ?
+mul-b-3 c = omega (arith, c .before .before .before .before .before .loop2-test .taken, c .before .before .before .before .before .before .loop2 .inv .0)
 
 way-write-given-b-3 : tie.Need-way-write-given-b-3 Inv-loop2 μ-loop2 Inv-loop μ-loop
-way-write-given-b-3 c = ?
+way-write-given-b-3 c = (omega (arith, c .before .before .before .before .before .loop2-test .taken, c .before .before .before .before .before .before .loop2 .inv .0), tt)
 
 mul-b-4 : tie.Need-mul-b-4 Inv-loop2 μ-loop2 Inv-loop μ-loop
-mul-b-4 c = ?
+mul-b-4 c = omega (arith, c .before .before .before .before .before .before .loop2-test .taken, c .before .before .before .before .before .before .before .loop2 .inv .0)
 
 way-write-given-b-4 : tie.Need-way-write-given-b-4 Inv-loop2 μ-loop2 Inv-loop μ-loop
-way-write-given-b-4 c = ?
+way-write-given-b-4 c = (omega (arith, c .before .before .before .before .before .before .loop2-test .taken, c .before .before .before .before .before .before .before .loop2 .inv .0), tt)
 
 mul-b-5 : tie.Need-mul-b-5 Inv-loop2 μ-loop2 Inv-loop μ-loop
-mul-b-5 c = ?
+mul-b-5 c = omega (arith, c .before .before .before .before .before .before .before .loop2-test .taken, c .before .before .before .before .before .before .before .before .loop2 .inv .0)
 
 way-write-given-b-5 : tie.Need-way-write-given-b-5 Inv-loop2 μ-loop2 Inv-loop μ-loop
-way-write-given-b-5 c = ?
+way-write-given-b-5 c = (omega (arith, c .before .before .before .before .before .before .before .loop2-test .taken, c .before .before .before .before .before .before .before .before .loop2 .inv .0), tt)
 
 mul-b-6 : tie.Need-mul-b-6 Inv-loop2 μ-loop2 Inv-loop μ-loop
-mul-b-6 c = ?
+mul-b-6 c = omega (arith, c .before .before .before .before .before .before .before .before .loop2-test .taken, c .before .before .before .before .before .before .before .before .before .loop2 .inv .0)
 
 way-write-given-b-6 : tie.Need-way-write-given-b-6 Inv-loop2 μ-loop2 Inv-loop μ-loop
-way-write-given-b-6 c = ?
+way-write-given-b-6 c = (omega (arith, c .before .before .before .before .before .before .before .before .loop2-test .taken, c .before .before .before .before .before .before .before .before .before .loop2 .inv .0), tt)
 
 add-i : tie.Need-add-i Inv-loop2 μ-loop2 Inv-loop μ-loop
-add-i c = ?
+add-i c = omega (arith, c .before .before .before .before .before .before .before .before .before .loop2-test .taken, c .before .before .before .before .before .before .before .before .before .before .loop2 .inv .0)
 
 loop2-less : tie.Need-loop2-less Inv-loop2 μ-loop2 Inv-loop μ-loop
-loop2-less c = ?
+loop2-less c = omega (arith, c .before .before .before .before .before .before .before .before .before .loop2-test .taken, c .before .before .before .before .before .before .before .before .before .before .loop2 .inv .0)
 
 loop2-again : tie.Need-loop2-again Inv-loop2 μ-loop2 Inv-loop μ-loop
-loop2-again c = ?
+loop2-again c =
+    let l = c .before .before .before .before .before .before .before .before .before .before .loop2 in
+    (l .inv .0, turns _ _ _ _ _ (l .inv .1) (omega (arith, c .before .before .before .before .before .before .before .before .before .loop2-test .taken, c .before .before .before .before .before .before .before .before .before .before .loop2 .inv .0)) _ (c .before .before .before .before .before .before .before .selected .ensures) _ (c .before .before .before .before .before .before .advance-cycles .ensures))
 
 advance-requires : tie.Need-advance-requires Inv-loop2 μ-loop2 Inv-loop μ-loop
-advance-requires c κs = ?
-
-line-requires-3 : tie.Need-line-requires-3 Inv-loop2 μ-loop2 Inv-loop μ-loop
-line-requires-3 c κs = ?
-
-with-source-requires-2 : tie.Need-with-source-requires-2 Inv-loop2 μ-loop2 Inv-loop μ-loop
-with-source-requires-2 c κs = ?
-
-passed-requires : tie.Need-passed-requires Inv-loop2 μ-loop2 Inv-loop μ-loop
-passed-requires c κs = search needs
+advance-requires c κs =
+    let i = c .before .before .before .before .before .before .before .before .before .before .before .before .before .before .before .before .loop .inv in
+    still-timed _ _ _ _ _ (c .before .before .loop2 .inv .1) (sound-times _ (i .fits .clock) (i .sound))
 
 deadline-requires : tie.Need-deadline-requires Inv-loop2 μ-loop2 Inv-loop μ-loop
 deadline-requires c κs = c .before .before .before .before .before .before .before .before .loop .inv .sound
@@ -337,23 +548,62 @@ effect-of-requires c κs =
     let refusing = unrefused .before in
     framed _ (clear _ _ (sym (refusing .refusal-of .ensures) ∙ unrefused .if2 .left) .frame) .0
 
+line-requires-2 : tie.Need-line-requires-2 Inv-loop2 μ-loop2 Inv-loop μ-loop
+line-requires-2 c κs = search needs
+
+with-source-requires : tie.Need-with-source-requires Inv-loop2 μ-loop2 Inv-loop μ-loop
+with-source-requires c κs = search needs
+
+answered-requires : tie.Need-answered-requires Inv-loop2 μ-loop2 Inv-loop μ-loop
+answered-requires c κs = search needs
+
 put-record-requires : tie.Need-put-record-requires Inv-loop2 μ-loop2 Inv-loop μ-loop
-put-record-requires c κs = ?
+put-record-requires c κs =
+    let unrefused = c .before .before .before .before .before .before .before .before .before in
+    let refusing = unrefused .before in
+    let looped = refusing .before .before .before in
+    let i = looped .loop .inv in
+    let z = sym (refusing .refusal-of .ensures) ∙ unrefused .if2 .left in
+    let q = c .before .before .before .before .before .before .before .answer-size .ensures in
+    let e =
+    accepted (c .before .before .before .before .before) (c .before .answered .result)
+    (by-line _ _ _ _ _ _ (c .before .answered .ensures) (c .before .before .before .before .line2 .ensures)) in
+    (q ∙ sym (answer-size _ (i .sound) _ _ z _ _ e), omega (arith, q, clear _ _ z .fits, i .same, i .counted, i .room))
 
 add-calls : tie.Need-add-calls Inv-loop2 μ-loop2 Inv-loop μ-loop
 add-calls c =
-    let inside = c .before .before .before .before .before .before .before .before .before .before .before in
+    let inside = c .before .before .before .before .before .before .before .before .before .before .before .before .before .before .before in
     let looped = inside .before in
     let start = looped .before .before .before .before .before in
     omega (arith, looped .loop .inv .calls-in, inside .loop-test .taken, start .good)
 
 loop-less : tie.Need-loop-less Inv-loop2 μ-loop2 Inv-loop μ-loop
 loop-less c =
-    let inside = c .before .before .before .before .before .before .before .before .before .before .before in
+    let inside = c .before .before .before .before .before .before .before .before .before .before .before .before .before .before .before in
     omega (arith, inside .loop-test .taken)
 
 loop-again : tie.Need-loop-again Inv-loop2 μ-loop2 Inv-loop μ-loop
-loop-again c = ?
+loop-again c =
+    let replied = c .before .before .before .before in
+    let lined = replied .before .before .before in
+    let met = lined .before in
+    let wide = met .before in
+    let sized = wide .before in
+    let known = sized .before in
+    let unrefused = known .before in
+    let refusing = unrefused .before in
+    let inside = refusing .before .before in
+    let looped = inside .before in
+    let r = rw part-rest at (refusing .refusal-of .ensures) in
+    let e =
+    accepted met (replied .answered .result) (by-line _ _ _ _ _ _ (replied .answered .ensures) (lined .line2 .ensures))
+    ∙ ap (λ (x : Board). told x (replied .answered .result))
+    (sym (wired-is (met .match .b) _ _ (lined .line2 .ensures) (replied .before .with-source .ensures))) in
+    goes-on _ _ _ _ _ _ _ _ (looped .loop .inv) (inside .loop-test .taken)
+    (λ i. omega (arith, rw part-rest at (known .shared-slice-known2 .given i))) (sym r ∙ unrefused .if2 .left)
+    _ (replied .answered .result) (rw part-rest at e) (c .before .before .put-record .last .0)
+    (rw part-rest at (c .before .before .put-record .ensures)) (wide .width-of .result) (sized .answer-size .result)
+    (rw part-rest at (wide .width-of .ensures)) (rw part-rest at (sized .answer-size .ensures))
 
 same-length-2 : tie.Need-same-length-2 Inv-loop2 μ-loop2 Inv-loop μ-loop
 same-length-2 c = omega (arith, c .before .loop .inv .same)
@@ -391,33 +641,36 @@ run-spec =
     add-next-2
     add-end
     add-end-2
-    address-at-requires
-    read-accepted-requires
     offset-at-requires
+    mul-timer-word
+    timer-word-requires
+    channel-index-requires
+    mul-timer
+    element-copy-out-timer
+    reading-of-requires
+    offset-at-requires-2
     byte-at-requires
     cast-byte
     acknowledged-requires
     enable-written-requires
     mul-clock-written
     clock-written-requires
-    channel-of-requires
-    cast-i
-    mul-timer
-    element-copy-out-timer
+    channel-index-requires-2
+    mul-timer-2
+    element-copy-out-timer-2
     place-of-requires
     mul-write-byte
     write-byte-requires
     mul-written
     element-set-from-written
     line-requires
-    with-source-requires
-    line-requires-2
     exact-deadline-requires
     passing-of-requires
+    channels-requires
     loop2-holds
-    mul-timer-2
-    element-copy-out-timer-2
-    cast-t86
+    mul-timer-3
+    element-copy-out-timer-3
+    cast-t96
     selected-requires
     advance-cycles-requires
     mul-b
@@ -436,11 +689,11 @@ run-spec =
     loop2-less
     loop2-again
     advance-requires
-    line-requires-3
-    with-source-requires-2
-    passed-requires
     deadline-requires
     effect-of-requires
+    line-requires-2
+    with-source-requires
+    answered-requires
     put-record-requires
     add-calls
     loop-less
