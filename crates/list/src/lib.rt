@@ -12,10 +12,10 @@ use controller::SourceNumber;
 use controller::with_source;
 use format::Answer;
 use offsets::Registers;
-use offsets::fields::place_of;
 use offsets::words::timer_word;
-use offsets::writes;
+use offsets::writes::acknowledged;
 use registers::reads;
+use registers::writes;
 use wide::deadline::Deadline;
 
 // The board after a run, the calls done, the list bytes that they used, the answer bytes, and the refusal, 0 for none.
@@ -103,30 +103,23 @@ pub fn run(board: Board, list: &[u8], answers: &mut [u8]) -> Outcome
             3 => {
                 let offset = perform::offset_at(rest);
                 let value = perform::byte_at(rest, 5);
-                let byte = (offset % 4) as usize;
-                match offset {
-                    Registers::TIMER_ENABLE..=Registers::TIMER_ENABLE_LAST => {
-                        let enable = b.timer_enable;
-                        let written = writes::enable_written(enable, byte, value);
-                        b.timer_enable = written;
-                    }
-                    Registers::TIMER_LAST => {
-                        let timers = b.timers;
-                        let cleared = writes::acknowledged(timers, value);
-                        b.timers = cleared;
-                    }
-                    Registers::RTC_CTRL..=Registers::RTC_LAST => {
-                        let clock = b.clock;
-                        let written = writes::clock_written(clock, offset / 4 * 4, byte, value);
-                        b.clock = written;
-                    }
-                    Registers::TIMER_CHANNEL_BASE..=Registers::TIMER_CHANNEL_LAST => {
-                        let i = reads::channel_index(offset);
-                        let timer = b.timers[i];
-                        let written = timer.write_byte(place_of(offset) / 4 * 4, byte, value);
-                        b.timers[i] = written;
-                    }
-                    _ => {}
+                if offset == Registers::TIMER_LAST {
+                    let timers = b.timers;
+                    let cleared = acknowledged(timers, value);
+                    b.timers = cleared;
+                } else if offset < Registers::RTC_CTRL {
+                    let enable = b.timer_enable;
+                    let after = writes::enable_after(enable, offset, value);
+                    b.timer_enable = after;
+                } else if offset < Registers::TIMER_CHANNEL_BASE {
+                    let clock = b.clock;
+                    let after = writes::clock_after(clock, offset, value);
+                    b.clock = after;
+                } else {
+                    let i = reads::channel_index(offset);
+                    let timer = b.timers[i];
+                    let after = writes::timer_after(timer, offset, value);
+                    b.timers[i] = after;
                 }
             }
             4 | 6 => {

@@ -1,16 +1,18 @@
--- A read in the parts that the code computes, of one channel, the clock and the latches. These are not document 01's
--- sentences: the rules are those of Reads, and the proofs show that these parts are them.
-use Prim.Native.Nat.{ℕ, _+_}
+-- A read and a write in the parts that the code computes, of one channel, the clock, the latches and timer enable. These
+-- are not document 01's sentences: the rules are those of Reads and of the writes at offsets, and the proofs show that
+-- these parts are them.
+use Prim.Native.Nat.{ℕ, _+_, _%_}
 use mathlib.Core.Bool.{Bool, cond, _&&_}
 use lib.ListN.{getD, set}
 use lib.Dec.{eqb}
 use Rattle.wide.specs.Words.{lowWord, highWord}
 use Rattle.channel.specs.declared.HardwareTimer.{HardwareTimer}
 use Rattle.channel.specs.Channel.{freshTimer}
-use Rattle.channel.specs.Registers.{countLowAt, countHighAt, wordOf}
+use Rattle.channel.specs.Registers.{countLowAt, countHighAt, wordOf, byteWritten}
 use Rattle.clock.specs.declared.Clock.{Clock}
 use Rattle.clock.specs.Fields.{withAlarm}
 use Rattle.clock.specs.Clock.{clockRate, timeSeconds, checkAlarm}
+use Rattle.clock.specs.Registers.{mergeByte}
 use Rattle.board.specs.declared.Latch.{Latch}
 use Rattle.board.specs.declared.Latch.the-variants.{Empty, Held}
 use Rattle.board.specs.declared.Latches.{Latches}
@@ -30,6 +32,7 @@ use Rattle.offsets.specs.Registers.{
   byteOfWord,
 }
 use Rattle.offsets.specs.Words.{timerWord, clockWord}
+use Rattle.offsets.specs.Writes.{clockWritten}
 use Rattle.registers.specs.declared.reads.Reading.{Reading}
 
 -- ---- where the offset is
@@ -159,3 +162,18 @@ afterReading r b =
       latches = r .latches;
       controller = b .controller;
     }
+
+-- ---- a write
+
+-- timer enable after a byte written at an offset
+unfoldable pub enableAfter : ℕ → ℕ → ℕ → ℕ
+enableAfter offset v n = cond (within 0x184 0x187 offset) (mergeByte (byteOf offset) v n % 16) n
+
+-- the clock after it
+unfoldable pub clockAfter : ℕ → ℕ → Clock → Clock
+clockAfter offset v k = cond (inClock offset) (clockWritten (registerOf offset) (byteOf offset) v k) k
+
+-- the channel whose index the offset has after it
+unfoldable pub timerAfter : ℕ → ℕ → HardwareTimer → HardwareTimer
+timerAfter offset v h =
+    cond (inChannels offset) (byteWritten (registerOf (placeOf offset)) (byteOf offset) v h) h

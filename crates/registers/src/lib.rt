@@ -14,6 +14,7 @@ use offsets::words::timer_word;
 use offsets::writes::written_at;
 
 pub mod reads;
+pub mod writes;
 
 // The refusal of an address itself, 0 for none.
 pub fn address_refusal(address: u16) -> u8

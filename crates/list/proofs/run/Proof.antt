@@ -10,7 +10,8 @@ use lib.ListN.{getD, length, take, drop, length-drop}
 use borrow.Author.Tests.{not-true, not-false, ne-eqb}
 use Rattle.board.specs.declared.Board.{Board}
 use Rattle.board.specs.Board.{sound, line, wired, withTimers, withClock}
-use Rattle.offsets.specs.Registers.{withTimerEnable}
+use Rattle.offsets.specs.Registers.{withTimerEnable, withChannel}
+use Rattle.channel.specs.declared.HardwareTimer.{HardwareTimer}
 use Rattle.clock.specs.declared.Clock.{Clock}
 use Rattle.wide.specs.Deadline.{numberOf}
 use Rattle.format.specs.declared.Answer.{Answer}
@@ -23,16 +24,7 @@ use Rattle.perform.specs.Parts.{told, answeredValue}
 use Rattle.perform.proofs.Told.{deadline-told}
 use Rattle.list.specs.Run.{runOf, over}
 use Rattle.list.proofs.Advances.{Advancing, begins, next-phase, turns, still-timed, all-advanced}
-use Rattle.list.proofs.Writes.{
-  enable-at,
-  ack-at,
-  clock-at,
-  channel-at,
-  below-enable,
-  below-clock,
-  below-channels,
-  above-channels,
-}
+use Rattle.list.proofs.Writes.{ack-at, enable-way, clock-way, channel-way}
 use Rattle.list.proofs.Runs.{Running, Ran, stateOf, begun, ended}
 use Rattle.list.proofs.Accepted.{
   value-in,
@@ -61,17 +53,13 @@ use Rattle.board.proofs.Board.line.Reads as line-reads
 use Rattle.board.proofs.Board.sound.Reads as sound-reads
 use Rattle.channel.proofs.ChannelNumber.selected.Reads as selected-reads
 use Rattle.channel.proofs.HardwareTimer.advance_cycles.Reads as advance-cycles-reads
-use Rattle.channel.proofs.HardwareTimer.write_byte.Reads as write-byte-reads
 use Rattle.clock.proofs.Clock.advance.Reads as advance-reads
 use Rattle.controller.proofs.with_source.Reads as with-source-reads
 use Rattle.format.proofs.put_record.Reads as put-record-reads
 use Rattle.format.proofs.width_of.Reads as width-of-reads
 use Rattle.list.proofs.refusal_of.Reads as refusal-of-reads
-use Rattle.offsets.proofs.fields.place_of.Reads as place-of-reads
 use Rattle.offsets.proofs.words.timer_word.Reads as timer-word-reads
 use Rattle.offsets.proofs.writes.acknowledged.Reads as acknowledged-reads
-use Rattle.offsets.proofs.writes.clock_written.Reads as clock-written-reads
-use Rattle.offsets.proofs.writes.enable_written.Reads as enable-written-reads
 use Rattle.perform.proofs.answer_size.Reads as answer-size-reads
 use Rattle.perform.proofs.answered.Reads as answered-reads
 use Rattle.perform.proofs.byte_at.Reads as byte-at-reads
@@ -81,6 +69,9 @@ use Rattle.perform.proofs.offset_at.Reads as offset-at-reads
 use Rattle.perform.proofs.passing_of.Reads as passing-of-reads
 use Rattle.registers.proofs.reads.channel_index.Reads as channel-index-reads
 use Rattle.registers.proofs.reads.reading_of.Reads as reading-of-reads
+use Rattle.registers.proofs.writes.clock_after.Reads as clock-after-reads
+use Rattle.registers.proofs.writes.enable_after.Reads as enable-after-reads
+use Rattle.registers.proofs.writes.timer_after.Reads as timer-after-reads
 
 abbrev Inv-loop2 : tie.InvT-loop2
 Inv-loop2 list answers b₀ calls used written refusal tag size next end answer cycles high enable count i₀ b i =
@@ -119,14 +110,12 @@ Came = lts.At-match-came (
   byte-at-reads.Learnt,
   acknowledged-reads.Asked,
   acknowledged-reads.Learnt,
-  enable-written-reads.Asked,
-  enable-written-reads.Learnt,
-  clock-written-reads.Asked,
-  clock-written-reads.Learnt,
-  place-of-reads.Asked,
-  place-of-reads.Learnt,
-  write-byte-reads.Asked,
-  write-byte-reads.Learnt,
+  enable-after-reads.Asked,
+  enable-after-reads.Learnt,
+  clock-after-reads.Asked,
+  clock-after-reads.Learnt,
+  timer-after-reads.Asked,
+  timer-after-reads.Learnt,
   line-reads.Asked,
   line-reads.Learnt,
   exact-deadline-reads.Asked,
@@ -180,73 +169,46 @@ accepted c a v =
     ∙ c .before .before .before .before .if2 .left) in
     let bytes : (n : ℕ) → getD l n 0 < 256 =
     λ n. omega (arith, c .before .before .before .shared-slice-known2 .given n) in
-    ⊎-elim
-    (λ w. other-told _ tag _ _ _ _ _ _ a
-    (read-parted b s l tag (w .0 .keys1) (k .own) (w .1 .result) (w .1 .ensures) (w .4 .result) (w .3 .result)
-    (w .4 .ensures .0) (w .3 .ensures) (w .8 .result) (w .8 .ensures))
-    (w .12) (w .13) (ap (λ (n : ℕ). eqb n 4) (w .0 .keys1)) (ap (λ (n : ℕ). eqb n 6) (w .0 .keys1)) v)
-    (⊎-elim
-    (λ w. other-told _ tag _ _ _ _ _ _ a
-    (written-told b s l tag (w .0 .keys2) (k .own) (w .1 .result) (w .2 .result) (w .1 .ensures) (w .2 .ensures)
-    (c .match .b) (w .6 ∙ ap (λ ts. withTimers ts b) (w .5 .ensures) ∙ sym (ack-at (w .1 .result) (w .2 .result) b (w .3 .keys1))))
-    refl (w .7) (ap (λ (n : ℕ). eqb n 4) (w .0 .keys2)) (ap (λ (n : ℕ). eqb n 6) (w .0 .keys2)) v)
-    (⊎-elim
-    (λ w. other-told _ tag _ _ _ _ _ _ a
-    (written-told b s l tag (w .0 .keys2) (k .own) (w .1 .result) (w .2 .result) (w .1 .ensures) (w .2 .ensures)
-    (c .match .b) (w .5 ∙ sym (below-enable (w .1 .result) (w .2 .result) b (w .4 .taken))))
-    refl (w .6) (ap (λ (n : ℕ). eqb n 4) (w .0 .keys2)) (ap (λ (n : ℕ). eqb n 6) (w .0 .keys2)) v)
-    (⊎-elim
-    (λ w. other-told _ tag _ _ _ _ _ _ a
-    (written-told b s l tag (w .0 .keys2) (k .own) (w .1 .result) (w .2 .result) (w .1 .ensures) (w .2 .ensures)
-    (c .match .b) (w .7 ∙ ap (λ (n : ℕ). withTimerEnable n b) (w .6 .ensures) ∙ sym (enable-at (w .1 .result) (w .2 .result) b (w .4 .left) (w .5 .taken))))
-    refl (w .8) (ap (λ (n : ℕ). eqb n 4) (w .0 .keys2)) (ap (λ (n : ℕ). eqb n 6) (w .0 .keys2)) v)
-    (⊎-elim
-    (λ w. other-told _ tag _ _ _ _ _ _ a
-    (written-told b s l tag (w .0 .keys2) (k .own) (w .1 .result) (w .2 .result) (w .1 .ensures) (w .2 .ensures)
-    (c .match .b) (w .7 ∙ sym (below-clock (w .1 .result) (w .2 .result) b (w .5 .left) (w .6 .taken) (w .3 .rest .1))))
-    refl (w .8) (ap (λ (n : ℕ). eqb n 4) (w .0 .keys2)) (ap (λ (n : ℕ). eqb n 6) (w .0 .keys2)) v)
-    (⊎-elim
-    (λ w. other-told _ tag _ _ _ _ _ _ a
-    (written-told b s l tag (w .0 .keys2) (k .own) (w .1 .result) (w .2 .result) (w .1 .ensures) (w .2 .ensures)
-    (c .match .b) (w .10 ∙ ap (λ (x : Clock). withClock x b) (w .9 .ensures) ∙ sym (clock-at (w .1 .result) (w .2 .result) b (w .6 .left) (w .7 .taken))))
-    refl (w .11) (ap (λ (n : ℕ). eqb n 4) (w .0 .keys2)) (ap (λ (n : ℕ). eqb n 6) (w .0 .keys2)) v)
-    (⊎-elim
-    (λ w. other-told _ tag _ _ _ _ _ _ a
-    (written-told b s l tag (w .0 .keys2) (k .own) (w .1 .result) (w .2 .result) (w .1 .ensures) (w .2 .ensures)
-    (c .match .b) (w .9 ∙ sym (below-channels (w .1 .result) (w .2 .result) b (w .7 .left) (w .8 .taken))))
-    refl (w .10) (ap (λ (n : ℕ). eqb n 4) (w .0 .keys2)) (ap (λ (n : ℕ). eqb n 6) (w .0 .keys2)) v)
-    (⊎-elim
-    (λ w. other-told _ tag _ _ _ _ _ _ a
-    (written-told b s l tag (w .0 .keys2) (k .own) (w .1 .result) (w .2 .result) (w .1 .ensures) (w .2 .ensures)
-    (c .match .b) (w .14 ∙ sym (channel-at (w .1 .result) (w .2 .result) b (w .8 .left) (w .9 .taken) (w .10 .result) (w .12 .result) (w .10 .ensures .0) (w .12 .ensures) (w .13 .result) (w .13 .ensures))))
-    refl (w .15) (ap (λ (n : ℕ). eqb n 4) (w .0 .keys2)) (ap (λ (n : ℕ). eqb n 6) (w .0 .keys2)) v)
-    (⊎-elim
-    (λ w. other-told _ tag _ _ _ _ _ _ a
-    (written-told b s l tag (w .0 .keys2) (k .own) (w .1 .result) (w .2 .result) (w .1 .ensures) (w .2 .ensures)
-    (c .match .b) (w .10 ∙ sym (above-channels (w .1 .result) (w .2 .result) b (w .9 .left))))
-    refl (w .11) (ap (λ (n : ℕ). eqb n 4) (w .0 .keys2)) (ap (λ (n : ℕ). eqb n 6) (w .0 .keys2)) v)
-    (⊎-elim
-    (λ w. moved-told b s l tag (w .0 .keys3) (w .1 .high) (numberOf (w .1 .soonest)) (λ e. ⊎-elim (λ u. (u .3 ∙ u .1 .ensures, ap numberOf (u .4) ∙ u .2 .ensures)) (λ u. absurd (u .0 .left e)) (w .1 .came))
-    (w .2 .result) (w .2 .ensures .0) (w .2 .ensures .1) a (valueBytes (c .match .answer)) (w .4 .taken) (c .match .b)
-    (ap wired (w .15)
-    ∙ all-advanced _ _ _ _ _ (w .6 .inv .1) (omega (arith, w .7 .left, w .6 .inv .0)) refl (w .9 .result)
-    (w .9 .ensures))
-    (rw (w .17) at v))
-    (⊎-elim
-    (λ w. unmoved-told b s l tag (w .0 .keys3) (w .1 .high) (numberOf (w .1 .soonest)) (λ e. ⊎-elim (λ u. (u .3 ∙ u .1 .ensures, ap numberOf (u .4) ∙ u .2 .ensures)) (λ u. absurd (u .0 .left e)) (w .1 .came))
-    (w .2 .result) (w .2 .ensures .0) (w .2 .ensures .1) a (valueBytes (c .match .answer)) (w .4 .left) (c .match .b)
-    (w .5) (rw (w .7) at v))
-    (⊎-elim
-    (λ w. other-told _ tag _ _ _ _ _ _ a
-    (wired-told l bytes b (i .fits) s tag _ _
-    (deadline-told b s l tag (w .0 .keys4) (w .1 .result) (w .1 .ensures)))
-    (w .2) (w .3) (ap (λ (n : ℕ). eqb n 4) (w .0 .keys4)) (ap (λ (n : ℕ). eqb n 6) (w .0 .keys4)) v)
-    (λ w. other-told _ tag _ _ _ _ _ _ a
-    (wired-told l bytes b (i .fits) s tag _ _
-    (parted-told b s l tag (k .frame) refl (w .0 .rest .0 .0 .0 .1) (w .0 .rest .0 .0 .1)
-    (w .0 .rest .0 .1) (w .0 .rest .1) (k .own) (w .3 .result) (w .3 .ensures)))
-    (w .7) (w .8) (ne-eqb tag 4 (λ e. w .0 .rest .0 .1 (inl e))) (ne-eqb tag 6 (λ e. w .0 .rest .0 .1 (inr e))) v))))))))))))
-    (c .match .came)
+    elim (c .match .came) [
+      | inl w ↦ other-told _ tag _ _ _ _ _ _ a
+          (read-parted b s l tag (w .0 .keys1) (k .own) (w .1 .result) (w .1 .ensures) (w .4 .result) (w .3 .result)
+          (w .4 .ensures .0) (w .3 .ensures) (w .8 .result) (w .8 .ensures))
+          (w .12) (w .13) (ap (λ (n : ℕ). eqb n 4) (w .0 .keys1)) (ap (λ (n : ℕ). eqb n 6) (w .0 .keys1)) v
+      | inr (inl w) ↦ other-told _ tag _ _ _ _ _ _ a
+          (written-told b s l tag (w .0 .keys2) (k .own) (w .1 .result) (w .2 .result) (w .1 .ensures) (w .2 .ensures)
+          (c .match .b) (w .6 ∙ ap (λ ts. withTimers ts b) (w .5 .ensures) ∙ sym (ack-at (w .1 .result) (w .2 .result) b (w .3 .taken))))
+          refl (w .7) (ap (λ (n : ℕ). eqb n 4) (w .0 .keys2)) (ap (λ (n : ℕ). eqb n 6) (w .0 .keys2)) v
+      | inr (inr (inl w)) ↦ other-told _ tag _ _ _ _ _ _ a
+          (written-told b s l tag (w .0 .keys2) (k .own) (w .1 .result) (w .2 .result) (w .1 .ensures) (w .2 .ensures)
+          (c .match .b) (w .6 ∙ ap (λ (n : ℕ). withTimerEnable n b) (w .5 .ensures) ∙ sym (enable-way (w .1 .result) (w .2 .result) b (w .3 .left) (w .4 .taken))))
+          refl (w .7) (ap (λ (n : ℕ). eqb n 4) (w .0 .keys2)) (ap (λ (n : ℕ). eqb n 6) (w .0 .keys2)) v
+      | inr (inr (inr (inl w))) ↦ other-told _ tag _ _ _ _ _ _ a
+          (written-told b s l tag (w .0 .keys2) (k .own) (w .1 .result) (w .2 .result) (w .1 .ensures) (w .2 .ensures)
+          (c .match .b) (w .8 ∙ ap (λ (x : Clock). withClock x b) (w .7 .ensures) ∙ sym (clock-way (w .1 .result) (w .2 .result) b (w .4 .left) (w .5 .taken))))
+          refl (w .9) (ap (λ (n : ℕ). eqb n 4) (w .0 .keys2)) (ap (λ (n : ℕ). eqb n 6) (w .0 .keys2)) v
+      | inr (inr (inr (inr (inl w)))) ↦ other-told _ tag _ _ _ _ _ _ a
+          (written-told b s l tag (w .0 .keys2) (k .own) (w .1 .result) (w .2 .result) (w .1 .ensures) (w .2 .ensures)
+          (c .match .b) (w .9 ∙ ap (λ (x : HardwareTimer). withChannel (w .6 .result) x b) (w .8 .ensures) ∙ sym (channel-way (w .1 .result) (w .2 .result) b (w .5 .left) (w .6 .result) (w .6 .ensures .0))))
+          refl (w .10) (ap (λ (n : ℕ). eqb n 4) (w .0 .keys2)) (ap (λ (n : ℕ). eqb n 6) (w .0 .keys2)) v
+      | inr (inr (inr (inr (inr (inl w))))) ↦ moved-told b s l tag (w .0 .keys3) (w .1 .high) (numberOf (w .1 .soonest)) (λ e. ⊎-elim (λ u. (u .3 ∙ u .1 .ensures, ap numberOf (u .4) ∙ u .2 .ensures)) (λ u. absurd (u .0 .left e)) (w .1 .came))
+          (w .2 .result) (w .2 .ensures .0) (w .2 .ensures .1) a (valueBytes (c .match .answer)) (w .4 .taken) (c .match .b)
+          (ap wired (w .15)
+          ∙ all-advanced _ _ _ _ _ (w .6 .inv .1) (omega (arith, w .7 .left, w .6 .inv .0)) refl (w .9 .result)
+          (w .9 .ensures))
+          (rw (w .17) at v)
+      | inr (inr (inr (inr (inr (inr (inl w)))))) ↦ unmoved-told b s l tag (w .0 .keys3) (w .1 .high) (numberOf (w .1 .soonest)) (λ e. ⊎-elim (λ u. (u .3 ∙ u .1 .ensures, ap numberOf (u .4) ∙ u .2 .ensures)) (λ u. absurd (u .0 .left e)) (w .1 .came))
+          (w .2 .result) (w .2 .ensures .0) (w .2 .ensures .1) a (valueBytes (c .match .answer)) (w .4 .left) (c .match .b)
+          (w .5) (rw (w .7) at v)
+      | inr (inr (inr (inr (inr (inr (inr (inl w))))))) ↦ other-told _ tag _ _ _ _ _ _ a
+          (wired-told l bytes b (i .fits) s tag _ _
+          (deadline-told b s l tag (w .0 .keys4) (w .1 .result) (w .1 .ensures)))
+          (w .2) (w .3) (ap (λ (n : ℕ). eqb n 4) (w .0 .keys4)) (ap (λ (n : ℕ). eqb n 6) (w .0 .keys4)) v
+      | inr (inr (inr (inr (inr (inr (inr (inr w))))))) ↦ other-told _ tag _ _ _ _ _ _ a
+          (wired-told l bytes b (i .fits) s tag _ _
+          (parted-told b s l tag (k .frame) refl (w .0 .rest .0 .0 .0 .1) (w .0 .rest .0 .0 .1)
+          (w .0 .rest .0 .1) (w .0 .rest .1) (k .own) (w .3 .result) (w .3 .ensures)))
+          (w .7) (w .8) (ne-eqb tag 4 (λ e. w .0 .rest .0 .1 (inl e))) (ne-eqb tag 6 (λ e. w .0 .rest .0 .1 (inr e))) v
+    ]
 
 sound-requires : tie.Need-sound-requires Inv-loop2 μ-loop2 Inv-loop μ-loop
 sound-requires c κs = search needs
@@ -408,22 +370,16 @@ byte-at-requires c κs =
     ∙ unrefused .if2 .left) .frame) (c .before .match .keys2) in
     omega (arith, h)
 
-cast-byte : tie.Need-cast-byte Inv-loop2 μ-loop2 Inv-loop μ-loop
-cast-byte c = search needs
-
 acknowledged-requires : tie.Need-acknowledged-requires Inv-loop2 μ-loop2 Inv-loop μ-loop
 acknowledged-requires c κs = search needs
 
-enable-written-requires : tie.Need-enable-written-requires Inv-loop2 μ-loop2 Inv-loop μ-loop
-enable-written-requires c κs = omega arith
+enable-after-requires : tie.Need-enable-after-requires Inv-loop2 μ-loop2 Inv-loop μ-loop
+enable-after-requires c κs = search needs
 
-mul-clock-written : tie.Need-mul-clock-written Inv-loop2 μ-loop2 Inv-loop μ-loop
-mul-clock-written c = search needs
-
-clock-written-requires : tie.Need-clock-written-requires Inv-loop2 μ-loop2 Inv-loop μ-loop
-clock-written-requires c κs =
-    let i = c .before .before .before .before .before .before .before .before .before .before .before .before .before .before .before .before .loop .inv in
-    (omega arith, sound-times _ (i .fits .clock) (i .sound))
+clock-after-requires : tie.Need-clock-after-requires Inv-loop2 μ-loop2 Inv-loop μ-loop
+clock-after-requires c κs =
+    let i = c .before .before .before .before .before .before .before .before .before .before .before .before .before .before .loop .inv in
+    sound-times _ (i .fits .clock) (i .sound)
 
 channel-index-requires-2 : tie.Need-channel-index-requires-2 Inv-loop2 μ-loop2 Inv-loop μ-loop
 channel-index-requires-2 c κs = search needs
@@ -434,22 +390,14 @@ mul-timer-2 c = omega (arith, c .channel-index2 .ensures .1)
 element-copy-out-timer-2 : tie.Need-element-copy-out-timer-2 Inv-loop2 μ-loop2 Inv-loop μ-loop
 element-copy-out-timer-2 c = c .channel-index2 .ensures .1
 
-place-of-requires : tie.Need-place-of-requires Inv-loop2 μ-loop2 Inv-loop μ-loop
-place-of-requires c κs =
-    let t = c .before .before in
-    (omega (arith, t .before .if7 .left), omega (arith, t .if8 .taken))
+timer-after-requires : tie.Need-timer-after-requires Inv-loop2 μ-loop2 Inv-loop μ-loop
+timer-after-requires c κs = search needs
 
-mul-write-byte : tie.Need-mul-write-byte Inv-loop2 μ-loop2 Inv-loop μ-loop
-mul-write-byte c = search needs
+mul-after : tie.Need-mul-after Inv-loop2 μ-loop2 Inv-loop μ-loop
+mul-after c = omega (arith, c .before .before .channel-index2 .ensures .1)
 
-write-byte-requires : tie.Need-write-byte-requires Inv-loop2 μ-loop2 Inv-loop μ-loop
-write-byte-requires c κs = omega arith
-
-mul-written : tie.Need-mul-written Inv-loop2 μ-loop2 Inv-loop μ-loop
-mul-written c = omega (arith, c .before .before .before .channel-index2 .ensures .1)
-
-element-set-from-written : tie.Need-element-set-from-written Inv-loop2 μ-loop2 Inv-loop μ-loop
-element-set-from-written c = c .before .before .before .channel-index2 .ensures .1
+element-set-from-after : tie.Need-element-set-from-after Inv-loop2 μ-loop2 Inv-loop μ-loop
+element-set-from-after c = c .before .before .channel-index2 .ensures .1
 
 line-requires : tie.Need-line-requires Inv-loop2 μ-loop2 Inv-loop μ-loop
 line-requires c κs = search needs
@@ -477,8 +425,8 @@ mul-timer-3 c = omega (arith, c .loop2-test .taken, c .before .loop2 .inv .0)
 element-copy-out-timer-3 : tie.Need-element-copy-out-timer-3 Inv-loop2 μ-loop2 Inv-loop μ-loop
 element-copy-out-timer-3 c = omega (arith, c .loop2-test .taken, c .before .loop2 .inv .0)
 
-cast-t96 : tie.Need-cast-t96 Inv-loop2 μ-loop2 Inv-loop μ-loop
-cast-t96 c = omega (arith, c .before .loop2-test .taken, c .before .before .loop2 .inv .0)
+cast-t91 : tie.Need-cast-t91 Inv-loop2 μ-loop2 Inv-loop μ-loop
+cast-t91 c = omega (arith, c .before .loop2-test .taken, c .before .before .loop2 .inv .0)
 
 selected-requires : tie.Need-selected-requires Inv-loop2 μ-loop2 Inv-loop μ-loop
 selected-requires c κs = search needs
@@ -650,19 +598,15 @@ run-spec =
     reading-of-requires
     offset-at-requires-2
     byte-at-requires
-    cast-byte
     acknowledged-requires
-    enable-written-requires
-    mul-clock-written
-    clock-written-requires
+    enable-after-requires
+    clock-after-requires
     channel-index-requires-2
     mul-timer-2
     element-copy-out-timer-2
-    place-of-requires
-    mul-write-byte
-    write-byte-requires
-    mul-written
-    element-set-from-written
+    timer-after-requires
+    mul-after
+    element-set-from-after
     line-requires
     exact-deadline-requires
     passing-of-requires
@@ -670,7 +614,7 @@ run-spec =
     loop2-holds
     mul-timer-3
     element-copy-out-timer-3
-    cast-t96
+    cast-t91
     selected-requires
     advance-cycles-requires
     mul-b
