@@ -139,12 +139,7 @@ pub fn run(board: Board, list: &[u8], answers: &mut [u8]) -> Outcome
                         let timer = b.timers[i];
                         let selected = ChannelNumber(i as u8).selected(enable);
                         let moved = timer.advance_cycles(selected, cycles);
-                        b.timers[i].control = moved.control;
-                        b.timers[i].counter = moved.counter;
-                        b.timers[i].compare = moved.compare;
-                        b.timers[i].phase = moved.phase;
-                        b.timers[i].pending = moved.pending;
-                        b.timers[i].armed = moved.armed;
+                        b.timers[i] = moved;
                         i += 1;
                     }
                     let clock = b.clock;

@@ -435,52 +435,22 @@ advance-cycles-requires : tie.Need-advance-cycles-requires Inv-loop2 μ-loop2 In
 advance-cycles-requires c κs =
     next-phase _ _ _ _ _ (c .before .before .before .loop2 .inv .1) (omega (arith, c .before .before .loop2-test .taken, c .before .before .before .loop2 .inv .0))
 
-mul-b : tie.Need-mul-b Inv-loop2 μ-loop2 Inv-loop μ-loop
-mul-b c = omega (arith, c .before .before .before .loop2-test .taken, c .before .before .before .before .loop2 .inv .0)
+mul-moved : tie.Need-mul-moved Inv-loop2 μ-loop2 Inv-loop μ-loop
+mul-moved c = omega (arith, c .before .before .before .loop2-test .taken, c .before .before .before .before .loop2 .inv .0)
 
-way-write-given-b : tie.Need-way-write-given-b Inv-loop2 μ-loop2 Inv-loop μ-loop
-way-write-given-b c = (omega (arith, c .before .before .before .loop2-test .taken, c .before .before .before .before .loop2 .inv .0), tt)
-
-mul-b-2 : tie.Need-mul-b-2 Inv-loop2 μ-loop2 Inv-loop μ-loop
-mul-b-2 c = omega (arith, c .before .before .before .before .loop2-test .taken, c .before .before .before .before .before .loop2 .inv .0)
-
-way-write-given-b-2 : tie.Need-way-write-given-b-2 Inv-loop2 μ-loop2 Inv-loop μ-loop
-way-write-given-b-2 c = (omega (arith, c .before .before .before .before .loop2-test .taken, c .before .before .before .before .before .loop2 .inv .0), tt)
-
-mul-b-3 : tie.Need-mul-b-3 Inv-loop2 μ-loop2 Inv-loop μ-loop
-mul-b-3 c = omega (arith, c .before .before .before .before .before .loop2-test .taken, c .before .before .before .before .before .before .loop2 .inv .0)
-
-way-write-given-b-3 : tie.Need-way-write-given-b-3 Inv-loop2 μ-loop2 Inv-loop μ-loop
-way-write-given-b-3 c = (omega (arith, c .before .before .before .before .before .loop2-test .taken, c .before .before .before .before .before .before .loop2 .inv .0), tt)
-
-mul-b-4 : tie.Need-mul-b-4 Inv-loop2 μ-loop2 Inv-loop μ-loop
-mul-b-4 c = omega (arith, c .before .before .before .before .before .before .loop2-test .taken, c .before .before .before .before .before .before .before .loop2 .inv .0)
-
-way-write-given-b-4 : tie.Need-way-write-given-b-4 Inv-loop2 μ-loop2 Inv-loop μ-loop
-way-write-given-b-4 c = (omega (arith, c .before .before .before .before .before .before .loop2-test .taken, c .before .before .before .before .before .before .before .loop2 .inv .0), tt)
-
-mul-b-5 : tie.Need-mul-b-5 Inv-loop2 μ-loop2 Inv-loop μ-loop
-mul-b-5 c = omega (arith, c .before .before .before .before .before .before .before .loop2-test .taken, c .before .before .before .before .before .before .before .before .loop2 .inv .0)
-
-way-write-given-b-5 : tie.Need-way-write-given-b-5 Inv-loop2 μ-loop2 Inv-loop μ-loop
-way-write-given-b-5 c = (omega (arith, c .before .before .before .before .before .before .before .loop2-test .taken, c .before .before .before .before .before .before .before .before .loop2 .inv .0), tt)
-
-mul-b-6 : tie.Need-mul-b-6 Inv-loop2 μ-loop2 Inv-loop μ-loop
-mul-b-6 c = omega (arith, c .before .before .before .before .before .before .before .before .loop2-test .taken, c .before .before .before .before .before .before .before .before .before .loop2 .inv .0)
-
-way-write-given-b-6 : tie.Need-way-write-given-b-6 Inv-loop2 μ-loop2 Inv-loop μ-loop
-way-write-given-b-6 c = (omega (arith, c .before .before .before .before .before .before .before .before .loop2-test .taken, c .before .before .before .before .before .before .before .before .before .loop2 .inv .0), tt)
+element-set-from-moved : tie.Need-element-set-from-moved Inv-loop2 μ-loop2 Inv-loop μ-loop
+element-set-from-moved c = omega (arith, c .before .before .before .loop2-test .taken, c .before .before .before .before .loop2 .inv .0)
 
 add-i : tie.Need-add-i Inv-loop2 μ-loop2 Inv-loop μ-loop
-add-i c = omega (arith, c .before .before .before .before .before .before .before .before .before .loop2-test .taken, c .before .before .before .before .before .before .before .before .before .before .loop2 .inv .0)
+add-i c = omega (arith, c .before .before .before .loop2-test .taken, c .before .before .before .before .loop2 .inv .0)
 
 loop2-less : tie.Need-loop2-less Inv-loop2 μ-loop2 Inv-loop μ-loop
-loop2-less c = omega (arith, c .before .before .before .before .before .before .before .before .before .loop2-test .taken, c .before .before .before .before .before .before .before .before .before .before .loop2 .inv .0)
+loop2-less c = omega (arith, c .before .before .before .loop2-test .taken, c .before .before .before .before .loop2 .inv .0)
 
 loop2-again : tie.Need-loop2-again Inv-loop2 μ-loop2 Inv-loop μ-loop
 loop2-again c =
-    let l = c .before .before .before .before .before .before .before .before .before .before .loop2 in
-    (l .inv .0, turns _ _ _ _ _ (l .inv .1) (omega (arith, c .before .before .before .before .before .before .before .before .before .loop2-test .taken, c .before .before .before .before .before .before .before .before .before .before .loop2 .inv .0)) _ (c .before .before .before .before .before .before .before .selected .ensures) _ (c .before .before .before .before .before .before .advance-cycles .ensures))
+    let l = c .before .before .before .before .loop2 in
+    (l .inv .0, turns _ _ _ _ _ (l .inv .1) (omega (arith, c .before .before .before .loop2-test .taken, c .before .before .before .before .loop2 .inv .0)) _ (c .before .selected .ensures) _ (c .advance-cycles .ensures))
 
 advance-requires : tie.Need-advance-requires Inv-loop2 μ-loop2 Inv-loop μ-loop
 advance-requires c κs =
@@ -617,18 +587,8 @@ run-spec =
     cast-t91
     selected-requires
     advance-cycles-requires
-    mul-b
-    way-write-given-b
-    mul-b-2
-    way-write-given-b-2
-    mul-b-3
-    way-write-given-b-3
-    mul-b-4
-    way-write-given-b-4
-    mul-b-5
-    way-write-given-b-5
-    mul-b-6
-    way-write-given-b-6
+    mul-moved
+    element-set-from-moved
     add-i
     loop2-less
     loop2-again
