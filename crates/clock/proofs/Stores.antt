@@ -1,5 +1,4 @@
--- What an advance and an alarm check leave of a clock: who stores the fields that they change has stored the whole.
--- Assumes nothing.
+-- What an advance leaves of a clock: who stores the fields that it changes has stored the whole. Assumes nothing.
 use Prim.Native.Nat.{ℕ, _+_, _%_}
 use mathlib.Core.Path.{_≡_, refl}
 use lib.Dec.{leb}
@@ -27,30 +26,6 @@ stored k r = record {
   «alarm_shadow» = k .«alarm_shadow»;
   host = k .host;
 }
-
--- k with the alarm's two flags of r stored in it
-abbrev pub flagsStored : Clock → Clock → Clock
-flagsStored k r = record {
-  control = k .control;
-  seconds = k .seconds;
-  subsecond = k .subsecond;
-  offset = k .offset;
-  alarm = record {
-    enable = k .alarm .enable;
-    seconds = k .alarm .seconds;
-    pending = r .alarm .pending;
-    armed = r .alarm .armed;
-  };
-  shadow = k .shadow;
-  poll = k .poll;
-  «alarm_shadow» = k .«alarm_shadow»;
-  host = k .host;
-}
-
-pub check-stores : (rate : ℕ) (k : Clock) → flagsStored k (checkAlarm rate k) ≡ checkAlarm rate k
-unfolding checkAlarm
-check-stores rate k =
-    choose (λ (r : Clock). flagsStored k r ≡ r) (alarmReached rate k) (λ _. refl) (λ _. refl)
 
 abbrev Whole : Clock → Clock → Type 0
 Whole k r = stored k r ≡ r

@@ -87,8 +87,7 @@ pub fn run(board: Board, list: &[u8], answers: &mut [u8]) -> Outcome
             2 => {
                 let offset = perform::offset_at(rest);
                 let timers = b.timers;
-                let enable = b.timer_enable;
-                let shared = timer_word(timers, enable, offset / 4 * 4);
+                let shared = timer_word(timers, b.timer_enable, offset / 4 * 4);
                 let i = reads::channel_index(offset);
                 let timer = b.timers[i];
                 let clock = b.clock;
@@ -108,8 +107,7 @@ pub fn run(board: Board, list: &[u8], answers: &mut [u8]) -> Outcome
                     let cleared = acknowledged(timers, value);
                     b.timers = cleared;
                 } else if offset < Registers::RTC_CTRL {
-                    let enable = b.timer_enable;
-                    let after = writes::enable_after(enable, offset, value);
+                    let after = writes::enable_after(b.timer_enable, offset, value);
                     b.timer_enable = after;
                 } else if offset < Registers::TIMER_CHANNEL_BASE {
                     let clock = b.clock;
@@ -158,10 +156,8 @@ pub fn run(board: Board, list: &[u8], answers: &mut [u8]) -> Outcome
                 let clock = b.clock;
                 let controller = b.controller;
                 let e = perform::effect_of(clock.host, controller, tag, rest);
-                let seconds = e.host.seconds;
-                b.clock.host.seconds = seconds;
-                let nanoseconds = e.host.nanoseconds;
-                b.clock.host.nanoseconds = nanoseconds;
+                b.clock.host.seconds = e.host.seconds;
+                b.clock.host.nanoseconds = e.host.nanoseconds;
                 let after = e.controller;
                 b.controller = after;
                 answer = e.answer;

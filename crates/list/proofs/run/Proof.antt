@@ -425,8 +425,8 @@ mul-timer-3 c = omega (arith, c .loop2-test .taken, c .before .loop2 .inv .0)
 element-copy-out-timer-3 : tie.Need-element-copy-out-timer-3 Inv-loop2 μ-loop2 Inv-loop μ-loop
 element-copy-out-timer-3 c = omega (arith, c .loop2-test .taken, c .before .loop2 .inv .0)
 
-cast-t91 : tie.Need-cast-t91 Inv-loop2 μ-loop2 Inv-loop μ-loop
-cast-t91 c = omega (arith, c .before .loop2-test .taken, c .before .before .loop2 .inv .0)
+cast-t89 : tie.Need-cast-t89 Inv-loop2 μ-loop2 Inv-loop μ-loop
+cast-t89 c = omega (arith, c .before .loop2-test .taken, c .before .before .loop2 .inv .0)
 
 selected-requires : tie.Need-selected-requires Inv-loop2 μ-loop2 Inv-loop μ-loop
 selected-requires c κs = search needs
@@ -584,7 +584,7 @@ run-spec =
     loop2-holds
     mul-timer-3
     element-copy-out-timer-3
-    cast-t91
+    cast-t89
     selected-requires
     advance-cycles-requires
     mul-moved
