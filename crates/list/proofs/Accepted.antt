@@ -189,9 +189,12 @@ module _ (b : Board) (s : sound b ≡ true) (l : List ℕ) (tag : ℕ) where
       rw e (read-told b s l tag t z _ (sym (read-parts (beAt l 3 2) b)))
 
   pub written-told : tag ≡ 3 → ownRefusal tag l ≡ 0 → (offset value : ℕ) → offset ≡ beAt l 3 2 + base →
-      value ≡ beAt l 5 1 → (y : Board) → y ≡ writtenAt offset value b → callAt tag l b ≡ told (wired y) Empty
+      value ≡ beAt l 5 1 → (y : Board) → y ≡ writtenAt offset value b → (a₀ : Answer) → a₀ ≡ Empty → (a : Answer)
+      (c : ℕ) (v : Bool) → valueBytes a ≡ answeredValue tag c v (valueBytes a₀) → callAt tag l b ≡ told (wired y) a
   unfolding writtenBoard
-  written-told t z offset value p q y e = rw (e, p, q) (write-told b s l tag t z)
+  written-told t z offset value p q y e a₀ f a c v h =
+      other-told (callAt tag l b) tag c v y (writtenAt offset value b) a₀ Empty a
+      (rw (p, q) (write-told b s l tag t z)) e f (rw t refl) (rw t refl) h
 
   -- what advance or skip does, by the line v and the deadline d that skip has asked for
   module _ (t : (tag ≡ 4) ⊎ (tag ≡ 6)) (v : Bool) (d : Option ℕ)

@@ -243,8 +243,9 @@ module _ (b : Board) (s : sound b ≡ true) (l : List ℕ) where
         rw t (accepted-empty (addressRefusal (beAt l 3 2)) (writtenBoard (beAt l 3 2) (beAt l 5 1) b) q)
 
     -- the advance that advance or skip makes
-    pub advance-told : (tag ≡ 4) ⊎ (tag ≡ 6) → (c : ℕ) → cyclesAt tag l (line b) (exactDeadline b) ≡ some c → (a : Answer) →
-        (l′ : List ℕ) → valueBytes a ≡ answeredValue tag c (line (advancedBoard c b)) l′ → Is (advancedBoard c b) a
+    pub advance-told : (tag ≡ 4) ⊎ (tag ≡ 6) → (c : ℕ) → cyclesAt tag l (line b) (exactDeadline b) ≡ some c →
+        (a : Answer) (l′ : List ℕ) → valueBytes a ≡ answeredValue tag c (line (advancedBoard c b)) l′ →
+        Is (advancedBoard c b) a
     unfolding callAt cyclesAt answeredValue advanceCall
     advance-told (inl t) c e a l′ v =
         let f : some (beAt l 3 8) ≡ some c = rw t at e in

@@ -1,6 +1,6 @@
--- A read and a write in the parts that the code computes, of one channel, the clock, the latches and timer enable. These
--- are not document 01's sentences: the rules are those of Reads and of the writes at offsets, and the proofs show that
--- these parts are them.
+-- A read and a write in the parts that the code computes, of one channel, the clock, the latches and timer enable.
+-- These are not document 01's sentences: the rules are those of Reads and of the writes at offsets, and the proofs show
+-- that these parts are them.
 use Prim.Native.Nat.{ℕ, _+_, _%_}
 use mathlib.Core.Bool.{Bool, cond, _&&_}
 use lib.ListN.{getD, set}

@@ -170,35 +170,53 @@ accepted c a v =
     let bytes : (n : ℕ) → getD l n 0 < 256 =
     λ n. omega (arith, c .before .before .before .shared-slice-known2 .given n) in
     elim (c .match .came) [
+      -- a read
       | inl w ↦ other-told _ tag _ _ _ _ _ _ a
           (read-parted b s l tag (w .0 .keys1) (k .own) (w .1 .result) (w .1 .ensures) (w .4 .result) (w .3 .result)
           (w .4 .ensures .0) (w .3 .ensures) (w .8 .result) (w .8 .ensures))
           (w .12) (w .13) (ap (λ (n : ℕ). eqb n 4) (w .0 .keys1)) (ap (λ (n : ℕ). eqb n 6) (w .0 .keys1)) v
-      | inr (inl w) ↦ other-told _ tag _ _ _ _ _ _ a
-          (written-told b s l tag (w .0 .keys2) (k .own) (w .1 .result) (w .2 .result) (w .1 .ensures) (w .2 .ensures)
-          (c .match .b) (w .6 ∙ ap (λ ts. withTimers ts b) (w .5 .ensures) ∙ sym (ack-at (w .1 .result) (w .2 .result) b (w .3 .taken))))
-          refl (w .7) (ap (λ (n : ℕ). eqb n 4) (w .0 .keys2)) (ap (λ (n : ℕ). eqb n 6) (w .0 .keys2)) v
-      | inr (inr (inl w)) ↦ other-told _ tag _ _ _ _ _ _ a
-          (written-told b s l tag (w .0 .keys2) (k .own) (w .1 .result) (w .2 .result) (w .1 .ensures) (w .2 .ensures)
-          (c .match .b) (w .6 ∙ ap (λ (n : ℕ). withTimerEnable n b) (w .5 .ensures) ∙ sym (enable-way (w .1 .result) (w .2 .result) b (w .3 .left) (w .4 .taken))))
-          refl (w .7) (ap (λ (n : ℕ). eqb n 4) (w .0 .keys2)) (ap (λ (n : ℕ). eqb n 6) (w .0 .keys2)) v
-      | inr (inr (inr (inl w))) ↦ other-told _ tag _ _ _ _ _ _ a
-          (written-told b s l tag (w .0 .keys2) (k .own) (w .1 .result) (w .2 .result) (w .1 .ensures) (w .2 .ensures)
-          (c .match .b) (w .8 ∙ ap (λ (x : Clock). withClock x b) (w .7 .ensures) ∙ sym (clock-way (w .1 .result) (w .2 .result) b (w .4 .left) (w .5 .taken))))
-          refl (w .9) (ap (λ (n : ℕ). eqb n 4) (w .0 .keys2)) (ap (λ (n : ℕ). eqb n 6) (w .0 .keys2)) v
-      | inr (inr (inr (inr (inl w)))) ↦ other-told _ tag _ _ _ _ _ _ a
-          (written-told b s l tag (w .0 .keys2) (k .own) (w .1 .result) (w .2 .result) (w .1 .ensures) (w .2 .ensures)
-          (c .match .b) (w .9 ∙ ap (λ (x : HardwareTimer). withChannel (w .6 .result) x b) (w .8 .ensures) ∙ sym (channel-way (w .1 .result) (w .2 .result) b (w .5 .left) (w .6 .result) (w .6 .ensures .0))))
-          refl (w .10) (ap (λ (n : ℕ). eqb n 4) (w .0 .keys2)) (ap (λ (n : ℕ). eqb n 6) (w .0 .keys2)) v
-      | inr (inr (inr (inr (inr (inl w))))) ↦ moved-told b s l tag (w .0 .keys3) (w .1 .high) (numberOf (w .1 .soonest)) (λ e. ⊎-elim (λ u. (u .3 ∙ u .1 .ensures, ap numberOf (u .4) ∙ u .2 .ensures)) (λ u. absurd (u .0 .left e)) (w .1 .came))
-          (w .2 .result) (w .2 .ensures .0) (w .2 .ensures .1) a (valueBytes (c .match .answer)) (w .4 .taken) (c .match .b)
+      -- the arms of a write
+      | inr (inl w) ↦ written-told b s l tag (w .0 .keys2) (k .own) (w .1 .result) (w .2 .result) (w .1 .ensures)
+          (w .2 .ensures) (c .match .b)
+          (w .6 ∙ ap (λ ts. withTimers ts b) (w .5 .ensures) ∙ sym (ack-at (w .1 .result) (w .2 .result) b
+          (w .3 .taken)))
+          (c .match .answer) (w .7) a _ _ v
+      | inr (inr (inl w)) ↦ written-told b s l tag (w .0 .keys2) (k .own) (w .1 .result) (w .2 .result) (w .1 .ensures)
+          (w .2 .ensures) (c .match .b)
+          (w .6 ∙ ap (λ (n : ℕ). withTimerEnable n b) (w .5 .ensures)
+          ∙ sym (enable-way (w .1 .result) (w .2 .result) b (w .3 .left) (w .4 .taken)))
+          (c .match .answer) (w .7) a _ _ v
+      | inr (inr (inr (inl w))) ↦ written-told b s l tag (w .0 .keys2) (k .own) (w .1 .result) (w .2 .result)
+          (w .1 .ensures)
+          (w .2 .ensures) (c .match .b)
+          (w .8 ∙ ap (λ (x : Clock). withClock x b) (w .7 .ensures)
+          ∙ sym (clock-way (w .1 .result) (w .2 .result) b (w .4 .left) (w .5 .taken)))
+          (c .match .answer) (w .9) a _ _ v
+      | inr (inr (inr (inr (inl w)))) ↦ written-told b s l tag (w .0 .keys2) (k .own) (w .1 .result) (w .2 .result)
+          (w .1 .ensures)
+          (w .2 .ensures) (c .match .b)
+          (w .9 ∙ ap (λ (x : HardwareTimer). withChannel (w .6 .result) x b) (w .8 .ensures)
+          ∙ sym (channel-way (w .1 .result) (w .2 .result) b (w .5 .left) (w .6 .result) (w .6 .ensures .0)))
+          (c .match .answer) (w .10) a _ _ v
+      -- an advance is made, or none
+      | inr (inr (inr (inr (inr (inl w))))) ↦ moved-told b s l tag (w .0 .keys3) (w .1 .high) (numberOf
+          (w .1 .soonest))
+          (λ e. ⊎-elim (λ u. (u .3 ∙ u .1 .ensures, ap numberOf (u .4) ∙ u .2 .ensures)) (λ u. absurd (u .0 .left e))
+          (w .1 .came))
+          (w .2 .result) (w .2 .ensures .0) (w .2 .ensures .1) a (valueBytes (c .match .answer)) (w .4 .taken)
+          (c .match .b)
           (ap wired (w .15)
           ∙ all-advanced _ _ _ _ _ (w .6 .inv .1) (omega (arith, w .7 .left, w .6 .inv .0)) refl (w .9 .result)
           (w .9 .ensures))
           (rw (w .17) at v)
-      | inr (inr (inr (inr (inr (inr (inl w)))))) ↦ unmoved-told b s l tag (w .0 .keys3) (w .1 .high) (numberOf (w .1 .soonest)) (λ e. ⊎-elim (λ u. (u .3 ∙ u .1 .ensures, ap numberOf (u .4) ∙ u .2 .ensures)) (λ u. absurd (u .0 .left e)) (w .1 .came))
-          (w .2 .result) (w .2 .ensures .0) (w .2 .ensures .1) a (valueBytes (c .match .answer)) (w .4 .left) (c .match .b)
+      | inr (inr (inr (inr (inr (inr (inl w)))))) ↦ unmoved-told b s l tag (w .0 .keys3) (w .1 .high) (numberOf
+          (w .1 .soonest))
+          (λ e. ⊎-elim (λ u. (u .3 ∙ u .1 .ensures, ap numberOf (u .4) ∙ u .2 .ensures)) (λ u. absurd (u .0 .left e))
+          (w .1 .came))
+          (w .2 .result) (w .2 .ensures .0) (w .2 .ensures .1) a (valueBytes (c .match .answer)) (w .4 .left)
+          (c .match .b)
           (w .5) (rw (w .7) at v)
+      -- the deadline, and the calls that change host time or the controller at most
       | inr (inr (inr (inr (inr (inr (inr (inl w))))))) ↦ other-told _ tag _ _ _ _ _ _ a
           (wired-told l bytes b (i .fits) s tag _ _
           (deadline-told b s l tag (w .0 .keys4) (w .1 .result) (w .1 .ensures)))
@@ -351,7 +369,8 @@ element-copy-out-timer c = c .channel-index .ensures .1
 
 reading-of-requires : tie.Need-reading-of-requires Inv-loop2 μ-loop2 Inv-loop μ-loop
 reading-of-requires c κs =
-    let i = c .before .before .before .before .before .before .before .before .before .before .before .before .before .before .before .loop .inv in
+    let i = c .before .before .before .before .before .before .before .before .before .before .before .before
+    .before .before .before .loop .inv in
     sound-times _ (i .fits .clock) (i .sound)
 
 offset-at-requires-2 : tie.Need-offset-at-requires-2 Inv-loop2 μ-loop2 Inv-loop μ-loop
@@ -378,7 +397,8 @@ enable-after-requires c κs = search needs
 
 clock-after-requires : tie.Need-clock-after-requires Inv-loop2 μ-loop2 Inv-loop μ-loop
 clock-after-requires c κs =
-    let i = c .before .before .before .before .before .before .before .before .before .before .before .before .before .before .loop .inv in
+    let i = c .before .before .before .before .before .before .before .before .before .before .before .before
+    .before .before .loop .inv in
     sound-times _ (i .fits .clock) (i .sound)
 
 channel-index-requires-2 : tie.Need-channel-index-requires-2 Inv-loop2 μ-loop2 Inv-loop μ-loop
@@ -403,7 +423,8 @@ line-requires : tie.Need-line-requires Inv-loop2 μ-loop2 Inv-loop μ-loop
 line-requires c κs = search needs
 
 exact-deadline-requires : tie.Need-exact-deadline-requires Inv-loop2 μ-loop2 Inv-loop μ-loop
-exact-deadline-requires c κs = c .before .before .before .before .before .before .before .before .before .before .loop .inv .sound
+exact-deadline-requires c κs = c .before .before .before .before .before .before .before .before .before
+    .before .loop .inv .sound
 
 passing-of-requires : tie.Need-passing-of-requires Inv-loop2 μ-loop2 Inv-loop μ-loop
 passing-of-requires c κs =
@@ -416,7 +437,8 @@ channels-requires c κs = search needs
 
 loop2-holds : tie.Need-loop2-holds Inv-loop2 μ-loop2 Inv-loop μ-loop
 loop2-holds c =
-    let i = c .before .before .before .before .before .before .before .before .before .before .before .before .before .loop .inv in
+    let i = c .before .before .before .before .before .before .before .before .before .before .before .before
+    .before .loop .inv in
     (c .channels .ensures .0, begins _ _ _ (c .channels .ensures .1) (sound-facts _ (i .sound) .timers))
 
 mul-timer-3 : tie.Need-mul-timer-3 Inv-loop2 μ-loop2 Inv-loop μ-loop
@@ -433,28 +455,56 @@ selected-requires c κs = search needs
 
 advance-cycles-requires : tie.Need-advance-cycles-requires Inv-loop2 μ-loop2 Inv-loop μ-loop
 advance-cycles-requires c κs =
-    next-phase _ _ _ _ _ (c .before .before .before .loop2 .inv .1) (omega (arith, c .before .before .loop2-test .taken, c .before .before .before .loop2 .inv .0))
+    next-phase _ _ _ _ _ (c .before .before .before .loop2 .inv .1) (omega (
+      arith,
+      c .before
+          .before .loop2-test .taken,
+      c .before .before .before .loop2 .inv .0,
+    ))
 
 mul-moved : tie.Need-mul-moved Inv-loop2 μ-loop2 Inv-loop μ-loop
-mul-moved c = omega (arith, c .before .before .before .loop2-test .taken, c .before .before .before .before .loop2 .inv .0)
+mul-moved c = omega (
+  arith,
+  c .before .before .before .loop2-test .taken,
+  c .before .before .before
+      .before .loop2 .inv .0,
+)
 
 element-set-from-moved : tie.Need-element-set-from-moved Inv-loop2 μ-loop2 Inv-loop μ-loop
-element-set-from-moved c = omega (arith, c .before .before .before .loop2-test .taken, c .before .before .before .before .loop2 .inv .0)
+element-set-from-moved c = omega (
+  arith,
+  c .before .before .before .loop2-test .taken,
+  c .before .before
+      .before .before .loop2 .inv .0,
+)
 
 add-i : tie.Need-add-i Inv-loop2 μ-loop2 Inv-loop μ-loop
 add-i c = omega (arith, c .before .before .before .loop2-test .taken, c .before .before .before .before .loop2 .inv .0)
 
 loop2-less : tie.Need-loop2-less Inv-loop2 μ-loop2 Inv-loop μ-loop
-loop2-less c = omega (arith, c .before .before .before .loop2-test .taken, c .before .before .before .before .loop2 .inv .0)
+loop2-less c = omega (
+  arith,
+  c .before .before .before .loop2-test .taken,
+  c .before .before .before
+      .before .loop2 .inv .0,
+)
 
 loop2-again : tie.Need-loop2-again Inv-loop2 μ-loop2 Inv-loop μ-loop
 loop2-again c =
-    let l = c .before .before .before .before .loop2 in
-    (l .inv .0, turns _ _ _ _ _ (l .inv .1) (omega (arith, c .before .before .before .loop2-test .taken, c .before .before .before .before .loop2 .inv .0)) _ (c .before .selected .ensures) _ (c .advance-cycles .ensures))
+    let l = c .before .before .before .before .loop2 in (
+      l .inv .0,
+      turns _ _ _ _ _ (l .inv .1) (omega (
+        arith,
+        c .before .before .before .loop2-test .taken,
+        c
+            .before .before .before .before .loop2 .inv .0,
+      )) _ (c .before .selected .ensures) _ (c .advance-cycles .ensures),
+    )
 
 advance-requires : tie.Need-advance-requires Inv-loop2 μ-loop2 Inv-loop μ-loop
 advance-requires c κs =
-    let i = c .before .before .before .before .before .before .before .before .before .before .before .before .before .before .before .before .loop .inv in
+    let i = c .before .before .before .before .before .before .before .before .before .before .before .before
+    .before .before .before .before .loop .inv in
     still-timed _ _ _ _ _ (c .before .before .loop2 .inv .1) (sound-times _ (i .fits .clock) (i .sound))
 
 deadline-requires : tie.Need-deadline-requires Inv-loop2 μ-loop2 Inv-loop μ-loop
@@ -490,14 +540,16 @@ put-record-requires c κs =
 
 add-calls : tie.Need-add-calls Inv-loop2 μ-loop2 Inv-loop μ-loop
 add-calls c =
-    let inside = c .before .before .before .before .before .before .before .before .before .before .before .before .before .before .before in
+    let inside = c .before .before .before .before .before .before .before .before .before .before .before
+    .before .before .before .before in
     let looped = inside .before in
     let start = looped .before .before .before .before .before in
     omega (arith, looped .loop .inv .calls-in, inside .loop-test .taken, start .good)
 
 loop-less : tie.Need-loop-less Inv-loop2 μ-loop2 Inv-loop μ-loop
 loop-less c =
-    let inside = c .before .before .before .before .before .before .before .before .before .before .before .before .before .before .before in
+    let inside = c .before .before .before .before .before .before .before .before .before .before .before
+    .before .before .before .before in
     omega (arith, inside .loop-test .taken)
 
 loop-again : tie.Need-loop-again Inv-loop2 μ-loop2 Inv-loop μ-loop
