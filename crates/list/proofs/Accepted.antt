@@ -21,13 +21,11 @@ use Rattle.board.specs.Board.{BoardFits, withClock, withController, line, exact
 use Rattle.board.specs.Calls.{advancedBoard, isPresent, orZero}
 use Rattle.board.proofs.Soundness.{facts-sound, wired-sound}
 use Rattle.board.proofs.Steps.{Good, good, wired-line}
-use Rattle.channel.specs.Channel.{freshTimer}
-use Rattle.offsets.specs.Registers.{base, registerOf}
-use Rattle.offsets.specs.Words.{timerWord}
+use Rattle.offsets.specs.Registers.{base}
 use Rattle.offsets.specs.Writes.{writtenAt}
 use Rattle.registers.specs.declared.reads.Reading.{Reading}
 use Rattle.registers.specs.Calls.{writtenBoard}
-use Rattle.registers.specs.Parts.{channelIndex, readingOf, readingAt, afterReading}
+use Rattle.registers.specs.Parts.{offsetReading, readingAt, afterReading}
 use Rattle.registers.proofs.Parts.{read-parts}
 use Rattle.format.specs.declared.Answer.{Answer}
 use Rattle.format.specs.declared.Answer.the-variants.{Empty, Byte}
@@ -180,12 +178,10 @@ absent (some d) made c p q t = absurd (false≢true (sym t ∙ p))
 
 module _ (b : Board) (s : sound b ≡ true) (l : List ℕ) (tag : ℕ) where
   -- y is the board before source 3 is set
-  pub read-parted : tag ≡ 2 → ownRefusal tag l ≡ 0 → (offset : ℕ) → offset ≡ beAt l 3 2 + base → (i shared : ℕ) →
-      i ≡ channelIndex offset → shared ≡ timerWord (registerOf offset) (b .«timer_enable») (b .timers) →
-      (r : Reading) → r ≡ readingOf (getD (b .timers) i freshTimer) shared (b .clock) (b .latches) offset →
-      callAt tag l b ≡ told (wired (afterReading r b)) (Byte (r .byte))
-  read-parted t z offset p i shared n h r q =
-      let e : r ≡ readingAt (beAt l 3 2) b = rw (n, h, p) at q in
+  pub read-parted : tag ≡ 2 → ownRefusal tag l ≡ 0 → (offset : ℕ) → offset ≡ beAt l 3 2 + base → (r : Reading) →
+      r ≡ offsetReading offset b → callAt tag l b ≡ told (wired (afterReading r b)) (Byte (r .byte))
+  read-parted t z offset p r q =
+      let e : r ≡ readingAt (beAt l 3 2) b = rw p at q in
       rw e (read-told b s l tag t z _ (sym (read-parts (beAt l 3 2) b)))
 
   pub written-told : tag ≡ 3 → ownRefusal tag l ≡ 0 → (offset value : ℕ) → offset ≡ beAt l 3 2 + base →

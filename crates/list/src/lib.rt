@@ -12,7 +12,6 @@ use controller::SourceNumber;
 use controller::with_source;
 use format::Answer;
 use offsets::Registers;
-use offsets::words::timer_word;
 use offsets::writes::acknowledged;
 use registers::reads;
 use registers::writes;
@@ -87,12 +86,9 @@ pub fn run(board: Board, list: &[u8], answers: &mut [u8]) -> Outcome
             2 => {
                 let offset = perform::offset_at(rest);
                 let timers = b.timers;
-                let shared = timer_word(timers, b.timer_enable, offset / 4 * 4);
-                let i = reads::channel_index(offset);
-                let timer = b.timers[i];
                 let clock = b.clock;
                 let latches = b.latches;
-                let r = reads::reading_of(timer, shared, clock, latches, offset);
+                let r = reads::reading_at(timers, b.timer_enable, clock, latches, offset);
                 let after = r.latches;
                 b.latches = after;
                 b.clock.alarm.pending = r.pending;

@@ -4,13 +4,11 @@ ghost use mathlib.Core.Path.{_≡_};
 ghost use mathlib.Core.Bool.{true};
 ghost use Rattle.board.specs.Board.{sound};
 ghost use Rattle.registers.specs.Calls.{addressRefusal, readAccepted, writtenBoard, readCall, writeCall};
-use crate::reads::channel_index;
-use crate::reads::reading_of;
+use crate::reads::reading_at;
 use board::Board;
 use board::calls::ByteAnswer;
 use board::calls::EmptyAnswer;
 use offsets::Registers;
-use offsets::words::timer_word;
 use offsets::writes::written_at;
 
 pub mod reads;
@@ -36,10 +34,7 @@ pub fn read_accepted(board: Board, address: u16) -> ByteAnswer
     let timers = b.timers;
     let clock = b.clock;
     let latches = b.latches;
-    let i = channel_index(offset);
-    let timer = timers[i];
-    let shared = timer_word(timers, b.timer_enable, offset / 4 * 4);
-    let r = reading_of(timer, shared, clock, latches, offset);
+    let r = reading_at(timers, b.timer_enable, clock, latches, offset);
     let after = r.latches;
     b.latches = after;
     b.clock.alarm.pending = r.pending;

@@ -5,7 +5,7 @@ ghost use Rattle.clock.specs.Clock.{clockRate};
 ghost use Rattle.clock.specs.Sound.{Timed};
 ghost use Rattle.offsets.specs.Registers.{inChannels};
 ghost use Rattle.registers.specs.Parts.{channelIndex, atCountLow, atCountHigh, withCount, filled, countServing};
-ghost use Rattle.registers.specs.Parts.{serving, countEmptied, emptied, freedAt, wordAt, readingOf};
+ghost use Rattle.registers.specs.Parts.{serving, countEmptied, emptied, freedAt, wordAt, readingOf, readingFrom};
 use board::CountLatch;
 use board::Latch;
 use board::Latches;
@@ -16,6 +16,7 @@ use offsets::fields::byte_of_word;
 use offsets::fields::channel_of;
 use offsets::fields::place_of;
 use offsets::words::clock_word;
+use offsets::words::timer_word;
 use wide::flags::both;
 use wide::words::high;
 use wide::words::low;
@@ -182,7 +183,7 @@ fn word_of(timer: HardwareTimer, clock: Clock, shared: u32, offset: u32) -> u32
 
 // A read at an offset. `timer` is the channel of its index, `shared` the word of the register that all channels share.
 // The alarm check comes ahead of a read that no latch serves.
-pub fn reading_of(
+fn reading_of(
     timer: HardwareTimer,
     shared: u32,
     clock: Clock,
@@ -214,4 +215,21 @@ pub fn reading_of(
         pending,
         armed,
     }
+}
+
+// A read at an offset, of the parts of a board that it takes.
+pub fn reading_at(
+    timers: [HardwareTimer; 4],
+    timer_enable: u8,
+    clock: Clock,
+    latches: Latches,
+    offset: u32,
+) -> Reading
+    requires { ⌜ Timed clockRate clock ⌝ }
+    ensures { λ r. ⌜ r ≡ readingFrom timers «timer_enable» clock latches offset ⌝ }
+{
+    let i = channel_index(offset);
+    let timer = timers[i];
+    let shared = timer_word(timers, timer_enable, offset / 4 * 4);
+    reading_of(timer, shared, clock, latches, offset)
 }

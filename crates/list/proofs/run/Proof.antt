@@ -58,7 +58,6 @@ use Rattle.controller.proofs.with_source.Reads as with-source-reads
 use Rattle.format.proofs.put_record.Reads as put-record-reads
 use Rattle.format.proofs.width_of.Reads as width-of-reads
 use Rattle.list.proofs.refusal_of.Reads as refusal-of-reads
-use Rattle.offsets.proofs.words.timer_word.Reads as timer-word-reads
 use Rattle.offsets.proofs.writes.acknowledged.Reads as acknowledged-reads
 use Rattle.perform.proofs.answer_size.Reads as answer-size-reads
 use Rattle.perform.proofs.answered.Reads as answered-reads
@@ -68,7 +67,7 @@ use Rattle.perform.proofs.effect_of.Reads as effect-of-reads
 use Rattle.perform.proofs.offset_at.Reads as offset-at-reads
 use Rattle.perform.proofs.passing_of.Reads as passing-of-reads
 use Rattle.registers.proofs.reads.channel_index.Reads as channel-index-reads
-use Rattle.registers.proofs.reads.reading_of.Reads as reading-of-reads
+use Rattle.registers.proofs.reads.reading_at.Reads as reading-at-reads
 use Rattle.registers.proofs.writes.clock_after.Reads as clock-after-reads
 use Rattle.registers.proofs.writes.enable_after.Reads as enable-after-reads
 use Rattle.registers.proofs.writes.timer_after.Reads as timer-after-reads
@@ -100,12 +99,8 @@ Came = lts.At-match-came (
   width-of-reads.Learnt,
   offset-at-reads.Asked,
   offset-at-reads.Learnt,
-  timer-word-reads.Asked,
-  timer-word-reads.Learnt,
-  channel-index-reads.Asked,
-  channel-index-reads.Learnt,
-  reading-of-reads.Asked,
-  reading-of-reads.Learnt,
+  reading-at-reads.Asked,
+  reading-at-reads.Learnt,
   byte-at-reads.Asked,
   byte-at-reads.Learnt,
   acknowledged-reads.Asked,
@@ -114,6 +109,8 @@ Came = lts.At-match-came (
   enable-after-reads.Learnt,
   clock-after-reads.Asked,
   clock-after-reads.Learnt,
+  channel-index-reads.Asked,
+  channel-index-reads.Learnt,
   timer-after-reads.Asked,
   timer-after-reads.Learnt,
   line-reads.Asked,
@@ -172,9 +169,9 @@ accepted c a v =
     elim (c .match .came) [
       -- a read
       | inl w ↦ other-told _ tag _ _ _ _ _ _ a
-          (read-parted b s l tag (w .0 .keys1) (k .own) (w .1 .result) (w .1 .ensures) (w .4 .result) (w .3 .result)
-          (w .4 .ensures .0) (w .3 .ensures) (w .8 .result) (w .8 .ensures))
-          (w .12) (w .13) (ap (λ (n : ℕ). eqb n 4) (w .0 .keys1)) (ap (λ (n : ℕ). eqb n 6) (w .0 .keys1)) v
+          (read-parted b s l tag (w .0 .keys1) (k .own) (w .1 .result) (w .1 .ensures) (w .5 .result)
+          (w .5 .ensures))
+          (w .9) (w .10) (ap (λ (n : ℕ). eqb n 4) (w .0 .keys1)) (ap (λ (n : ℕ). eqb n 6) (w .0 .keys1)) v
       -- the arms of a write
       | inr (inl w) ↦ written-told b s l tag (w .0 .keys2) (k .own) (w .1 .result) (w .2 .result) (w .1 .ensures)
           (w .2 .ensures) (c .match .b)
@@ -352,25 +349,11 @@ offset-at-requires c κs =
     ∙ unrefused .if2 .left) .frame) (c .match .keys1) in
     omega (arith, h)
 
-mul-timer-word : tie.Need-mul-timer-word Inv-loop2 μ-loop2 Inv-loop μ-loop
-mul-timer-word c = search needs
-
-timer-word-requires : tie.Need-timer-word-requires Inv-loop2 μ-loop2 Inv-loop μ-loop
-timer-word-requires c κs = search needs
-
-channel-index-requires : tie.Need-channel-index-requires Inv-loop2 μ-loop2 Inv-loop μ-loop
-channel-index-requires c κs = search needs
-
-mul-timer : tie.Need-mul-timer Inv-loop2 μ-loop2 Inv-loop μ-loop
-mul-timer c = omega (arith, c .channel-index .ensures .1)
-
-element-copy-out-timer : tie.Need-element-copy-out-timer Inv-loop2 μ-loop2 Inv-loop μ-loop
-element-copy-out-timer c = c .channel-index .ensures .1
-
-reading-of-requires : tie.Need-reading-of-requires Inv-loop2 μ-loop2 Inv-loop μ-loop
-reading-of-requires c κs =
-    let i = c .before .before .before .before .before .before .before .before .before .before .before .before
-    .before .before .before .loop .inv in
+reading-at-requires : tie.Need-reading-at-requires Inv-loop2 μ-loop2 Inv-loop μ-loop
+reading-at-requires c κs =
+    let i =
+    c .before .before .before .before .before .before .before .before .before .before .before .before .loop
+    .inv in
     sound-times _ (i .fits .clock) (i .sound)
 
 offset-at-requires-2 : tie.Need-offset-at-requires-2 Inv-loop2 μ-loop2 Inv-loop μ-loop
@@ -401,23 +384,23 @@ clock-after-requires c κs =
     .before .before .loop .inv in
     sound-times _ (i .fits .clock) (i .sound)
 
-channel-index-requires-2 : tie.Need-channel-index-requires-2 Inv-loop2 μ-loop2 Inv-loop μ-loop
-channel-index-requires-2 c κs = search needs
+channel-index-requires : tie.Need-channel-index-requires Inv-loop2 μ-loop2 Inv-loop μ-loop
+channel-index-requires c κs = search needs
 
-mul-timer-2 : tie.Need-mul-timer-2 Inv-loop2 μ-loop2 Inv-loop μ-loop
-mul-timer-2 c = omega (arith, c .channel-index2 .ensures .1)
+mul-timer : tie.Need-mul-timer Inv-loop2 μ-loop2 Inv-loop μ-loop
+mul-timer c = omega (arith, c .channel-index .ensures .1)
 
-element-copy-out-timer-2 : tie.Need-element-copy-out-timer-2 Inv-loop2 μ-loop2 Inv-loop μ-loop
-element-copy-out-timer-2 c = c .channel-index2 .ensures .1
+element-copy-out-timer : tie.Need-element-copy-out-timer Inv-loop2 μ-loop2 Inv-loop μ-loop
+element-copy-out-timer c = c .channel-index .ensures .1
 
 timer-after-requires : tie.Need-timer-after-requires Inv-loop2 μ-loop2 Inv-loop μ-loop
 timer-after-requires c κs = search needs
 
 mul-after : tie.Need-mul-after Inv-loop2 μ-loop2 Inv-loop μ-loop
-mul-after c = omega (arith, c .before .before .channel-index2 .ensures .1)
+mul-after c = omega (arith, c .before .before .channel-index .ensures .1)
 
 element-set-from-after : tie.Need-element-set-from-after Inv-loop2 μ-loop2 Inv-loop μ-loop
-element-set-from-after c = c .before .before .channel-index2 .ensures .1
+element-set-from-after c = c .before .before .channel-index .ensures .1
 
 line-requires : tie.Need-line-requires Inv-loop2 μ-loop2 Inv-loop μ-loop
 line-requires c κs = search needs
@@ -441,14 +424,14 @@ loop2-holds c =
     .before .loop .inv in
     (c .channels .ensures .0, begins _ _ _ (c .channels .ensures .1) (sound-facts _ (i .sound) .timers))
 
-mul-timer-3 : tie.Need-mul-timer-3 Inv-loop2 μ-loop2 Inv-loop μ-loop
-mul-timer-3 c = omega (arith, c .loop2-test .taken, c .before .loop2 .inv .0)
+mul-timer-2 : tie.Need-mul-timer-2 Inv-loop2 μ-loop2 Inv-loop μ-loop
+mul-timer-2 c = omega (arith, c .loop2-test .taken, c .before .loop2 .inv .0)
 
-element-copy-out-timer-3 : tie.Need-element-copy-out-timer-3 Inv-loop2 μ-loop2 Inv-loop μ-loop
-element-copy-out-timer-3 c = omega (arith, c .loop2-test .taken, c .before .loop2 .inv .0)
+element-copy-out-timer-2 : tie.Need-element-copy-out-timer-2 Inv-loop2 μ-loop2 Inv-loop μ-loop
+element-copy-out-timer-2 c = omega (arith, c .loop2-test .taken, c .before .loop2 .inv .0)
 
-cast-t89 : tie.Need-cast-t89 Inv-loop2 μ-loop2 Inv-loop μ-loop
-cast-t89 c = omega (arith, c .before .loop2-test .taken, c .before .before .loop2 .inv .0)
+cast-t80 : tie.Need-cast-t80 Inv-loop2 μ-loop2 Inv-loop μ-loop
+cast-t80 c = omega (arith, c .before .loop2-test .taken, c .before .before .loop2 .inv .0)
 
 selected-requires : tie.Need-selected-requires Inv-loop2 μ-loop2 Inv-loop μ-loop
 selected-requires c κs = search needs
@@ -612,20 +595,15 @@ run-spec =
     add-end
     add-end-2
     offset-at-requires
-    mul-timer-word
-    timer-word-requires
-    channel-index-requires
-    mul-timer
-    element-copy-out-timer
-    reading-of-requires
+    reading-at-requires
     offset-at-requires-2
     byte-at-requires
     acknowledged-requires
     enable-after-requires
     clock-after-requires
-    channel-index-requires-2
-    mul-timer-2
-    element-copy-out-timer-2
+    channel-index-requires
+    mul-timer
+    element-copy-out-timer
     timer-after-requires
     mul-after
     element-set-from-after
@@ -634,9 +612,9 @@ run-spec =
     passing-of-requires
     channels-requires
     loop2-holds
-    mul-timer-3
-    element-copy-out-timer-3
-    cast-t89
+    mul-timer-2
+    element-copy-out-timer-2
+    cast-t80
     selected-requires
     advance-cycles-requires
     mul-moved
