@@ -98,7 +98,8 @@ size-else tag high n2 n4 n5 n6 n8 n10 =
     either (eqb tag 0) (λ e. let q : tag ≡ 0 = eqb-true tag 0 e in rw q refl)
     (λ e. let n0 = eqb-false tag 0 e in
     by-tag
-    (λ (t : ℕ). (t ≡ 2 → ⊥) → (t ≡ 4 → ⊥) → (t ≡ 5 → ⊥) → (t ≡ 6 → ⊥) → (t ≡ 8 → ⊥) → (t ≡ 10 → ⊥) → 0 ≡ sizeOf t)
+    (λ (t : ℕ). (t ≡ 2 → ⊥) → (t ≡ 4 → ⊥) → (t ≡ 5 → ⊥) → (t ≡ 6 → ⊥) → (t ≡ 8 → ⊥) →
+    (t ≡ 10 → ⊥) → 0 ≡ sizeOf t)
     tag (above tag n0) high
     (λ m2 m4 m5 m6 m8 m10. refl)
     (λ m2 m4 m5 m6 m8 m10. absurd (m2 refl))
