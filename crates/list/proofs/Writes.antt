@@ -13,8 +13,8 @@ use Rattle.channel.specs.Channel.{freshTimer}
 use Rattle.clock.specs.Registers.{mergeByte}
 use Rattle.board.specs.declared.Board.{Board}
 use Rattle.board.specs.Board.{withTimers, withClock}
-use Rattle.offsets.specs.Registers.{registerOf, byteOf, channelOf, placeOf, withChannel, withTimerEnable}
-use Rattle.offsets.specs.Writes.{acknowledged, timerWritten, clockWritten, writtenAt}
+use Rattle.offsets.specs.Registers.{byteOf, channelOf, withChannel, withTimerEnable}
+use Rattle.offsets.specs.Writes.{acknowledged, timerWritten, writtenAt}
 use Rattle.registers.specs.Parts.{channelIndex, enableAfter, clockAfter, timerAfter}
 use Rattle.offsets.proofs.Ranges.{
   in-timers,
