@@ -88,7 +88,7 @@ pub fn run(board: Board, list: &[u8], answers: &mut [u8]) -> Outcome
                 let timers = b.timers;
                 let clock = b.clock;
                 let latches = b.latches;
-                let r = reads::reading_at(timers, b.timer_enable, clock, latches, offset);
+                let r = reads::reading_from(timers, b.timer_enable, clock, latches, offset);
                 let after = r.latches;
                 b.latches = after;
                 b.clock.alarm.pending = r.pending;

@@ -4,7 +4,7 @@ ghost use mathlib.Core.Path.{_≡_};
 ghost use mathlib.Core.Bool.{true};
 ghost use Rattle.board.specs.Board.{sound};
 ghost use Rattle.registers.specs.Calls.{addressRefusal, readAccepted, writtenBoard, readCall, writeCall};
-use crate::reads::reading_at;
+use crate::reads::reading_from;
 use board::Board;
 use board::calls::ByteAnswer;
 use board::calls::EmptyAnswer;
@@ -34,7 +34,7 @@ pub fn read_accepted(board: Board, address: u16) -> ByteAnswer
     let timers = b.timers;
     let clock = b.clock;
     let latches = b.latches;
-    let r = reading_at(timers, b.timer_enable, clock, latches, offset);
+    let r = reading_from(timers, b.timer_enable, clock, latches, offset);
     let after = r.latches;
     b.latches = after;
     b.clock.alarm.pending = r.pending;

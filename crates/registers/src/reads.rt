@@ -218,7 +218,7 @@ fn reading_of(
 }
 
 // A read at an offset, of the parts of a board that it takes.
-pub fn reading_at(
+pub fn reading_from(
     timers: [HardwareTimer; 4],
     timer_enable: u8,
     clock: Clock,

@@ -67,7 +67,7 @@ use Rattle.perform.proofs.effect_of.Reads as effect-of-reads
 use Rattle.perform.proofs.offset_at.Reads as offset-at-reads
 use Rattle.perform.proofs.passing_of.Reads as passing-of-reads
 use Rattle.registers.proofs.reads.channel_index.Reads as channel-index-reads
-use Rattle.registers.proofs.reads.reading_at.Reads as reading-at-reads
+use Rattle.registers.proofs.reads.reading_from.Reads as reading-from-reads
 use Rattle.registers.proofs.writes.clock_after.Reads as clock-after-reads
 use Rattle.registers.proofs.writes.enable_after.Reads as enable-after-reads
 use Rattle.registers.proofs.writes.timer_after.Reads as timer-after-reads
@@ -99,8 +99,8 @@ Came = lts.At-match-came (
   width-of-reads.Learnt,
   offset-at-reads.Asked,
   offset-at-reads.Learnt,
-  reading-at-reads.Asked,
-  reading-at-reads.Learnt,
+  reading-from-reads.Asked,
+  reading-from-reads.Learnt,
   byte-at-reads.Asked,
   byte-at-reads.Learnt,
   acknowledged-reads.Asked,
@@ -349,8 +349,8 @@ offset-at-requires c κs =
     ∙ unrefused .if2 .left) .frame) (c .match .keys1) in
     omega (arith, h)
 
-reading-at-requires : tie.Need-reading-at-requires Inv-loop2 μ-loop2 Inv-loop μ-loop
-reading-at-requires c κs =
+reading-from-requires : tie.Need-reading-from-requires Inv-loop2 μ-loop2 Inv-loop μ-loop
+reading-from-requires c κs =
     let i =
     c .before .before .before .before .before .before .before .before .before .before .before .before .loop
     .inv in
@@ -595,7 +595,7 @@ run-spec =
     add-end
     add-end-2
     offset-at-requires
-    reading-at-requires
+    reading-from-requires
     offset-at-requires-2
     byte-at-requires
     acknowledged-requires

@@ -9,8 +9,8 @@ use Rattle.registers.proofs.read_accepted.Tie as tie
 add-offset : tie.Need-add-offset
 add-offset c = search needs
 
-reading-at-requires : tie.Need-reading-at-requires
-reading-at-requires c κs =
+reading-from-requires : tie.Need-reading-from-requires
+reading-from-requires c κs =
     let s = c .before .before .before in
     sound-times (s .args .board)
     (record {
@@ -27,7 +27,7 @@ wired-requires c κs = search needs
 returns : tie.Need-returns
 returns c =
     let a = c .before .before .before .before .before .before .before .before .args in
-    rw (read-parts (a .address) (a .board), c .wired .ensures, c .before .before .before .before .reading-at .ensures)
+    rw (read-parts (a .address) (a .board), c .wired .ensures, c .before .before .before .before .reading-from .ensures)
 
 pub read-accepted-spec : {M : Type 1} → statement M
-read-accepted-spec = tie.close (tie.spec add-offset reading-at-requires wired-requires returns)
+read-accepted-spec = tie.close (tie.spec add-offset reading-from-requires wired-requires returns)

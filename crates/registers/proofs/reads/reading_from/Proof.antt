@@ -1,7 +1,7 @@
--- `reads::reading_at` meets its contract. Assumes nothing.
+-- `reads::reading_from` meets its contract. Assumes nothing.
 use borrow.Author.Needs.{needs}
-use Rattle.registers.proofs.reads.reading_at.Statement.{statement}
-use Rattle.registers.proofs.reads.reading_at.Tie as tie
+use Rattle.registers.proofs.reads.reading_from.Statement.{statement}
+use Rattle.registers.proofs.reads.reading_from.Tie as tie
 
 channel-index-requires : tie.Need-channel-index-requires
 channel-index-requires c κs = search needs
@@ -26,8 +26,8 @@ returns c =
     rw (← c .before .timer-word .ensures, ← c .before .before .before .channel-index .ensures .0)
     (c .reading-of .ensures)
 
-pub reading-at-spec : {M : Type 1} → statement M
-reading-at-spec =
+pub reading-from-spec : {M : Type 1} → statement M
+reading-from-spec =
     tie.close
     (tie.spec
     channel-index-requires
