@@ -1,6 +1,8 @@
 // The board: four channels, the clock, the latches of its registers and the controller, by value.
 ghost use mathlib.Core.Path.{_≡_};
+ghost use lib.ListN.{length};
 ghost use Rattle.board.specs.Board.{freshBoard, withTimers, withClock, withController};
+use crate::channels::count_of;
 use channel::HardwareTimer;
 use clock::Clock;
 use controller::IrqController;
@@ -69,6 +71,14 @@ impl Board {
             latches,
             controller,
         }
+    }
+
+    // The number of channels.
+    pub fn channels(self) -> usize
+        ensures { λ r. ⌜ (r ≡ 4) × (length (self .timers) ≡ 4) ⌝ }
+    {
+        let timers = self.timers;
+        count_of(timers)
     }
 
     pub fn with_timers(mut self, timers: [HardwareTimer; 4]) -> Self

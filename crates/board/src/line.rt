@@ -1,10 +1,8 @@
 // The board's line, and source 3 of the controller, which is set to it.
 ghost use mathlib.Core.Path.{_≡_};
-ghost use lib.ListN.{length};
 ghost use Rattle.board.specs.Board.{line, wired};
 use crate::Board;
 use crate::channels::any_asserted;
-use crate::channels::count_of;
 use controller::SourceNumber;
 use wide::flags::either;
 
@@ -16,14 +14,6 @@ impl Board {
         let timers = self.timers;
         let clock = self.clock;
         either(any_asserted(timers), clock.line())
-    }
-
-    // The number of channels.
-    pub fn channels(self) -> usize
-        ensures { λ r. ⌜ (r ≡ 4) × (length (self .timers) ≡ 4) ⌝ }
-    {
-        let timers = self.timers;
-        count_of(timers)
     }
 
     // The end of an accepted call: source 3 is set to the line.
