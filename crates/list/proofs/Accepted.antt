@@ -177,13 +177,13 @@ absent none made c p q t = (refl, q)
 absent (some d) made c p q t = absurd (false≢true (sym t ∙ p))
 
 module _ (b : Board) (s : sound b ≡ true) (l : List ℕ) (tag : ℕ) where
-  -- y is the board before source 3 is set
   pub read-parted : tag ≡ 2 → ownRefusal tag l ≡ 0 → (offset : ℕ) → offset ≡ beAt l 3 2 + base → (r : Reading) →
       r ≡ offsetReading offset b → callAt tag l b ≡ told (wired (afterReading r b)) (Byte (r .byte))
   read-parted t z offset p r q =
       let e : r ≡ readingAt (beAt l 3 2) b = rw p at q in
       rw e (read-told b s l tag t z _ (sym (read-parts (beAt l 3 2) b)))
 
+  -- y is the board before source 3 is set
   pub written-told : tag ≡ 3 → ownRefusal tag l ≡ 0 → (offset value : ℕ) → offset ≡ beAt l 3 2 + base →
       value ≡ beAt l 5 1 → (y : Board) → y ≡ writtenAt offset value b → (a₀ : Answer) → a₀ ≡ Empty → (a : Answer)
       (c : ℕ) (v : Bool) → valueBytes a ≡ answeredValue tag c v (valueBytes a₀) → callAt tag l b ≡ told (wired y) a

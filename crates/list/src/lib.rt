@@ -83,6 +83,7 @@ pub fn run(board: Board, list: &[u8], answers: &mut [u8]) -> Outcome
         let mut answer = Answer::Empty;
         let mut cycles = Cycles(0);
         match tag {
+            // read
             2 => {
                 let offset = perform::offset_at(rest);
                 let timers = b.timers;
@@ -95,6 +96,7 @@ pub fn run(board: Board, list: &[u8], answers: &mut [u8]) -> Outcome
                 b.clock.alarm.armed = r.armed;
                 answer = Answer::Byte(r.byte);
             }
+            // write
             3 => {
                 let offset = perform::offset_at(rest);
                 let value = perform::byte_at(rest, 5);
@@ -116,6 +118,7 @@ pub fn run(board: Board, list: &[u8], answers: &mut [u8]) -> Outcome
                     b.timers[i] = after;
                 }
             }
+            // advance and skip
             4 | 6 => {
                 let mut high = false;
                 let mut soonest = Deadline::Never;
@@ -138,6 +141,7 @@ pub fn run(board: Board, list: &[u8], answers: &mut [u8]) -> Outcome
                     }
                     let clock = b.clock;
                     let later = clock.advance(cycles);
+                    // the fields that an advance moves; a clock stored whole waits for its padding
                     b.clock.seconds = later.seconds;
                     b.clock.subsecond = later.subsecond;
                     b.clock.poll = later.poll;
@@ -145,9 +149,11 @@ pub fn run(board: Board, list: &[u8], answers: &mut [u8]) -> Outcome
                     b.clock.alarm.armed = later.alarm.armed;
                 }
             }
+            // deadline
             5 => {
                 answer = perform::deadline(b);
             }
+            // host time, source, and the controller's calls
             _ => {
                 let clock = b.clock;
                 let controller = b.controller;
@@ -159,6 +165,7 @@ pub fn run(board: Board, list: &[u8], answers: &mut [u8]) -> Outcome
                 answer = e.answer;
             }
         }
+        // source 3 is set to the line
         let line = b.line();
         let controller = b.controller;
         let set = with_source(controller, SourceNumber(Board::LINE_SOURCE), line);
