@@ -18,6 +18,9 @@ use native.Mathlib.Nat.{
   le-div-iff-mul-le,
   mul-add-div,
   div-add-mod,
+  div-one,
+  mod-one,
+  zero-add,
 }
 use native.Mathlib.Numerals.{sub-one}
 use native.Mathlib.Omega.{arith}
@@ -38,6 +41,12 @@ pub at-most-is : (a b : ℕ) → leb a b ≡ ltb a (b + 1)
 at-most-is a b =
     either (leb a b) (λ e. let h = leb-true a b e in e ∙ sym (lt-ltb a (b + 1) (omega arith)))
     (λ e. let h = leb-false a b e in e ∙ sym (le-ltb a (b + 1) (omega arith)))
+
+-- with prescaler n = 0 each of c cycles is a tick, and the phase p is 0
+pub each-is : (n p c : ℕ) → n ≡ 0 → p ≤ n → (c ≡ (p + c) / (n + 1)) × (0 ≡ (p + c) % (n + 1))
+each-is n p c e h =
+    let z : p ≡ 0 = omega arith in
+    rw (e, z, zero-add c) (sym (div-one c), sym (mod-one c))
 
 -- v is the divisor, p the phase and c the cycles
 module _ (v p c : ℕ) where

@@ -60,6 +60,22 @@ impl HardwareTimer {
         }
     }
 
+    // The channel made anew of its fields. A copy of the whole takes the bytes between the fields along; this does not.
+    fn rebuilt(self) -> Self
+        ensures { λ r. ⌜ r ≡ self ⌝ }
+    {
+        HardwareTimer {
+            control: self.control,
+            counter: self.counter,
+            compare: self.compare,
+            reload: self.reload,
+            prescaler: self.prescaler,
+            phase: self.phase,
+            pending: self.pending,
+            armed: self.armed,
+        }
+    }
+
     pub fn enabled(self) -> bool
         ensures { λ r. ⌜ r ≡ enabledOf (self .control) ⌝ }
     {

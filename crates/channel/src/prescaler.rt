@@ -20,8 +20,15 @@ impl HardwareTimer {
     {
         let phase = self.phase;
         let prescaler = self.prescaler;
-        let v = prescaler as u64 + 1;
         let c = cycles.0;
+        // With prescaler 0 each cycle is a tick.
+        if prescaler == 0 {
+            return Scaled {
+                ticks: Ticks(c),
+                phase: 0,
+            };
+        }
+        let v = prescaler as u64 + 1;
         let first = v - phase as u64;
         if c < first {
             return Scaled {
@@ -36,8 +43,7 @@ impl HardwareTimer {
         }
     }
 
-    // Cycles arrive at the channel, whose bit in timer enable is `selected`.
-    pub fn advance_cycles(self, selected: bool, cycles: Cycles) -> Self
+    fn advanced(self, selected: bool, cycles: Cycles) -> Self
         requires { ⌜ self .phase ≤ self .prescaler ⌝ }
         ensures { λ r. ⌜ r ≡ advanced selected (cycles .0) self ⌝ }
     {
@@ -51,5 +57,13 @@ impl HardwareTimer {
         let mut h = self;
         h.phase = s.phase;
         h.advance(s.ticks)
+    }
+
+    // Cycles arrive at the channel, whose bit in timer enable is `selected`.
+    pub fn advance_cycles(self, selected: bool, cycles: Cycles) -> Self
+        requires { ⌜ self .phase ≤ self .prescaler ⌝ }
+        ensures { λ r. ⌜ r ≡ advanced selected (cycles .0) self ⌝ }
+    {
+        self.advanced(selected, cycles).rebuilt()
     }
 }
