@@ -2,7 +2,7 @@
 use Prim.Native.Nat.{ℕ, _≤_, _<_}
 use mathlib.Core.Path.{_≡_, refl, sym, _∙_}
 use native.Mathlib.Omega.{arith}
-use mathlib.Core.Bool.{Bool, true, false, cond, not, _&&_, _||_}
+use mathlib.Core.Bool.{Bool, true, false, cond, not, _&&_, _||_, false≢true}
 use lib.Dec.{leb, ltb}
 use borrow.Author.Tests.{leb-true, leb-false, not-true}
 use Rattle.wide.proofs.Choices.{and-parts}
@@ -23,6 +23,19 @@ both-told e p q h = sym (and-is e p q) ∙ h
 
 pub and-told : (a : Bool) {r b y t : Bool} → r ≡ (a && b) → b ≡ y → r ≡ t → (a && y) ≡ t
 and-told a e q h = sym (and-after a e q) ∙ h
+
+-- a conjunction whose first three sides are tested ahead of the fourth
+pub and-last : (a b c d : Bool) → (a && (b && c)) ≡ true → d ≡ (a && (b && (c && d)))
+and-last true true true d e = refl
+and-last true true false d e = absurd (false≢true e)
+and-last true false c d e = absurd (false≢true e)
+and-last false b c d e = absurd (false≢true e)
+
+pub and-early : (a b c d : Bool) → (a && (b && c)) ≡ false → false ≡ (a && (b && (c && d)))
+and-early true true true d e = absurd (false≢true (sym e))
+and-early true true false d e = refl
+and-early true false c d e = refl
+and-early false b c d e = refl
 
 pub and-false : (a : Bool) → (a && false) ≡ false
 and-false true = refl

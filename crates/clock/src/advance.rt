@@ -49,11 +49,12 @@ impl Clock {
         let alarm = self.alarm.seconds;
         let armed = self.alarm.armed;
         let pending = self.alarm.pending;
-        let reached = alarm <= self.time_seconds();
-        both(
-            has_bit(self.control, Self::ENABLE),
-            both(armed, both(!pending, reached)),
-        )
+        let waits = both(armed, !pending);
+        // The time is computed only where an alarm waits for it.
+        if both(has_bit(self.control, Self::ENABLE), waits) {
+            return alarm <= self.time_seconds();
+        }
+        false
     }
 
     pub fn check_alarm(self) -> Self
@@ -122,6 +123,6 @@ impl Clock {
         requires { ⌜ Timed clockRate self ⌝ }
         ensures { λ r. ⌜ r ≡ advanceClock clockRate (cycles .0) self ⌝ }
     {
-        self.moved_time(cycles).end_advance(cycles)
+        self.moved_time(cycles).end_advance(cycles).rebuilt()
     }
 }

@@ -135,6 +135,46 @@ impl Clock {
         }
     }
 
+    // The clock made anew of its fields. A copy of the whole takes the bytes between the fields along; this does not.
+    fn rebuilt(self) -> Self
+        ensures { λ r. ⌜ r ≡ self ⌝ }
+    {
+        let offset = self.offset;
+        let alarm = self.alarm;
+        let shadow = self.shadow;
+        let alarm_shadow = self.alarm_shadow;
+        let host = self.host;
+        Clock {
+            control: self.control,
+            seconds: self.seconds,
+            subsecond: self.subsecond,
+            offset: Offset {
+                negative: offset.negative,
+                seconds: offset.seconds,
+                nanoseconds: offset.nanoseconds,
+            },
+            alarm: Alarm {
+                enable: alarm.enable,
+                seconds: alarm.seconds,
+                pending: alarm.pending,
+                armed: alarm.armed,
+            },
+            shadow: Shadow {
+                value: shadow.value,
+                mask: shadow.mask,
+            },
+            poll: self.poll,
+            alarm_shadow: Shadow {
+                value: alarm_shadow.value,
+                mask: alarm_shadow.mask,
+            },
+            host: HostTime {
+                seconds: host.seconds,
+                nanoseconds: host.nanoseconds,
+            },
+        }
+    }
+
     pub fn with_host(mut self, host: HostTime) -> Self
         ensures { λ r. ⌜ r ≡ withHost host self ⌝ }
     {

@@ -17,12 +17,16 @@ end-advance-requires c κs =
     subst⁻¹ (Timed clockRate) (c .moved-time .ensures)
     (moved-timed clockRate (a .self) (c .before .pre) (a .cycles .0))
 
+rebuilt-requires : tie.Need-rebuilt-requires
+rebuilt-requires c κs = search needs
+
 returns : tie.Need-returns
 unfolding advanceClock
 returns c =
-    let n = c .before .before .args .cycles .0 in
-    c .end-advance .ensures
-    ∙ ap (λ (k : Clock). endAdvance clockRate n k) (c .before .moved-time .ensures)
+    let n = c .before .before .before .args .cycles .0 in
+    c .rebuilt .ensures ∙ c .before .end-advance .ensures
+    ∙ ap (λ (k : Clock). endAdvance clockRate n k) (c .before .before .moved-time .ensures)
 
 pub advance-spec : {M : Type 1} → statement M
-advance-spec = tie.close (tie.spec moved-time-requires end-advance-requires returns)
+advance-spec =
+    tie.close (tie.spec moved-time-requires end-advance-requires rebuilt-requires returns)
