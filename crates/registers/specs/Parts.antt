@@ -3,7 +3,6 @@
 -- that these parts are them.
 use Prim.Native.Nat.{ℕ, _+_, _%_}
 use mathlib.Core.Bool.{Bool, cond, _&&_}
-use mathlib.Core.List.{List}
 use lib.ListN.{getD, set}
 use lib.Dec.{eqb}
 use Rattle.wide.specs.Words.{lowWord, highWord}
@@ -135,14 +134,11 @@ readingOf h shared k ls offset = readingBy h shared k (filled offset (h .counter
 
 -- ---- of a board
 
--- the same, of the parts of a board that a read takes
-abbrev pub readingFrom : List HardwareTimer → ℕ → Clock → Latches → ℕ → Reading
-readingFrom ts enable k ls offset =
-    readingOf (getD ts (channelIndex offset) freshTimer) (timerWord (registerOf offset) enable ts) k ls offset
-
 -- the reading at an offset
 abbrev pub offsetReading : ℕ → Board → Reading
-offsetReading offset b = readingFrom (b .timers) (b .«timer_enable») (b .clock) (b .latches) offset
+offsetReading offset b =
+    readingOf (getD (b .timers) (channelIndex offset) freshTimer)
+    (timerWord (registerOf offset) (b .«timer_enable») (b .timers)) (b .clock) (b .latches) offset
 
 -- the reading at an address
 abbrev pub readingAt : ℕ → Board → Reading

@@ -3,9 +3,10 @@ ghost use mathlib.Core.Path.{_≡_};
 ghost use Prim.Native.Nat.{_<_};
 ghost use Rattle.clock.specs.Clock.{clockRate};
 ghost use Rattle.clock.specs.Sound.{Timed};
-ghost use Rattle.offsets.specs.Registers.{inChannels};
+ghost use Rattle.offsets.specs.Registers.{inChannels, registerOf};
+ghost use Rattle.offsets.specs.Words.{timerWord};
 ghost use Rattle.registers.specs.Parts.{channelIndex, atCountLow, atCountHigh, withCount, filled, countServing};
-ghost use Rattle.registers.specs.Parts.{serving, countEmptied, emptied, freedAt, wordAt, readingOf, readingFrom};
+ghost use Rattle.registers.specs.Parts.{serving, countEmptied, emptied, freedAt, wordAt, readingOf};
 use board::CountLatch;
 use board::Latch;
 use board::Latches;
@@ -181,9 +182,16 @@ fn word_of(timer: HardwareTimer, clock: Clock, shared: u32, offset: u32) -> u32
     }
 }
 
+// The word of the register at an offset that all channels share, 0 where it is no such register.
+pub fn shared_at(timers: [HardwareTimer; 4], timer_enable: u8, offset: u32) -> u32
+    ensures { λ r. ⌜ r ≡ timerWord (registerOf offset) «timer_enable» timers ⌝ }
+{
+    timer_word(timers, timer_enable, offset / 4 * 4)
+}
+
 // A read at an offset. `timer` is the channel of its index, `shared` the word of the register that all channels share.
 // The alarm check comes ahead of a read that no latch serves.
-fn reading_of(
+pub fn reading_of(
     timer: HardwareTimer,
     shared: u32,
     clock: Clock,
@@ -215,21 +223,4 @@ fn reading_of(
         pending,
         armed,
     }
-}
-
-// A read at an offset, of the parts of a board that it takes.
-pub fn reading_from(
-    timers: [HardwareTimer; 4],
-    timer_enable: u8,
-    clock: Clock,
-    latches: Latches,
-    offset: u32,
-) -> Reading
-    requires { ⌜ Timed clockRate clock ⌝ }
-    ensures { λ r. ⌜ r ≡ readingFrom timers «timer_enable» clock latches offset ⌝ }
-{
-    let i = channel_index(offset);
-    let timer = timers[i];
-    let shared = timer_word(timers, timer_enable, offset / 4 * 4);
-    reading_of(timer, shared, clock, latches, offset)
 }

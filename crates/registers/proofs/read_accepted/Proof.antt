@@ -9,9 +9,21 @@ use Rattle.registers.proofs.read_accepted.Tie as tie
 add-offset : tie.Need-add-offset
 add-offset c = search needs
 
-reading-from-requires : tie.Need-reading-from-requires
-reading-from-requires c κs =
-    let s = c .before .before .before in
+shared-at-requires : tie.Need-shared-at-requires
+shared-at-requires c κs = search needs
+
+channel-index-requires : tie.Need-channel-index-requires
+channel-index-requires c κs = search needs
+
+mul-timer : tie.Need-mul-timer
+mul-timer c = search needs
+
+element-copy-out-timer : tie.Need-element-copy-out-timer
+element-copy-out-timer c = search needs
+
+reading-of-requires : tie.Need-reading-of-requires
+reading-of-requires c κs =
+    let s = c .before .before .before .before .before .before in
     sound-times (s .args .board)
     (record {
       seconds = omega (arith, s .good);
@@ -26,8 +38,26 @@ wired-requires c κs = search needs
 
 returns : tie.Need-returns
 returns c =
-    let a = c .before .before .before .before .before .before .before .before .args in
-    rw (read-parts (a .address) (a .board), c .wired .ensures, c .before .before .before .before .reading-from .ensures)
+    let r = c .before .before .before .before in
+    let i = r .before .before .before .before in
+    let a = i .before .before .before .args in
+    rw (
+      read-parts (a .address) (a .board),
+      c .wired .ensures,
+      r .reading-of .ensures,
+      i .before .shared-at .ensures,
+      i .channel-index .ensures .0,
+    )
 
 pub read-accepted-spec : {M : Type 1} → statement M
-read-accepted-spec = tie.close (tie.spec add-offset reading-from-requires wired-requires returns)
+read-accepted-spec =
+    tie.close
+    (tie.spec
+    add-offset
+    shared-at-requires
+    channel-index-requires
+    mul-timer
+    element-copy-out-timer
+    reading-of-requires
+    wired-requires
+    returns)
