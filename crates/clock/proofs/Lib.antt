@@ -1,6 +1,5 @@
 pub mod Soundness
 pub mod Law
-pub mod Stores
 mod Settings
 mod Tests
 mod Durations

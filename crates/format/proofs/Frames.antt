@@ -8,7 +8,7 @@ use native.Mathlib.Omega.{arith}
 use lib.ListN.{length, take, drop, length-drop, length-append, List·getD-append}
 use lib.Seq.{sets, sets-eq, take-all}
 use lib.Dec.{ltb, eqb}
-use borrow.Author.Tests.{ltb-false, le-ltb}
+use borrow.Author.Tests.{ltb-false, le-ltb, eqb-true, not-false}
 use Rattle.wide.specs.Fields.{beAt}
 use Rattle.wide.proofs.BigEndian.{length-be, sets-append}
 use Rattle.format.specs.Format.{widthOf, tagAt, frameRefusal, recordOf}
@@ -73,6 +73,10 @@ module _ (l : List ℕ) (e : frameRefusal l ≡ 0) where
       let t = ltb-false 10 (tagAt l) (tests .last) in
       let v = ltb-false (length l - 3) (widthOf (tagAt l)) (tests .value) in
       (omega arith, omega arith)
+
+  -- the header has the length of the tag's value
+  pub length-told : beAt l 1 2 ≡ widthOf (tagAt l)
+  length-told = eqb-true (beAt l 1 2) (widthOf (tagAt l)) (not-false _ (tests .length))
 
   -- bytes behind a call have no part in it
   module _ (m : List ℕ) where

@@ -34,8 +34,7 @@ pub enum Answer {
 }
 
 // The length of a tag's value. The values of 5, 6 and 10 are empty.
-pub fn width_of(tag: u8) -> usize
-    requires { ⌜ tag < 11 ⌝ }
+fn width_of(tag: u8) -> usize
     ensures { λ r. ⌜ r ≡ widthOf tag ⌝ }
 {
     match tag {

@@ -13,6 +13,7 @@ use lib.Dec.{leb, ltb, eqb}
 use borrow.Author.Tests.{leb-true, ltb-false, lt-ltb, le-ltb, eqb-true, eq-eqb, ne-eqb}
 use Rattle.wide.specs.Fields.{beAt}
 use Rattle.wide.proofs.Choices.{either, and-parts}
+use Rattle.channel.specs.Channel.{freshTimer}
 use Rattle.clock.specs.Fields.{withHost}
 use Rattle.controller.specs.declared.IrqController.{IrqController}
 use Rattle.controller.specs.Controller.{sourceSet}
@@ -21,11 +22,12 @@ use Rattle.board.specs.Board.{BoardFits, withClock, withController, line, exact
 use Rattle.board.specs.Calls.{advancedBoard, isPresent, orZero}
 use Rattle.board.proofs.Soundness.{facts-sound, wired-sound}
 use Rattle.board.proofs.Steps.{Good, good, wired-line}
-use Rattle.offsets.specs.Registers.{base}
+use Rattle.offsets.specs.Registers.{base, registerOf}
+use Rattle.offsets.specs.Words.{timerWord}
 use Rattle.offsets.specs.Writes.{writtenAt}
 use Rattle.registers.specs.declared.reads.Reading.{Reading}
 use Rattle.registers.specs.Calls.{writtenBoard}
-use Rattle.registers.specs.Parts.{offsetReading, readingAt, afterReading}
+use Rattle.registers.specs.Parts.{channelIndex, readingOf, readingAt, afterReading}
 use Rattle.registers.proofs.Parts.{read-parts}
 use Rattle.format.specs.declared.Answer.{Answer}
 use Rattle.format.specs.declared.Answer.the-variants.{Empty, Byte}
@@ -38,7 +40,7 @@ use Rattle.perform.specs.Parts.{ownRefusal, sizes, sizeOf, told, cyclesAt, answ
 use Rattle.perform.proofs.Told.{own-told, size-told, read-told, write-told, advance-told, unadvanced-told, effect-told}
 use Rattle.list.specs.declared.Outcome.{Outcome}
 use Rattle.list.specs.Run.{done, refused, settle, turnOf, stepped}
-use Rattle.list.specs.Refusals.{refusalAt}
+use Rattle.list.specs.Refusals.{refusalAt, Sized}
 use Rattle.list.proofs.Kept.{call-good}
 use Rattle.list.proofs.Runs.{bytesOf, Running, Ran, stateOf, more, stops}
 
@@ -88,6 +90,11 @@ module _ (l : List ℕ) (room : ℕ) where
     pub unrefused : 3 + size ≤ room → 0 ≡ refusalAt l room
     unfolding refusalAt
     unrefused h = rw (f, o, ← e, le-ltb _ _ h)
+
+  -- a refusal that is not 0 leaves nothing to say of a call that is not refused
+  pub refused-front : {n r : ℕ} {P : Type 0} → r ≡ n → n ≡ refusalAt l room → eqb n 0 ≡ false →
+      (r ≡ refusalAt l room) × (refusalAt l room ≡ 0 → P)
+  refused-front e p q = (e ∙ p, λ z. absurd (false≢true (sym q ∙ eq-eqb _ 0 (p ∙ z))))
 
   -- what it says of a call that it is not refused
   pub record Clear : Type 0 where
@@ -177,10 +184,12 @@ absent none made c p q t = (refl, q)
 absent (some d) made c p q t = absurd (false≢true (sym t ∙ p))
 
 module _ (b : Board) (s : sound b ≡ true) (l : List ℕ) (tag : ℕ) where
-  pub read-parted : tag ≡ 2 → ownRefusal tag l ≡ 0 → (offset : ℕ) → offset ≡ beAt l 3 2 + base → (r : Reading) →
-      r ≡ offsetReading offset b → callAt tag l b ≡ told (wired (afterReading r b)) (Byte (r .byte))
-  read-parted t z offset p r q =
-      let e : r ≡ readingAt (beAt l 3 2) b = rw p at q in
+  pub read-parted : tag ≡ 2 → ownRefusal tag l ≡ 0 → (offset : ℕ) → offset ≡ beAt l 3 2 + base → (shared : ℕ) →
+      shared ≡ timerWord (registerOf offset) (b .«timer_enable») (b .timers) → (i : ℕ) → i ≡ channelIndex offset →
+      (r : Reading) → r ≡ readingOf (getD (b .timers) i freshTimer) shared (b .clock) (b .latches) offset →
+      callAt tag l b ≡ told (wired (afterReading r b)) (Byte (r .byte))
+  read-parted t z offset p shared w i n r q =
+      let e : r ≡ readingAt (beAt l 3 2) b = rw (w, n, p) at q in
       rw e (read-told b s l tag t z _ (sym (read-parts (beAt l 3 2) b)))
 
   -- y is the board before source 3 is set
@@ -233,19 +242,19 @@ module _ (list buf₀ : List ℕ) (s₀ : Outcome) (buf : List ℕ) (b : Board) 
   pub goes-on : ((i : ℕ) → getD (drop used list) i 0 < 256) →
       refusalAt (drop used list) (length buf - written) ≡ 0 → (b′ : Board) (a : Answer) →
       callAt (tagAt (drop used list)) (drop used list) b ≡ told b′ a → (buf′ : List ℕ) →
-      buf′ ≡ sets buf written (recordOf (tagAt (drop used list)) (valueBytes a)) → (width size : ℕ) →
-      width ≡ widthOf (tagAt (drop used list)) → size ≡ sizeOf (tagAt (drop used list)) →
-      Running list buf₀ s₀ buf′ (stateOf b′ (calls + 1) (used + (3 + width)) (written + (3 + size)))
+      buf′ ≡ sets buf written (recordOf (tagAt (drop used list)) (valueBytes a)) → (taken size : ℕ) →
+      Sized (drop used list) taken size →
+      Running list buf₀ s₀ buf′ (stateOf b′ (calls + 1) (used + taken) (written + (3 + size)))
   unfolding stepped bytesOf
-  goes-on bytes z b′ a e buf′ w width size p q =
+  goes-on bytes z b′ a e buf′ w taken size h =
       let l = drop used list in
       let room = length buf - written in
       let g = call-good l bytes b (good b (r .fits) (r .sound)) (tagAt l) in
       let g′ : Good b′ = rw e at g in
       let n : length (recordOf (tagAt l) (valueBytes a)) ≡ 3 + size =
       record-length (tagAt l) (valueBytes a)
-      ∙ ap (λ (k : ℕ). 3 + k) (answer-size b (r .sound) l room z b′ a e ∙ sym q) in
-      rw (p, ← n)
+      ∙ ap (λ (k : ℕ). 3 + k) (answer-size b (r .sound) l room z b′ a e ∙ sym (h .1)) in
+      rw (h .0, ← n)
       (more list buf₀ s₀ buf (stateOf b calls used written) r inside buf′
       (done b′ (3 + widthOf (tagAt l)) (recordOf (tagAt l) (valueBytes a)))
       (turn-done b (r .sound) l room z b′ a e) w refl (facts-sound b′ (g′ .facts)) (g′ .fits) .0)

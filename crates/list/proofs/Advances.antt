@@ -12,7 +12,6 @@ use Rattle.channel.specs.Prescaler.{advanced}
 use Rattle.clock.specs.declared.Clock.{Clock}
 use Rattle.clock.specs.Clock.{clockRate, advanceClock}
 use Rattle.clock.specs.Sound.{Timed}
-use Rattle.clock.proofs.Stores.{stored as stored-clock, advance-stores}
 use Rattle.board.specs.declared.Board.{Board}
 use Rattle.board.specs.Board.{withTimers, withClock, wired}
 use Rattle.board.specs.Calls.{advancedBoard}
@@ -62,15 +61,14 @@ module _ (enable c i : ℕ) (b₀ b : Board) (a : Advancing enable c i b₀ b) w
             (a .now);
       }
 
-  -- after the last turn, and with the clock's fields stored
+  -- after the last turn, and with the clock advanced
   pub all-advanced : 4 ≤ i → enable ≡ b₀ .«timer_enable» → (k : Clock) → k ≡ advanceClock clockRate c (b .clock) →
-      wired (withClock (stored-clock (b .clock) k) b) ≡ advancedBoard c b₀
+      wired (withClock k b) ≡ advancedBoard c b₀
   unfolding advancedBoard
   all-advanced h e k q =
       let n : i ≡ 4 = omega (arith, h, a .below) in
-      let s : stored-clock (b .clock) k ≡ advanceClock clockRate c (b₀ .clock) =
-      rw q (advance-stores clockRate c (b .clock))
-      ∙ ap (λ (x : Board). advanceClock clockRate c (x .clock)) (a .now) in
+      let s : k ≡ advanceClock clockRate c (b₀ .clock) =
+      q ∙ ap (λ (x : Board). advanceClock clockRate c (x .clock)) (a .now) in
       let t : b .timers ≡ advancedAll enable c (b₀ .timers) =
       timers-now ∙ rw n (map-ends (λ k t. advanced (bit k enable) c t) 4 0 (b₀ .timers) (a .four)) in
       ap wired

@@ -4,7 +4,8 @@ use Prim.Native.Nat.{ℕ, _+_}
 use mathlib.Core.Bool.{cond}
 use mathlib.Core.List.{List}
 use lib.Dec.{ltb, eqb}
-use Rattle.format.specs.Format.{answerTooLong, tagAt, frameRefusal}
+use mathlib.Core.Path.{_≡_}
+use Rattle.format.specs.Format.{answerTooLong, tagAt, widthOf, frameRefusal}
 use Rattle.perform.specs.Parts.{ownRefusal, sizeOf}
 
 unfoldable pub refusalAt : List ℕ → ℕ → ℕ
@@ -14,3 +15,7 @@ refusalAt l room =
     (cond (ltb room (3 + sizeOf (tagAt l))) answerTooLong 0)
     (ownRefusal (tagAt l) l))
     (frameRefusal l)
+
+-- the list bytes that the call uses, and the bytes of its answer's members, by its tag
+abbrev pub Sized : List ℕ → ℕ → ℕ → Type 0
+Sized l used size = (used ≡ 3 + widthOf (tagAt l)) × (size ≡ sizeOf (tagAt l))

@@ -4,7 +4,7 @@
 ghost use mathlib.Core.Path.{_≡_};
 ghost use lib.ListN.{length};
 ghost use Rattle.list.specs.Run.{runOf, over};
-ghost use Rattle.list.specs.Refusals.{refusalAt};
+ghost use Rattle.list.specs.Refusals.{refusalAt, Sized};
 use board::Board;
 use channel::ChannelNumber;
 use channel::Cycles;
@@ -16,6 +16,7 @@ use offsets::writes::acknowledged;
 use registers::reads;
 use registers::writes;
 use wide::deadline::Deadline;
+use wide::fields;
 
 // The board after a run, the calls done, the list bytes that they used, the answer bytes, and the refusal, 0 for none.
 pub struct Outcome {
@@ -26,23 +27,48 @@ pub struct Outcome {
     pub refusal: u8,
 }
 
-// The refusal of the call at the front of what is left of the list, with so much room for its answer, 0 for none.
-fn refusal_of(rest: &[u8], room: usize) -> u8
-    ensures { λ r. ⌜ r ≡ refusalAt (now (rest .entry)) room ⌝ }
+// The call at the front of what is left of a list: its refusal, 0 for none; the list bytes that it uses, and the bytes
+// of its answer's members, where it is not refused.
+struct Front {
+    refusal: u8,
+    length: usize,
+    size: usize,
+}
+
+fn refused(refusal: u8) -> Front
+    ensures { λ r. ⌜ r .refusal ≡ refusal ⌝ }
+{
+    Front {
+        refusal,
+        length: 0,
+        size: 0,
+    }
+}
+
+// The call at the front, with so much room for its answer.
+fn front_of(rest: &[u8], room: usize) -> Front
+    ensures { λ r. ⌜ (r .refusal ≡ refusalAt (now (rest .entry)) room)
+        × (refusalAt (now (rest .entry)) room ≡ 0 → Sized (now (rest .entry)) (r .length) (r .size)) ⌝ }
 {
     let refusal = format::frame_refusal(rest);
     if refusal != 0 {
-        return refusal;
+        return refused(refusal);
     }
     let tag = rest[0];
     let own = perform::own_refusal(tag, rest);
     if own != 0 {
-        return own;
+        return refused(own);
     }
-    if room < format::HEADER + perform::answer_size(tag) {
-        return format::ANSWER_TOO_LONG;
+    let size = perform::answer_size(tag);
+    if room < format::HEADER + size {
+        return refused(format::ANSWER_TOO_LONG);
     }
-    0
+    // the header's length is the tag's, as the frame was not refused
+    Front {
+        refusal: 0,
+        length: format::HEADER + fields::get(rest, 1, 2) as usize,
+        size,
+    }
 }
 
 // Runs a list of calls over a board, and writes their answers into a buffer.
@@ -66,7 +92,8 @@ pub fn run(board: Board, list: &[u8], answers: &mut [u8]) -> Outcome
     let mut written = 0;
     while used < list.len() {
         let rest = &list[used..];
-        let refusal = refusal_of(rest, answers.len() - written);
+        let front = front_of(rest, answers.len() - written);
+        let refusal = front.refusal;
         if refusal != 0 {
             return Outcome {
                 board: b,
@@ -77,8 +104,8 @@ pub fn run(board: Board, list: &[u8], answers: &mut [u8]) -> Outcome
             };
         }
         let tag = rest[0];
-        let size = perform::answer_size(tag);
-        let next = used + (format::HEADER + format::width_of(tag));
+        let size = front.size;
+        let next = used + front.length;
         let end = written + (format::HEADER + size);
         let mut answer = Answer::Empty;
         let mut cycles = Cycles(0);
@@ -87,9 +114,12 @@ pub fn run(board: Board, list: &[u8], answers: &mut [u8]) -> Outcome
             2 => {
                 let offset = perform::offset_at(rest);
                 let timers = b.timers;
+                let shared = reads::shared_at(timers, b.timer_enable, offset);
+                let i = reads::channel_index(offset);
+                let timer = b.timers[i];
                 let clock = b.clock;
                 let latches = b.latches;
-                let r = reads::reading_from(timers, b.timer_enable, clock, latches, offset);
+                let r = reads::reading_of(timer, shared, clock, latches, offset);
                 let after = r.latches;
                 b.latches = after;
                 b.clock.alarm.pending = r.pending;
@@ -141,12 +171,7 @@ pub fn run(board: Board, list: &[u8], answers: &mut [u8]) -> Outcome
                     }
                     let clock = b.clock;
                     let later = clock.advance(cycles);
-                    // the fields that an advance moves; a clock stored whole waits for its padding
-                    b.clock.seconds = later.seconds;
-                    b.clock.subsecond = later.subsecond;
-                    b.clock.poll = later.poll;
-                    b.clock.alarm.pending = later.alarm.pending;
-                    b.clock.alarm.armed = later.alarm.armed;
+                    b.clock = later;
                 }
             }
             // deadline

@@ -1,6 +1,6 @@
 -- The parts of a call are the call, on a sound board: its own refusal, the size of its answer, and the board and
 -- answer of each kind of call where it is not refused. Assumes nothing.
-use Prim.Native.Nat.{ℕ, suc, _+_, _<_}
+use Prim.Native.Nat.{ℕ, zero, suc, _+_, _<_}
 use native.Mathlib.Omega.{arith}
 use mathlib.Core.Path.{_≡_, refl, sym, ap, _∙_}
 use mathlib.Core.Bool.{true, false, true≢false}
@@ -88,30 +88,21 @@ by-tag P tag low high p1 p2 p3 p4 p5 p6 p7 p8 p9 p10 =
     at : (k : ℕ) → P k → (eqb tag k ≡ false → P tag) → P tag
     at k p n = either (eqb tag k) (λ e. let q : tag ≡ k = eqb-true tag k e in rw q p) n
 
-above : (tag : ℕ) → (tag ≡ 0 → ⊥) → 0 < tag
-above tag n = omega arith
-
 -- the sizes that no arm of the code names
-pub size-else : (tag : ℕ) → tag < 11 → (tag ≡ 2 → ⊥) → (tag ≡ 4 → ⊥) → (tag ≡ 5 → ⊥) → (tag ≡ 6 → ⊥) →
-    (tag ≡ 8 → ⊥) → (tag ≡ 10 → ⊥) → 0 ≡ sizeOf tag
-size-else tag high n2 n4 n5 n6 n8 n10 =
-    either (eqb tag 0) (λ e. let q : tag ≡ 0 = eqb-true tag 0 e in rw q refl)
-    (λ e. let n0 = eqb-false tag 0 e in
-    by-tag
-    (λ (t : ℕ). (t ≡ 2 → ⊥) → (t ≡ 4 → ⊥) → (t ≡ 5 → ⊥) → (t ≡ 6 → ⊥) → (t ≡ 8 → ⊥) →
-    (t ≡ 10 → ⊥) → 0 ≡ sizeOf t)
-    tag (above tag n0) high
-    (λ m2 m4 m5 m6 m8 m10. refl)
-    (λ m2 m4 m5 m6 m8 m10. absurd (m2 refl))
-    (λ m2 m4 m5 m6 m8 m10. refl)
-    (λ m2 m4 m5 m6 m8 m10. absurd (m4 refl))
-    (λ m2 m4 m5 m6 m8 m10. absurd (m5 refl))
-    (λ m2 m4 m5 m6 m8 m10. absurd (m6 refl))
-    (λ m2 m4 m5 m6 m8 m10. refl)
-    (λ m2 m4 m5 m6 m8 m10. absurd (m8 refl))
-    (λ m2 m4 m5 m6 m8 m10. refl)
-    (λ m2 m4 m5 m6 m8 m10. absurd (m10 refl))
-    n2 n4 n5 n6 n8 n10)
+pub size-else : (tag : ℕ) → (tag ≡ 2 → ⊥) → (tag ≡ 4 → ⊥) → (tag ≡ 5 → ⊥) → (tag ≡ 6 → ⊥) → (tag ≡ 8 → ⊥) →
+    (tag ≡ 10 → ⊥) → 0 ≡ sizeOf tag
+size-else zero n2 n4 n5 n6 n8 n10 = refl
+size-else (suc zero) n2 n4 n5 n6 n8 n10 = refl
+size-else (suc (suc zero)) n2 n4 n5 n6 n8 n10 = absurd (n2 refl)
+size-else (suc (suc (suc zero))) n2 n4 n5 n6 n8 n10 = refl
+size-else (suc (suc (suc (suc zero)))) n2 n4 n5 n6 n8 n10 = absurd (n4 refl)
+size-else (suc (suc (suc (suc (suc zero))))) n2 n4 n5 n6 n8 n10 = absurd (n5 refl)
+size-else (suc (suc (suc (suc (suc (suc zero)))))) n2 n4 n5 n6 n8 n10 = absurd (n6 refl)
+size-else (suc (suc (suc (suc (suc (suc (suc zero))))))) n2 n4 n5 n6 n8 n10 = refl
+size-else (suc (suc (suc (suc (suc (suc (suc (suc zero)))))))) n2 n4 n5 n6 n8 n10 = absurd (n8 refl)
+size-else (suc (suc (suc (suc (suc (suc (suc (suc (suc zero))))))))) n2 n4 n5 n6 n8 n10 = refl
+size-else (suc (suc (suc (suc (suc (suc (suc (suc (suc (suc zero)))))))))) n2 n4 n5 n6 n8 n10 = absurd (n10 refl)
+size-else (suc (suc (suc (suc (suc (suc (suc (suc (suc (suc (suc n))))))))))) n2 n4 n5 n6 n8 n10 = refl
 
 -- ---- the call's own refusal
 

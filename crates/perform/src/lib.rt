@@ -106,7 +106,6 @@ pub fn own_refusal(tag: u8, rest: &[u8]) -> u8
 
 // The bytes of the answer's members.
 pub fn answer_size(tag: u8) -> usize
-    requires { ⌜ tag < 11 ⌝ }
     ensures { λ r. ⌜ r ≡ sizeOf tag ⌝ }
 {
     match tag {

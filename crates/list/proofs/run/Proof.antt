@@ -56,10 +56,8 @@ use Rattle.channel.proofs.HardwareTimer.advance_cycles.Reads as advance-cycles-
 use Rattle.clock.proofs.Clock.advance.Reads as advance-reads
 use Rattle.controller.proofs.with_source.Reads as with-source-reads
 use Rattle.format.proofs.put_record.Reads as put-record-reads
-use Rattle.format.proofs.width_of.Reads as width-of-reads
-use Rattle.list.proofs.refusal_of.Reads as refusal-of-reads
+use Rattle.list.proofs.front_of.Reads as front-of-reads
 use Rattle.offsets.proofs.writes.acknowledged.Reads as acknowledged-reads
-use Rattle.perform.proofs.answer_size.Reads as answer-size-reads
 use Rattle.perform.proofs.answered.Reads as answered-reads
 use Rattle.perform.proofs.byte_at.Reads as byte-at-reads
 use Rattle.perform.proofs.deadline.Reads as deadline-reads
@@ -67,7 +65,8 @@ use Rattle.perform.proofs.effect_of.Reads as effect-of-reads
 use Rattle.perform.proofs.offset_at.Reads as offset-at-reads
 use Rattle.perform.proofs.passing_of.Reads as passing-of-reads
 use Rattle.registers.proofs.reads.channel_index.Reads as channel-index-reads
-use Rattle.registers.proofs.reads.reading_from.Reads as reading-from-reads
+use Rattle.registers.proofs.reads.reading_of.Reads as reading-of-reads
+use Rattle.registers.proofs.reads.shared_at.Reads as shared-at-reads
 use Rattle.registers.proofs.writes.clock_after.Reads as clock-after-reads
 use Rattle.registers.proofs.writes.enable_after.Reads as enable-after-reads
 use Rattle.registers.proofs.writes.timer_after.Reads as timer-after-reads
@@ -91,16 +90,16 @@ abbrev Came : Type 0
 Came = lts.At-match-came (
   sound-reads.Asked,
   sound-reads.Learnt,
-  refusal-of-reads.Asked,
-  refusal-of-reads.Learnt,
-  answer-size-reads.Asked,
-  answer-size-reads.Learnt,
-  width-of-reads.Asked,
-  width-of-reads.Learnt,
+  front-of-reads.Asked,
+  front-of-reads.Learnt,
   offset-at-reads.Asked,
   offset-at-reads.Learnt,
-  reading-from-reads.Asked,
-  reading-from-reads.Learnt,
+  shared-at-reads.Asked,
+  shared-at-reads.Learnt,
+  channel-index-reads.Asked,
+  channel-index-reads.Learnt,
+  reading-of-reads.Asked,
+  reading-of-reads.Learnt,
   byte-at-reads.Asked,
   byte-at-reads.Learnt,
   acknowledged-reads.Asked,
@@ -109,8 +108,6 @@ Came = lts.At-match-came (
   enable-after-reads.Learnt,
   clock-after-reads.Asked,
   clock-after-reads.Learnt,
-  channel-index-reads.Asked,
-  channel-index-reads.Learnt,
   timer-after-reads.Asked,
   timer-after-reads.Learnt,
   line-reads.Asked,
@@ -142,14 +139,13 @@ Came = lts.At-match-came (
 -- what is left of the list
 abbrev restOf : Came → List ℕ
 restOf c =
-    let l = c .before .before .before .before .before .before .before .before .before .before .before .before
-    .before .args .list .now in
-    let n = c .before .before .before .before .before .before .before .before .loop .used in
+    let l = c .before .before .before .before .before .before .before .before .before .before .before .before .args .list .now in
+    let n = c .before .before .before .before .before .before .before .loop .used in
     take (length l - n) (drop n l)
 
 -- the board before the call
 abbrev boardOf : Came → Board
-boardOf c = c .before .before .before .before .before .before .before .before .loop .b
+boardOf c = c .before .before .before .before .before .before .before .loop .b
 
 -- the board and the answer are those of the call
 accepted : (c : Came) (a : Answer) →
@@ -160,18 +156,18 @@ accepted c a v =
     let l = restOf c in
     let tag = tagAt (restOf c) in
     let b = boardOf c in
-    let i = c .before .before .before .before .before .before .before .before .loop .inv in
+    let i = c .before .before .before .before .before .before .before .loop .inv in
     let s = i .sound in
-    let k = clear (restOf c) _ (sym (c .before .before .before .before .before .refusal-of .ensures)
-    ∙ c .before .before .before .before .if2 .left) in
+    let k = clear (restOf c) _ (sym (c .before .before .before .before .front-of .ensures .0)
+    ∙ c .before .before .before .if2 .left) in
     let bytes : (n : ℕ) → getD l n 0 < 256 =
-    λ n. omega (arith, c .before .before .before .shared-slice-known2 .given n) in
+    λ n. omega (arith, c .before .before .shared-slice-known2 .given n) in
     elim (c .match .came) [
       -- a read
       | inl w ↦ other-told _ tag _ _ _ _ _ _ a
-          (read-parted b s l tag (w .0 .keys1) (k .own) (w .1 .result) (w .1 .ensures) (w .5 .result)
-          (w .5 .ensures))
-          (w .9) (w .10) (ap (λ (n : ℕ). eqb n 4) (w .0 .keys1)) (ap (λ (n : ℕ). eqb n 6) (w .0 .keys1)) v
+          (read-parted b s l tag (w .0 .keys1) (k .own) (w .1 .result) (w .1 .ensures) (w .3 .result) (w .3 .ensures)
+          (w .4 .result) (w .4 .ensures .0) (w .8 .result) (w .8 .ensures))
+          (w .12) (w .13) (ap (λ (n : ℕ). eqb n 4) (w .0 .keys1)) (ap (λ (n : ℕ). eqb n 6) (w .0 .keys1)) v
       -- the arms of a write
       | inr (inl w) ↦ written-told b s l tag (w .0 .keys2) (k .own) (w .1 .result) (w .2 .result) (w .1 .ensures)
           (w .2 .ensures) (c .match .b)
@@ -202,10 +198,10 @@ accepted c a v =
           (w .1 .came))
           (w .2 .result) (w .2 .ensures .0) (w .2 .ensures .1) a (valueBytes (c .match .answer)) (w .4 .taken)
           (c .match .b)
-          (ap wired (w .15)
+          (ap wired (w .10)
           ∙ all-advanced _ _ _ _ _ (w .6 .inv .1) (omega (arith, w .7 .left, w .6 .inv .0)) refl (w .9 .result)
           (w .9 .ensures))
-          (rw (w .17) at v)
+          (rw (w .12) at v)
       | inr (inr (inr (inr (inr (inr (inl w)))))) ↦ unmoved-told b s l tag (w .0 .keys3) (w .1 .high) (numberOf
           (w .1 .soonest))
           (λ e. ⊎-elim (λ u. (u .3 ∙ u .1 .ensures, ap numberOf (u .4) ∙ u .2 .ensures)) (λ u. absurd (u .0 .left e))
@@ -250,16 +246,16 @@ part-rest-start c = omega (arith, c .before .loop .inv .used-in)
 part-rest-end : tie.Need-part-rest-end Inv-loop2 μ-loop2 Inv-loop μ-loop
 part-rest-end c = omega (arith, c .before .loop .inv .used-in)
 
-sub-refusal-of : tie.Need-sub-refusal-of Inv-loop2 μ-loop2 Inv-loop μ-loop
-sub-refusal-of c = omega (
+sub-front-of : tie.Need-sub-front-of Inv-loop2 μ-loop2 Inv-loop μ-loop
+sub-front-of c = omega (
   arith,
   c .before .before .loop .inv .counted,
   c .before .before .loop .inv .room,
   c .before .before .loop .inv .same,
 )
 
-refusal-of-requires : tie.Need-refusal-of-requires Inv-loop2 μ-loop2 Inv-loop μ-loop
-refusal-of-requires c κs = search needs
+front-of-requires : tie.Need-front-of-requires Inv-loop2 μ-loop2 Inv-loop μ-loop
+front-of-requires c κs = search needs
 
 same-length : tie.Need-same-length Inv-loop2 μ-loop2 Inv-loop μ-loop
 same-length c = omega (arith, c .before .before .before .before .loop .inv .same)
@@ -271,53 +267,28 @@ returns-2 c =
     let p = looped .before in
     let s : sound (p .before .before .before .before .args .board) ≡ true = sym (p .before .sound .ensures .0)
     ∙ not-false _ (p .if1 .left) in
-    let e = rw part-rest at (c .before .refusal-of .ensures) in
+    let e = rw part-rest at (c .before .front-of .ensures .0) in
     rw s
     (ends _ _ _ _ _ _ _ _ (looped .loop .inv) (c .before .before .before .loop-test .taken) _ e (ne-eqb _ _
     (c .if2 .taken)))
 
 shared-slice-read-tag : tie.Need-shared-slice-read-tag Inv-loop2 μ-loop2 Inv-loop μ-loop
 shared-slice-read-tag c =
-    let h = framed _ (clear _ _ (sym (c .before .before .refusal-of .ensures) ∙ c .before .if2 .left) .frame) in
+    let h = framed _ (clear _ _ (sym (c .before .before .front-of .ensures .0) ∙ c .before .if2 .left) .frame) in
     omega (arith, h)
-
-answer-size-requires : tie.Need-answer-size-requires Inv-loop2 μ-loop2 Inv-loop μ-loop
-answer-size-requires c κs = framed _ (clear _ _ (sym (c .before .before .refusal-of .ensures)
-    ∙ c .before .if2 .left) .frame) .1
-
-width-of-requires : tie.Need-width-of-requires Inv-loop2 μ-loop2 Inv-loop μ-loop
-width-of-requires c κs = framed _ (clear _ _ (sym (c .before .before .before .refusal-of .ensures)
-    ∙ c .before .before .if2 .left) .frame) .1
 
 add-next : tie.Need-add-next Inv-loop2 μ-loop2 Inv-loop μ-loop
 add-next c =
-    let refusing = c .before .before .before .before in
-    let looped = refusing .before .before .before in
+    let fronted = c .before .before .before in
+    let looped = fronted .before .before .before in
     let start = looped .before .before .before .before .before in
-    let k = clear _ _ (sym (refusing .refusal-of .ensures) ∙ c .before .before .before .if2 .left) in
-    let f = rw part-rest at (framed _ (k .frame)) in
-    let w = rw part-rest at (c .width-of .ensures) in
+    let z = sym (fronted .front-of .ensures .0) ∙ c .before .before .if2 .left in
+    let f = rw part-rest at (framed _ (clear _ _ z .frame)) in
+    let n = rw part-rest at (fronted .front-of .ensures .1 z .0) in
     omega (
       arith,
       f .0,
-      w,
-      length-drop (looped .loop .used) (start .args .list .now),
-      looped .loop .inv .used-in,
-      start .good,
-    )
-
-add-next-2 : tie.Need-add-next-2 Inv-loop2 μ-loop2 Inv-loop μ-loop
-add-next-2 c =
-    let refusing = c .before .before .before .before in
-    let looped = refusing .before .before .before in
-    let start = looped .before .before .before .before .before in
-    let k = clear _ _ (sym (refusing .refusal-of .ensures) ∙ c .before .before .before .if2 .left) in
-    let f = rw part-rest at (framed _ (k .frame)) in
-    let w = rw part-rest at (c .width-of .ensures) in
-    omega (
-      arith,
-      f .0,
-      w,
+      n,
       length-drop (looped .loop .used) (start .args .list .now),
       looped .loop .inv .used-in,
       start .good,
@@ -325,50 +296,59 @@ add-next-2 c =
 
 add-end : tie.Need-add-end Inv-loop2 μ-loop2 Inv-loop μ-loop
 add-end c =
-    let refusing = c .before .before .before .before in
-    let looped = refusing .before .before .before in
+    let fronted = c .before .before .before in
+    let looped = fronted .before .before .before in
     let start = looped .before .before .before .before .before in
-    let k = clear _ _ (sym (refusing .refusal-of .ensures) ∙ c .before .before .before .if2 .left) .fits in
-    let w = c .before .answer-size .ensures in
-    omega (arith, k, w, looped .loop .inv .same, looped .loop .inv .counted, looped .loop .inv .room, start .good)
+    let z = sym (fronted .front-of .ensures .0) ∙ c .before .before .if2 .left in
+    let k = clear _ _ z .fits in
+    let n = fronted .front-of .ensures .1 z .1 in
+    omega (arith, k, n, looped .loop .inv .same, looped .loop .inv .counted, looped .loop .inv .room, start .good)
 
 add-end-2 : tie.Need-add-end-2 Inv-loop2 μ-loop2 Inv-loop μ-loop
 add-end-2 c =
-    let refusing = c .before .before .before .before in
-    let looped = refusing .before .before .before in
+    let fronted = c .before .before .before in
+    let looped = fronted .before .before .before in
     let start = looped .before .before .before .before .before in
-    let k = clear _ _ (sym (refusing .refusal-of .ensures) ∙ c .before .before .before .if2 .left) .fits in
-    let w = c .before .answer-size .ensures in
-    omega (arith, k, w, looped .loop .inv .same, looped .loop .inv .counted, looped .loop .inv .room, start .good)
+    let z = sym (fronted .front-of .ensures .0) ∙ c .before .before .if2 .left in
+    let k = clear _ _ z .fits in
+    let n = fronted .front-of .ensures .1 z .1 in
+    omega (arith, k, n, looped .loop .inv .same, looped .loop .inv .counted, looped .loop .inv .room, start .good)
 
 offset-at-requires : tie.Need-offset-at-requires Inv-loop2 μ-loop2 Inv-loop μ-loop
 offset-at-requires c κs =
-    let unrefused = c .before .before .before .before in
-    let refusing = unrefused .before in
-    let h = value-in _ 2 (clear _ _ (sym (refusing .refusal-of .ensures)
+    let unrefused = c .before .before .before in
+    let h = value-in _ 2 (clear _ _ (sym (unrefused .before .front-of .ensures .0)
     ∙ unrefused .if2 .left) .frame) (c .match .keys1) in
     omega (arith, h)
 
-reading-from-requires : tie.Need-reading-from-requires Inv-loop2 μ-loop2 Inv-loop μ-loop
-reading-from-requires c κs =
-    let i =
-    c .before .before .before .before .before .before .before .before .before .before .before .before .loop
-    .inv in
+shared-at-requires : tie.Need-shared-at-requires Inv-loop2 μ-loop2 Inv-loop μ-loop
+shared-at-requires c κs = search needs
+
+channel-index-requires : tie.Need-channel-index-requires Inv-loop2 μ-loop2 Inv-loop μ-loop
+channel-index-requires c κs = search needs
+
+mul-timer : tie.Need-mul-timer Inv-loop2 μ-loop2 Inv-loop μ-loop
+mul-timer c = omega (arith, c .channel-index .ensures .1)
+
+element-copy-out-timer : tie.Need-element-copy-out-timer Inv-loop2 μ-loop2 Inv-loop μ-loop
+element-copy-out-timer c = c .channel-index .ensures .1
+
+reading-of-requires : tie.Need-reading-of-requires Inv-loop2 μ-loop2 Inv-loop μ-loop
+reading-of-requires c κs =
+    let i = c .before .before .before .before .before .before .before .before .before .before .before .before .before .before .loop .inv in
     sound-times _ (i .fits .clock) (i .sound)
 
 offset-at-requires-2 : tie.Need-offset-at-requires-2 Inv-loop2 μ-loop2 Inv-loop μ-loop
 offset-at-requires-2 c κs =
-    let unrefused = c .before .before .before .before in
-    let refusing = unrefused .before in
-    let h = value-in _ 3 (clear _ _ (sym (refusing .refusal-of .ensures)
+    let unrefused = c .before .before .before in
+    let h = value-in _ 3 (clear _ _ (sym (unrefused .before .front-of .ensures .0)
     ∙ unrefused .if2 .left) .frame) (c .match .keys2) in
     omega (arith, h)
 
 byte-at-requires : tie.Need-byte-at-requires Inv-loop2 μ-loop2 Inv-loop μ-loop
 byte-at-requires c κs =
-    let unrefused = c .before .before .before .before .before in
-    let refusing = unrefused .before in
-    let h = value-in _ 3 (clear _ _ (sym (refusing .refusal-of .ensures)
+    let unrefused = c .before .before .before .before in
+    let h = value-in _ 3 (clear _ _ (sym (unrefused .before .front-of .ensures .0)
     ∙ unrefused .if2 .left) .frame) (c .before .match .keys2) in
     omega (arith, h)
 
@@ -380,58 +360,54 @@ enable-after-requires c κs = search needs
 
 clock-after-requires : tie.Need-clock-after-requires Inv-loop2 μ-loop2 Inv-loop μ-loop
 clock-after-requires c κs =
-    let i = c .before .before .before .before .before .before .before .before .before .before .before .before
-    .before .before .loop .inv in
+    let i = c .before .before .before .before .before .before .before .before .before .before .before .before .before .loop .inv in
     sound-times _ (i .fits .clock) (i .sound)
 
-channel-index-requires : tie.Need-channel-index-requires Inv-loop2 μ-loop2 Inv-loop μ-loop
-channel-index-requires c κs = search needs
+channel-index-requires-2 : tie.Need-channel-index-requires-2 Inv-loop2 μ-loop2 Inv-loop μ-loop
+channel-index-requires-2 c κs = search needs
 
-mul-timer : tie.Need-mul-timer Inv-loop2 μ-loop2 Inv-loop μ-loop
-mul-timer c = omega (arith, c .channel-index .ensures .1)
+mul-timer-2 : tie.Need-mul-timer-2 Inv-loop2 μ-loop2 Inv-loop μ-loop
+mul-timer-2 c = omega (arith, c .channel-index2 .ensures .1)
 
-element-copy-out-timer : tie.Need-element-copy-out-timer Inv-loop2 μ-loop2 Inv-loop μ-loop
-element-copy-out-timer c = c .channel-index .ensures .1
+element-copy-out-timer-2 : tie.Need-element-copy-out-timer-2 Inv-loop2 μ-loop2 Inv-loop μ-loop
+element-copy-out-timer-2 c = c .channel-index2 .ensures .1
 
 timer-after-requires : tie.Need-timer-after-requires Inv-loop2 μ-loop2 Inv-loop μ-loop
 timer-after-requires c κs = search needs
 
 mul-after : tie.Need-mul-after Inv-loop2 μ-loop2 Inv-loop μ-loop
-mul-after c = omega (arith, c .before .before .channel-index .ensures .1)
+mul-after c = omega (arith, c .before .before .channel-index2 .ensures .1)
 
 element-set-from-after : tie.Need-element-set-from-after Inv-loop2 μ-loop2 Inv-loop μ-loop
-element-set-from-after c = c .before .before .channel-index .ensures .1
+element-set-from-after c = c .before .before .channel-index2 .ensures .1
 
 line-requires : tie.Need-line-requires Inv-loop2 μ-loop2 Inv-loop μ-loop
 line-requires c κs = search needs
 
 exact-deadline-requires : tie.Need-exact-deadline-requires Inv-loop2 μ-loop2 Inv-loop μ-loop
-exact-deadline-requires c κs = c .before .before .before .before .before .before .before .before .before
-    .before .loop .inv .sound
+exact-deadline-requires c κs = c .before .before .before .before .before .before .before .before .before .loop .inv .sound
 
 passing-of-requires : tie.Need-passing-of-requires Inv-loop2 μ-loop2 Inv-loop μ-loop
 passing-of-requires c κs =
-    let unrefused = c .before .before .before .before .before in
-    let refusing = unrefused .before in
-    framed _ (clear _ _ (sym (refusing .refusal-of .ensures) ∙ unrefused .if2 .left) .frame) .0
+    let unrefused = c .before .before .before .before in
+    framed _ (clear _ _ (sym (unrefused .before .front-of .ensures .0) ∙ unrefused .if2 .left) .frame) .0
 
 channels-requires : tie.Need-channels-requires Inv-loop2 μ-loop2 Inv-loop μ-loop
 channels-requires c κs = search needs
 
 loop2-holds : tie.Need-loop2-holds Inv-loop2 μ-loop2 Inv-loop μ-loop
 loop2-holds c =
-    let i = c .before .before .before .before .before .before .before .before .before .before .before .before
-    .before .loop .inv in
+    let i = c .before .before .before .before .before .before .before .before .before .before .before .before .loop .inv in
     (c .channels .ensures .0, begins _ _ _ (c .channels .ensures .1) (sound-facts _ (i .sound) .timers))
 
-mul-timer-2 : tie.Need-mul-timer-2 Inv-loop2 μ-loop2 Inv-loop μ-loop
-mul-timer-2 c = omega (arith, c .loop2-test .taken, c .before .loop2 .inv .0)
+mul-timer-3 : tie.Need-mul-timer-3 Inv-loop2 μ-loop2 Inv-loop μ-loop
+mul-timer-3 c = omega (arith, c .loop2-test .taken, c .before .loop2 .inv .0)
 
-element-copy-out-timer-2 : tie.Need-element-copy-out-timer-2 Inv-loop2 μ-loop2 Inv-loop μ-loop
-element-copy-out-timer-2 c = omega (arith, c .loop2-test .taken, c .before .loop2 .inv .0)
+element-copy-out-timer-3 : tie.Need-element-copy-out-timer-3 Inv-loop2 μ-loop2 Inv-loop μ-loop
+element-copy-out-timer-3 c = omega (arith, c .loop2-test .taken, c .before .loop2 .inv .0)
 
-cast-t80 : tie.Need-cast-t80 Inv-loop2 μ-loop2 Inv-loop μ-loop
-cast-t80 c = omega (arith, c .before .loop2-test .taken, c .before .before .loop2 .inv .0)
+cast-t88 : tie.Need-cast-t88 Inv-loop2 μ-loop2 Inv-loop μ-loop
+cast-t88 c = omega (arith, c .before .loop2-test .taken, c .before .before .loop2 .inv .0)
 
 selected-requires : tie.Need-selected-requires Inv-loop2 μ-loop2 Inv-loop μ-loop
 selected-requires c κs = search needs
@@ -486,18 +462,16 @@ loop2-again c =
 
 advance-requires : tie.Need-advance-requires Inv-loop2 μ-loop2 Inv-loop μ-loop
 advance-requires c κs =
-    let i = c .before .before .before .before .before .before .before .before .before .before .before .before
-    .before .before .before .before .loop .inv in
+    let i = c .before .before .before .before .before .before .before .before .before .before .before .before .before .before .before .loop .inv in
     still-timed _ _ _ _ _ (c .before .before .loop2 .inv .1) (sound-times _ (i .fits .clock) (i .sound))
 
 deadline-requires : tie.Need-deadline-requires Inv-loop2 μ-loop2 Inv-loop μ-loop
-deadline-requires c κs = c .before .before .before .before .before .before .before .before .loop .inv .sound
+deadline-requires c κs = c .before .before .before .before .before .before .before .loop .inv .sound
 
 effect-of-requires : tie.Need-effect-of-requires Inv-loop2 μ-loop2 Inv-loop μ-loop
 effect-of-requires c κs =
-    let unrefused = c .before .before .before .before .before .before in
-    let refusing = unrefused .before in
-    framed _ (clear _ _ (sym (refusing .refusal-of .ensures) ∙ unrefused .if2 .left) .frame) .0
+    let unrefused = c .before .before .before .before .before in
+    framed _ (clear _ _ (sym (unrefused .before .front-of .ensures .0) ∙ unrefused .if2 .left) .frame) .0
 
 line-requires-2 : tie.Need-line-requires-2 Inv-loop2 μ-loop2 Inv-loop μ-loop
 line-requires-2 c κs = search needs
@@ -510,53 +484,51 @@ answered-requires c κs = search needs
 
 put-record-requires : tie.Need-put-record-requires Inv-loop2 μ-loop2 Inv-loop μ-loop
 put-record-requires c κs =
-    let unrefused = c .before .before .before .before .before .before .before .before .before in
-    let refusing = unrefused .before in
-    let looped = refusing .before .before .before in
-    let i = looped .loop .inv in
-    let z = sym (refusing .refusal-of .ensures) ∙ unrefused .if2 .left in
-    let q = c .before .before .before .before .before .before .before .answer-size .ensures in
+    let met = c .before .before .before .before .before in
+    let unrefused = met .before .before .before in
+    let fronted = unrefused .before in
+    let i = fronted .before .before .before .loop .inv in
+    let z = sym (fronted .front-of .ensures .0) ∙ unrefused .if2 .left in
+    let n = fronted .front-of .ensures .1 z .1 in
     let e =
-    accepted (c .before .before .before .before .before) (c .before .answered .result)
+    accepted met (c .before .answered .result)
     (by-line _ _ _ _ _ _ (c .before .answered .ensures) (c .before .before .before .before .line2 .ensures)) in
-    (q ∙ sym (answer-size _ (i .sound) _ _ z _ _ e), omega (arith, q, clear _ _ z .fits, i .same, i .counted, i .room))
+    (n ∙ sym (answer-size _ (i .sound) _ _ z _ _ e), omega (arith, n, clear _ _ z .fits, i .same, i .counted, i .room))
 
 add-calls : tie.Need-add-calls Inv-loop2 μ-loop2 Inv-loop μ-loop
 add-calls c =
-    let inside = c .before .before .before .before .before .before .before .before .before .before .before
-    .before .before .before .before in
+    let inside = c .before .before .before .before .before .before .before .before .before .before .before .before .before .before in
     let looped = inside .before in
     let start = looped .before .before .before .before .before in
     omega (arith, looped .loop .inv .calls-in, inside .loop-test .taken, start .good)
 
 loop-less : tie.Need-loop-less Inv-loop2 μ-loop2 Inv-loop μ-loop
 loop-less c =
-    let inside = c .before .before .before .before .before .before .before .before .before .before .before
-    .before .before .before .before in
-    omega (arith, inside .loop-test .taken)
+    let unrefused = c .before .before .before .before .before .before .before .before .before .before .before in
+    let fronted = unrefused .before in
+    let z = sym (fronted .front-of .ensures .0) ∙ unrefused .if2 .left in
+    omega (arith, fronted .before .before .loop-test .taken, fronted .front-of .ensures .1 z .0)
 
 loop-again : tie.Need-loop-again Inv-loop2 μ-loop2 Inv-loop μ-loop
 loop-again c =
     let replied = c .before .before .before .before in
     let lined = replied .before .before .before in
     let met = lined .before in
-    let wide = met .before in
-    let sized = wide .before in
-    let known = sized .before in
+    let known = met .before .before in
     let unrefused = known .before in
-    let refusing = unrefused .before in
-    let inside = refusing .before .before in
+    let fronted = unrefused .before in
+    let inside = fronted .before .before in
     let looped = inside .before in
-    let r = rw part-rest at (refusing .refusal-of .ensures) in
+    let z = sym (fronted .front-of .ensures .0) ∙ unrefused .if2 .left in
     let e =
     accepted met (replied .answered .result) (by-line _ _ _ _ _ _ (replied .answered .ensures) (lined .line2 .ensures))
     ∙ ap (λ (x : Board). told x (replied .answered .result))
     (sym (wired-is (met .match .b) _ _ (lined .line2 .ensures) (replied .before .with-source .ensures))) in
     goes-on _ _ _ _ _ _ _ _ (looped .loop .inv) (inside .loop-test .taken)
-    (λ i. omega (arith, rw part-rest at (known .shared-slice-known2 .given i))) (sym r ∙ unrefused .if2 .left)
+    (λ i. omega (arith, rw part-rest at (known .shared-slice-known2 .given i))) (rw part-rest at z)
     _ (replied .answered .result) (rw part-rest at e) (c .before .before .put-record .last .0)
-    (rw part-rest at (c .before .before .put-record .ensures)) (wide .width-of .result) (sized .answer-size .result)
-    (rw part-rest at (wide .width-of .ensures)) (rw part-rest at (sized .answer-size .ensures))
+    (rw part-rest at (c .before .before .put-record .ensures)) (fronted .front-of .result .length)
+    (fronted .front-of .result .size) (rw part-rest at (fronted .front-of .ensures .1 z))
 
 same-length-2 : tie.Need-same-length-2 Inv-loop2 μ-loop2 Inv-loop μ-loop
 same-length-2 c = omega (arith, c .before .loop .inv .same)
@@ -583,27 +555,28 @@ run-spec =
     sub-rest
     part-rest-start
     part-rest-end
-    sub-refusal-of
-    refusal-of-requires
+    sub-front-of
+    front-of-requires
     same-length
     returns-2
     shared-slice-read-tag
-    answer-size-requires
-    width-of-requires
     add-next
-    add-next-2
     add-end
     add-end-2
     offset-at-requires
-    reading-from-requires
+    shared-at-requires
+    channel-index-requires
+    mul-timer
+    element-copy-out-timer
+    reading-of-requires
     offset-at-requires-2
     byte-at-requires
     acknowledged-requires
     enable-after-requires
     clock-after-requires
-    channel-index-requires
-    mul-timer
-    element-copy-out-timer
+    channel-index-requires-2
+    mul-timer-2
+    element-copy-out-timer-2
     timer-after-requires
     mul-after
     element-set-from-after
@@ -612,9 +585,9 @@ run-spec =
     passing-of-requires
     channels-requires
     loop2-holds
-    mul-timer-2
-    element-copy-out-timer-2
-    cast-t80
+    mul-timer-3
+    element-copy-out-timer-3
+    cast-t88
     selected-requires
     advance-cycles-requires
     mul-moved

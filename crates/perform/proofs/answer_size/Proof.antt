@@ -25,7 +25,7 @@ returns-6 c = search needs
 returns-7 : tie.Need-returns-7
 returns-7 c =
     let n = c .match .rest in
-    size-else (c .before .args .tag) (c .before .pre) (n .0 .0 .0 .0 .0 .1) (n .0 .0 .0 .0 .1) (n .0 .0 .0 .1)
+    size-else (c .before .args .tag) (n .0 .0 .0 .0 .0 .1) (n .0 .0 .0 .0 .1) (n .0 .0 .0 .1)
     (n .0 .0 .1) (n .0 .1) (n .1)
 
 pub answer-size-spec : {M : Type 1} → statement M
