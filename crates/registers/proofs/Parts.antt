@@ -55,6 +55,7 @@ use Rattle.registers.specs.Parts.{
   atCountHigh,
   withCount,
   withSeconds,
+  countFilled,
   filled,
   countServing,
   serving,
@@ -185,7 +186,7 @@ module _ (o : ℕ) (b : Board) where
 
   -- byte 0 of the low word
   low-filled : inChannels o ≡ false → secondsLatched o b ≡ withLatches full b
-  unfolding secondsLatched filled atCountLow
+  unfolding secondsLatched filled countFilled atCountLow
   low-filled n = either (eqb o secondsLowAt) (λ t. rw t) (λ t. rw (t, n))
 
   high-freed : (ls : Latches) → within 0x208 0x20B o ≡ false → within 0x20C 0x20F o ≡ true →
@@ -210,7 +211,7 @@ module _ (o : ℕ) (b : Board) where
 
     -- nothing is filled
     none-filled : atCountLow o ≡ false → full ≡ b .latches
-    unfolding filled
+    unfolding filled countFilled
     none-filled n = rw (not-low, n)
 
     module _ (e : within 0x20C 0x20F o ≡ false) where
@@ -229,7 +230,7 @@ module _ (o : ℕ) (b : Board) where
         high-at = rw c (high-place (placeOf o))
 
         count-filled : eqb (placeOf o) countLowAt ≡ true → withLatches full b ≡ countHeld (channelOf o) b
-        unfolding filled atCountLow
+        unfolding filled countFilled atCountLow
         count-filled p = rw (not-low, c, p, index)
 
         count-freed : within 0x0C 0x0F (placeOf o) ≡ true →

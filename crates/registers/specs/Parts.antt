@@ -58,13 +58,17 @@ withCount n l ls =
 abbrev pub withSeconds : Latch → Latch → Latches → Latches
 withSeconds low high ls = record { counts = ls .counts; low = low; high = high }
 
+-- byte 0 of a count's low word fills the latch of its high word
+unfoldable pub countFilled : ℕ → ℕ → Latches → Latches
+countFilled offset counter ls =
+    cond (atCountLow offset) (withCount (channelIndex offset) (Held (highWord counter)) ls) ls
+
 -- byte 0 of a low word fills the latches of its pair
 unfoldable pub filled : ℕ → ℕ → Clock → Latches → Latches
 filled offset counter k ls =
     cond (eqb offset secondsLowAt)
     (withSeconds (Held (lowWord (timeSeconds clockRate k))) (Held (highWord (timeSeconds clockRate k))) ls)
-    (cond (atCountLow offset) (withCount (channelIndex offset) (Held (highWord counter)) ls)
-    ls)
+    (countFilled offset counter ls)
 
 -- the latch of a count that serves the offset
 unfoldable pub countServing : ℕ → Latches → Latch

@@ -5,8 +5,9 @@ ghost use Rattle.clock.specs.Clock.{clockRate};
 ghost use Rattle.clock.specs.Sound.{Timed};
 ghost use Rattle.offsets.specs.Registers.{inChannels, registerOf};
 ghost use Rattle.offsets.specs.Words.{timerWord};
-ghost use Rattle.registers.specs.Parts.{channelIndex, atCountLow, atCountHigh, withCount, filled, countServing};
-ghost use Rattle.registers.specs.Parts.{serving, countEmptied, emptied, freedAt, wordAt, readingOf};
+ghost use Rattle.registers.specs.Parts.{channelIndex, atCountLow, atCountHigh, withCount, countFilled};
+ghost use Rattle.registers.specs.Parts.{countServing, serving, countEmptied, emptied, freedAt};
+ghost use Rattle.registers.specs.Parts.{wordAt, readingOf};
 use board::CountLatch;
 use board::Latch;
 use board::Latches;
@@ -82,20 +83,10 @@ fn with_count(mut latches: Latches, index: usize, latch: Latch) -> Latches
     latches
 }
 
-// Byte 0 of the clock's low seconds fills both of the clock's latches; byte 0 of a count's low word fills the latch of
-// its high word.
-fn filled(latches: Latches, counter: u64, clock: Clock, offset: u32) -> Latches
-    requires { ⌜ Timed clockRate clock ⌝ }
-    ensures { λ r. ⌜ r ≡ filled offset counter clock latches ⌝ }
+// Byte 0 of a count's low word fills the latch of its high word.
+fn count_filled(latches: Latches, counter: u64, offset: u32) -> Latches
+    ensures { λ r. ⌜ r ≡ countFilled offset counter latches ⌝ }
 {
-    if offset == Registers::RTC_SECONDS_LO {
-        let seconds = clock.time_seconds();
-        return Latches {
-            low: Latch::Held(low(seconds)),
-            high: Latch::Held(high(seconds)),
-            ..latches
-        };
-    }
     if at_count_low(offset) {
         return with_count(latches, channel_index(offset), Latch::Held(high(counter)));
     }
@@ -201,8 +192,24 @@ pub fn reading_of(
     requires { ⌜ Timed clockRate clock ⌝ }
     ensures { λ r. ⌜ r ≡ readingOf timer shared clock latches offset ⌝ }
 {
-    let held = filled(latches, timer.counter, clock, offset);
-    let latch = serving(held, offset);
+    if offset == Registers::RTC_SECONDS_LO {
+        // byte 0 of the clock's low seconds fills both of the clock's latches, and the low word's serves this read
+        let seconds = clock.time_seconds();
+        let word = low(seconds);
+        let pending = clock.alarm.pending;
+        let armed = clock.alarm.armed;
+        return Reading {
+            byte: byte_of_word(word, 0),
+            latches: Latches {
+                low: Latch::Held(word),
+                high: Latch::Held(high(seconds)),
+                ..latches
+            },
+            pending,
+            armed,
+        };
+    }
+    let latch = serving(latches, offset);
     let Latch::Held(word) = latch else {
         let checked = clock.check_alarm();
         let word = word_of(timer, checked, shared, offset);
@@ -210,7 +217,7 @@ pub fn reading_of(
         let armed = checked.alarm.armed;
         return Reading {
             byte: byte_of_word(word, offset % 4),
-            latches: held,
+            latches: count_filled(latches, timer.counter, offset),
             pending,
             armed,
         };
@@ -219,7 +226,7 @@ pub fn reading_of(
     let armed = clock.alarm.armed;
     Reading {
         byte: byte_of_word(word, offset % 4),
-        latches: freed_at(held, offset),
+        latches: freed_at(latches, offset),
         pending,
         armed,
     }
