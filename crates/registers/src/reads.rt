@@ -23,10 +23,11 @@ use wide::flags::both;
 use wide::words::high;
 use wide::words::low;
 
-// What a read answers, and after it the latches and the alarm's two flags.
+// After a read the latches, what it answers, and the alarm's two flags. The latches stand first, so that no bytes between
+// fields are copied with them.
 pub struct Reading {
-    pub byte: u8,
     pub latches: Latches,
+    pub byte: u8,
     pub pending: bool,
     pub armed: bool,
 }
