@@ -43,6 +43,7 @@ impl HardwareTimer {
         }
     }
 
+    // What `advance_cycles` gives.
     fn advanced(self, selected: bool, cycles: Cycles) -> Self
         requires { ⌜ self .phase ≤ self .prescaler ⌝ }
         ensures { λ r. ⌜ r ≡ advanced selected (cycles .0) self ⌝ }

@@ -1,6 +1,6 @@
 // The bytes of the call list: the call at the front of a list, and the record of an answer, big-endian.
 ghost use mathlib.Core.Path.{_≡_};
-ghost use Prim.Native.Nat.{_+_, _≤_, _<_};
+ghost use Prim.Native.Nat.{_+_, _≤_};
 ghost use lib.ListN.{length};
 ghost use lib.Seq.{sets};
 ghost use Rattle.format.specs.Format.{widthOf, frameRefusal, valueBytes, recordOf};

@@ -1,10 +1,10 @@
 -- The refusal of the call at the front of a list, from its bytes and the room for its answer alone, in document 01's
 -- order; the proofs show that a run over a sound board refuses so.
 use Prim.Native.Nat.{ℕ, _+_}
+use mathlib.Core.Path.{_≡_}
 use mathlib.Core.Bool.{cond}
 use mathlib.Core.List.{List}
 use lib.Dec.{ltb, eqb}
-use mathlib.Core.Path.{_≡_}
 use Rattle.format.specs.Format.{answerTooLong, tagAt, widthOf, frameRefusal}
 use Rattle.perform.specs.Parts.{ownRefusal, sizeOf}
 

@@ -35,6 +35,7 @@ struct Front {
     size: usize,
 }
 
+// A call that is refused.
 fn refused(refusal: u8) -> Front
     ensures { λ r. ⌜ r .refusal ≡ refusal ⌝ }
 {
@@ -115,6 +116,7 @@ pub fn run(board: Board, list: &[u8], answers: &mut [u8]) -> Outcome
                 let offset = perform::offset_at(rest);
                 let timers = b.timers;
                 let shared = reads::shared_at(timers, b.timer_enable, offset);
+                // of the board itself: an array that is passed on to be indexed is copied
                 let i = reads::channel_index(offset);
                 let timer = b.timers[i];
                 let clock = b.clock;

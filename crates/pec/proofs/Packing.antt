@@ -20,7 +20,9 @@ pub packed-whole :
     (c : IrqController) → c .pending < 65536 → c .enable < 65536 → c .levels < 65536 → controllerOf (packed c) ≡ c
 unfolding controllerOf packed
 packed-whole c p e l =
-    let f : ((c .pending * 65536 + c .enable) * 65536 + c .levels) / 4294967296 % 65536 ≡ c .pending = omega (arith, p, e, l) in
-    let g : ((c .pending * 65536 + c .enable) * 65536 + c .levels) / 65536 % 65536 ≡ c .enable = omega (arith, p, e, l) in
+    let f : ((c .pending * 65536 + c .enable) * 65536 + c .levels) / 4294967296 % 65536 ≡ c .pending =
+    omega (arith, p, e, l) in
+    let g : ((c .pending * 65536 + c .enable) * 65536 + c .levels) / 65536 % 65536 ≡ c .enable =
+    omega (arith, p, e, l) in
     let h : ((c .pending * 65536 + c .enable) * 65536 + c .levels) % 65536 ≡ c .levels = omega (arith, p, e, l) in
     rw (f, g, h) refl

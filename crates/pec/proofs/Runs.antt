@@ -54,7 +54,8 @@ pub ended :
     (r ≡ repeats times l h .outcome) × (a ≡ repeats times l h .buffer)
 ended l times r₀ a₀ r a k i n h e =
     let k-is : k ≡ times = omega (arith, i .most, n) in
-    let all : held r a ≡ repeats times l h = (i .so-far ∙ ap (λ j. repeats j l (held r₀ a₀)) k-is) ∙ ap (repeats times l) e in
+    let all : held r a ≡ repeats times l h =
+    (i .so-far ∙ ap (λ j. repeats j l (held r₀ a₀)) k-is) ∙ ap (repeats times l) e in
     halves _ _ _ all
 
 -- the results one by one

@@ -2,7 +2,7 @@
 // say, and what it changes and answers. A run has the board, and changes it where it lies.
 ghost use mathlib.Core.Path.{_≡_};
 ghost use mathlib.Core.Bool.{true};
-ghost use Prim.Native.Nat.{_+_, _≤_, _<_};
+ghost use Prim.Native.Nat.{_+_, _≤_};
 ghost use lib.ListN.{length};
 ghost use Rattle.wide.specs.Bits.{flagOf};
 ghost use Rattle.wide.specs.Fields.{beAt};

@@ -23,8 +23,8 @@ use wide::flags::both;
 use wide::words::high;
 use wide::words::low;
 
-// After a read the latches, what it answers, and the alarm's two flags. The latches stand first, so that no bytes between
-// fields are copied with them.
+// After a read the latches, what it answers, and the alarm's two flags. The latches stand first, so that no bytes
+// between fields are copied with them.
 pub struct Reading {
     pub latches: Latches,
     pub byte: u8,

@@ -139,7 +139,8 @@ Came = lts.At-match-came (
 -- what is left of the list
 abbrev restOf : Came → List ℕ
 restOf c =
-    let l = c .before .before .before .before .before .before .before .before .before .before .before .before .args .list .now in
+    let l = c .before .before .before .before .before .before .before .before .before .before .before
+    .before .args .list .now in
     let n = c .before .before .before .before .before .before .before .loop .used in
     take (length l - n) (drop n l)
 
@@ -335,7 +336,8 @@ element-copy-out-timer c = c .channel-index .ensures .1
 
 reading-of-requires : tie.Need-reading-of-requires Inv-loop2 μ-loop2 Inv-loop μ-loop
 reading-of-requires c κs =
-    let i = c .before .before .before .before .before .before .before .before .before .before .before .before .before .before .loop .inv in
+    let i = c .before .before .before .before .before .before .before .before .before .before .before
+    .before .before .before .loop .inv in
     sound-times _ (i .fits .clock) (i .sound)
 
 offset-at-requires-2 : tie.Need-offset-at-requires-2 Inv-loop2 μ-loop2 Inv-loop μ-loop
@@ -360,7 +362,8 @@ enable-after-requires c κs = search needs
 
 clock-after-requires : tie.Need-clock-after-requires Inv-loop2 μ-loop2 Inv-loop μ-loop
 clock-after-requires c κs =
-    let i = c .before .before .before .before .before .before .before .before .before .before .before .before .before .loop .inv in
+    let i = c .before .before .before .before .before .before .before .before .before .before .before
+    .before .before .loop .inv in
     sound-times _ (i .fits .clock) (i .sound)
 
 channel-index-requires-2 : tie.Need-channel-index-requires-2 Inv-loop2 μ-loop2 Inv-loop μ-loop
@@ -385,7 +388,8 @@ line-requires : tie.Need-line-requires Inv-loop2 μ-loop2 Inv-loop μ-loop
 line-requires c κs = search needs
 
 exact-deadline-requires : tie.Need-exact-deadline-requires Inv-loop2 μ-loop2 Inv-loop μ-loop
-exact-deadline-requires c κs = c .before .before .before .before .before .before .before .before .before .loop .inv .sound
+exact-deadline-requires c κs = c .before .before .before .before .before .before .before .before
+    .before .loop .inv .sound
 
 passing-of-requires : tie.Need-passing-of-requires Inv-loop2 μ-loop2 Inv-loop μ-loop
 passing-of-requires c κs =
@@ -397,7 +401,8 @@ channels-requires c κs = search needs
 
 loop2-holds : tie.Need-loop2-holds Inv-loop2 μ-loop2 Inv-loop μ-loop
 loop2-holds c =
-    let i = c .before .before .before .before .before .before .before .before .before .before .before .before .loop .inv in
+    let i = c .before .before .before .before .before .before .before .before .before .before .before
+    .before .loop .inv in
     (c .channels .ensures .0, begins _ _ _ (c .channels .ensures .1) (sound-facts _ (i .sound) .timers))
 
 mul-timer-3 : tie.Need-mul-timer-3 Inv-loop2 μ-loop2 Inv-loop μ-loop
@@ -462,7 +467,8 @@ loop2-again c =
 
 advance-requires : tie.Need-advance-requires Inv-loop2 μ-loop2 Inv-loop μ-loop
 advance-requires c κs =
-    let i = c .before .before .before .before .before .before .before .before .before .before .before .before .before .before .before .loop .inv in
+    let i = c .before .before .before .before .before .before .before .before .before .before .before
+    .before .before .before .before .loop .inv in
     still-timed _ _ _ _ _ (c .before .before .loop2 .inv .1) (sound-times _ (i .fits .clock) (i .sound))
 
 deadline-requires : tie.Need-deadline-requires Inv-loop2 μ-loop2 Inv-loop μ-loop
@@ -497,7 +503,8 @@ put-record-requires c κs =
 
 add-calls : tie.Need-add-calls Inv-loop2 μ-loop2 Inv-loop μ-loop
 add-calls c =
-    let inside = c .before .before .before .before .before .before .before .before .before .before .before .before .before .before in
+    let inside = c .before .before .before .before .before .before .before .before .before .before
+    .before .before .before .before in
     let looped = inside .before in
     let start = looped .before .before .before .before .before in
     omega (arith, looped .loop .inv .calls-in, inside .loop-test .taken, start .good)

@@ -52,7 +52,8 @@ pub fn compare() -> Result<Count, String> {
             let proved = of_proved(state, operation);
             if rust != proved {
                 return Err(format!(
-                    "{operation:x?} on pending, enable, levels {state:x?}: the Rust {rust:x?}, the proved one {proved:x?}"
+                    "{operation:x?} on pending, enable, levels {state:x?}: the Rust {rust:x?}, \
+                     the proved one {proved:x?}"
                 ));
             }
             count.comparisons += 1;
