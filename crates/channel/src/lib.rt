@@ -30,17 +30,18 @@ impl ChannelNumber {
     }
 }
 
+// The small fields stand first: there is least room between fields so.
 pub struct HardwareTimer {
     // Bits 0 and 1 the mode, 2 enable, 3 interrupt enable.
     pub control: u8,
-    pub counter: u64,
-    pub compare: u64,
-    pub reload: u64,
+    pub pending: bool,
+    pub armed: bool,
     pub prescaler: u32,
     // The cycles since the last tick.
     pub phase: u32,
-    pub pending: bool,
-    pub armed: bool,
+    pub counter: u64,
+    pub compare: u64,
+    pub reload: u64,
 }
 
 impl HardwareTimer {
@@ -50,13 +51,13 @@ impl HardwareTimer {
     {
         HardwareTimer {
             control: 0,
+            pending: false,
+            armed: false,
+            prescaler: 0,
+            phase: 0,
             counter: 0,
             compare: 0,
             reload: 0,
-            prescaler: 0,
-            phase: 0,
-            pending: false,
-            armed: false,
         }
     }
 
@@ -66,13 +67,13 @@ impl HardwareTimer {
     {
         HardwareTimer {
             control: self.control,
+            pending: self.pending,
+            armed: self.armed,
+            prescaler: self.prescaler,
+            phase: self.phase,
             counter: self.counter,
             compare: self.compare,
             reload: self.reload,
-            prescaler: self.prescaler,
-            phase: self.phase,
-            pending: self.pending,
-            armed: self.armed,
         }
     }
 

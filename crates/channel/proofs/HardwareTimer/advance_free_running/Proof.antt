@@ -14,7 +14,7 @@ wrapping-add-u64-requires c κs = search needs
 returns : tie.Need-returns
 unfolding freeRunning
 returns c =
-    simp (
+    rw (
       c .before .if1 .taken,
       sym (c .before .before .before .reaches .ensures) ∙ c .if2 .taken,
       c .before .before .wrapping-add-u64 .ensures,
@@ -23,7 +23,7 @@ returns c =
 returns-2 : tie.Need-returns-2
 unfolding freeRunning
 returns-2 c =
-    simp (
+    rw (
       c .before .if1 .taken,
       sym (c .before .before .before .reaches .ensures) ∙ c .if2 .left,
       c .before .before .wrapping-add-u64 .ensures,
@@ -31,7 +31,7 @@ returns-2 c =
 
 returns-3 : tie.Need-returns-3
 unfolding freeRunning
-returns-3 c = simp (c .if1 .left, c .before .wrapping-add-u64 .ensures)
+returns-3 c = rw (c .if1 .left, c .before .wrapping-add-u64 .ensures)
 
 pub advance-free-running-spec : {M : Type 1} → statement M
 advance-free-running-spec =
