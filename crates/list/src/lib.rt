@@ -94,20 +94,16 @@ pub fn run(board: Board, list: &[u8], answers: &mut [u8]) -> Outcome
     while used < list.len() {
         let rest = &list[used..];
         let front = front_of(rest, answers.len() - written);
-        let refusal = front.refusal;
-        if refusal != 0 {
+        if front.refusal != 0 {
             return Outcome {
                 board: b,
                 calls,
                 used,
                 written,
-                refusal,
+                refusal: front.refusal,
             };
         }
         let tag = rest[0];
-        let size = front.size;
-        let next = used + front.length;
-        let end = written + (format::HEADER + size);
         let mut answer = Answer::Empty;
         let mut cycles = Cycles(0);
         match tag {
@@ -198,10 +194,10 @@ pub fn run(board: Board, list: &[u8], answers: &mut [u8]) -> Outcome
         let set = with_source(controller, SourceNumber(Board::LINE_SOURCE), line);
         b.controller = set;
         let told = perform::answered(tag, cycles, line, answer);
-        format::put_record(answers, written, tag, size, told);
+        format::put_record(answers, written, tag, front.size, told);
         calls += 1;
-        used = next;
-        written = end;
+        used += front.length;
+        written += format::HEADER + front.size;
     }
     Outcome {
         board: b,

@@ -72,11 +72,11 @@ use Rattle.registers.proofs.writes.enable_after.Reads as enable-after-reads
 use Rattle.registers.proofs.writes.timer_after.Reads as timer-after-reads
 
 abbrev Inv-loop2 : tie.InvT-loop2
-Inv-loop2 list answers b₀ calls used written refusal tag size next end answer cycles high enable count i₀ b i =
+Inv-loop2 list answers b₀ calls used written front tag answer cycles high enable count i₀ b i =
     (count ≡ 4) × Advancing enable (cycles .0) i b₀ b
 
 abbrev μ-loop2 : tie.MeasureT-loop2
-μ-loop2 list answers b₀ calls used written refusal tag size next end answer cycles high enable count i₀ b i = count - i
+μ-loop2 list answers b₀ calls used written front tag answer cycles high enable count i₀ b i = count - i
 
 abbrev Inv-loop : tie.InvT-loop
 Inv-loop list answers₀ b₀ calls₀ used₀ written₀ answers b calls used written =
@@ -160,9 +160,9 @@ accepted c a v =
     let i = c .before .before .before .before .before .before .before .loop .inv in
     let s = i .sound in
     let k = clear (restOf c) _ (sym (c .before .before .before .before .front-of .ensures .0)
-    ∙ c .before .before .before .if2 .left) in
+    ∙ c .before .before .if2 .left) in
     let bytes : (n : ℕ) → getD l n 0 < 256 =
-    λ n. omega (arith, c .before .before .shared-slice-known2 .given n) in
+    λ n. omega (arith, c .before .shared-slice-known2 .given n) in
     elim (c .match .came) [
       -- a read
       | inl w ↦ other-told _ tag _ _ _ _ _ _ a
@@ -259,66 +259,29 @@ front-of-requires : tie.Need-front-of-requires Inv-loop2 μ-loop2 Inv-loop μ-lo
 front-of-requires c κs = search needs
 
 same-length : tie.Need-same-length Inv-loop2 μ-loop2 Inv-loop μ-loop
-same-length c = omega (arith, c .before .before .before .before .loop .inv .same)
+same-length c = omega (arith, c .before .before .before .before .before .loop .inv .same)
 
 returns-2 : tie.Need-returns-2 Inv-loop2 μ-loop2 Inv-loop μ-loop
 unfolding runOf Ran
 returns-2 c =
-    let looped = c .before .before .before .before in
+    let looped = c .before .before .before .before .before in
     let p = looped .before in
     let s : sound (p .before .before .before .before .args .board) ≡ true = sym (p .before .sound .ensures .0)
     ∙ not-false _ (p .if1 .left) in
-    let e = rw part-rest at (c .before .front-of .ensures .0) in
+    let e = rw part-rest at (c .before .before .front-of .ensures .0) in
     rw s
-    (ends _ _ _ _ _ _ _ _ (looped .loop .inv) (c .before .before .before .loop-test .taken) _ e (ne-eqb _ _
+    (ends _ _ _ _ _ _ _ _ (looped .loop .inv) (c .before .before .before .before .loop-test .taken) _ e (ne-eqb _ _
     (c .if2 .taken)))
 
 shared-slice-read-tag : tie.Need-shared-slice-read-tag Inv-loop2 μ-loop2 Inv-loop μ-loop
 shared-slice-read-tag c =
-    let h = framed _ (clear _ _ (sym (c .before .before .front-of .ensures .0) ∙ c .before .if2 .left) .frame) in
-    omega (arith, h)
-
-add-next : tie.Need-add-next Inv-loop2 μ-loop2 Inv-loop μ-loop
-add-next c =
-    let fronted = c .before .before .before in
-    let looped = fronted .before .before .before in
-    let start = looped .before .before .before .before .before in
-    let z = sym (fronted .front-of .ensures .0) ∙ c .before .before .if2 .left in
-    let f = rw part-rest at (framed _ (clear _ _ z .frame)) in
-    let n = rw part-rest at (fronted .front-of .ensures .1 z .0) in
-    omega (
-      arith,
-      f .0,
-      n,
-      length-drop (looped .loop .used) (start .args .list .now),
-      looped .loop .inv .used-in,
-      start .good,
-    )
-
-add-end : tie.Need-add-end Inv-loop2 μ-loop2 Inv-loop μ-loop
-add-end c =
-    let fronted = c .before .before .before in
-    let looped = fronted .before .before .before in
-    let start = looped .before .before .before .before .before in
-    let z = sym (fronted .front-of .ensures .0) ∙ c .before .before .if2 .left in
-    let k = clear _ _ z .fits in
-    let n = fronted .front-of .ensures .1 z .1 in
-    omega (arith, k, n, looped .loop .inv .same, looped .loop .inv .counted, looped .loop .inv .room, start .good)
-
-add-end-2 : tie.Need-add-end-2 Inv-loop2 μ-loop2 Inv-loop μ-loop
-add-end-2 c =
-    let fronted = c .before .before .before in
-    let looped = fronted .before .before .before in
-    let start = looped .before .before .before .before .before in
-    let z = sym (fronted .front-of .ensures .0) ∙ c .before .before .if2 .left in
-    let k = clear _ _ z .fits in
-    let n = fronted .front-of .ensures .1 z .1 in
-    omega (arith, k, n, looped .loop .inv .same, looped .loop .inv .counted, looped .loop .inv .room, start .good)
+    let z = sym (c .before .before .before .front-of .ensures .0) ∙ c .before .if2 .left in
+    omega (arith, framed _ (clear _ _ z .frame))
 
 offset-at-requires : tie.Need-offset-at-requires Inv-loop2 μ-loop2 Inv-loop μ-loop
 offset-at-requires c κs =
-    let unrefused = c .before .before .before in
-    let h = value-in _ 2 (clear _ _ (sym (unrefused .before .front-of .ensures .0)
+    let unrefused = c .before .before in
+    let h = value-in _ 2 (clear _ _ (sym (unrefused .before .before .front-of .ensures .0)
     ∙ unrefused .if2 .left) .frame) (c .match .keys1) in
     omega (arith, h)
 
@@ -342,15 +305,15 @@ reading-of-requires c κs =
 
 offset-at-requires-2 : tie.Need-offset-at-requires-2 Inv-loop2 μ-loop2 Inv-loop μ-loop
 offset-at-requires-2 c κs =
-    let unrefused = c .before .before .before in
-    let h = value-in _ 3 (clear _ _ (sym (unrefused .before .front-of .ensures .0)
+    let unrefused = c .before .before in
+    let h = value-in _ 3 (clear _ _ (sym (unrefused .before .before .front-of .ensures .0)
     ∙ unrefused .if2 .left) .frame) (c .match .keys2) in
     omega (arith, h)
 
 byte-at-requires : tie.Need-byte-at-requires Inv-loop2 μ-loop2 Inv-loop μ-loop
 byte-at-requires c κs =
-    let unrefused = c .before .before .before .before in
-    let h = value-in _ 3 (clear _ _ (sym (unrefused .before .front-of .ensures .0)
+    let unrefused = c .before .before .before in
+    let h = value-in _ 3 (clear _ _ (sym (unrefused .before .before .front-of .ensures .0)
     ∙ unrefused .if2 .left) .frame) (c .before .match .keys2) in
     omega (arith, h)
 
@@ -393,8 +356,8 @@ exact-deadline-requires c κs = c .before .before .before .before .before .befor
 
 passing-of-requires : tie.Need-passing-of-requires Inv-loop2 μ-loop2 Inv-loop μ-loop
 passing-of-requires c κs =
-    let unrefused = c .before .before .before .before in
-    framed _ (clear _ _ (sym (unrefused .before .front-of .ensures .0) ∙ unrefused .if2 .left) .frame) .0
+    let unrefused = c .before .before .before in
+    framed _ (clear _ _ (sym (unrefused .before .before .front-of .ensures .0) ∙ unrefused .if2 .left) .frame) .0
 
 channels-requires : tie.Need-channels-requires Inv-loop2 μ-loop2 Inv-loop μ-loop
 channels-requires c κs = search needs
@@ -411,8 +374,8 @@ mul-timer-3 c = omega (arith, c .loop2-test .taken, c .before .loop2 .inv .0)
 element-copy-out-timer-3 : tie.Need-element-copy-out-timer-3 Inv-loop2 μ-loop2 Inv-loop μ-loop
 element-copy-out-timer-3 c = omega (arith, c .loop2-test .taken, c .before .loop2 .inv .0)
 
-cast-t88 : tie.Need-cast-t88 Inv-loop2 μ-loop2 Inv-loop μ-loop
-cast-t88 c = omega (arith, c .before .loop2-test .taken, c .before .before .loop2 .inv .0)
+cast-t84 : tie.Need-cast-t84 Inv-loop2 μ-loop2 Inv-loop μ-loop
+cast-t84 c = omega (arith, c .before .loop2-test .taken, c .before .before .loop2 .inv .0)
 
 selected-requires : tie.Need-selected-requires Inv-loop2 μ-loop2 Inv-loop μ-loop
 selected-requires c κs = search needs
@@ -476,8 +439,8 @@ deadline-requires c κs = c .before .before .before .before .before .before .bef
 
 effect-of-requires : tie.Need-effect-of-requires Inv-loop2 μ-loop2 Inv-loop μ-loop
 effect-of-requires c κs =
-    let unrefused = c .before .before .before .before .before in
-    framed _ (clear _ _ (sym (unrefused .before .front-of .ensures .0) ∙ unrefused .if2 .left) .frame) .0
+    let unrefused = c .before .before .before .before in
+    framed _ (clear _ _ (sym (unrefused .before .before .front-of .ensures .0) ∙ unrefused .if2 .left) .frame) .0
 
 line-requires-2 : tie.Need-line-requires-2 Inv-loop2 μ-loop2 Inv-loop μ-loop
 line-requires-2 c κs = search needs
@@ -491,8 +454,8 @@ answered-requires c κs = search needs
 put-record-requires : tie.Need-put-record-requires Inv-loop2 μ-loop2 Inv-loop μ-loop
 put-record-requires c κs =
     let met = c .before .before .before .before .before in
-    let unrefused = met .before .before .before in
-    let fronted = unrefused .before in
+    let unrefused = met .before .before in
+    let fronted = unrefused .before .before in
     let i = fronted .before .before .before .loop .inv in
     let z = sym (fronted .front-of .ensures .0) ∙ unrefused .if2 .left in
     let n = fronted .front-of .ensures .1 z .1 in
@@ -509,21 +472,77 @@ add-calls c =
     let start = looped .before .before .before .before .before in
     omega (arith, looped .loop .inv .calls-in, inside .loop-test .taken, start .good)
 
+add-used : tie.Need-add-used Inv-loop2 μ-loop2 Inv-loop μ-loop
+add-used c =
+    let unrefused = c .before .before .before .before .before .before .before .before .before .before .before in
+    let fronted = unrefused .before .before in
+    let looped = fronted .before .before .before in
+    let start = looped .before .before .before .before .before in
+    let z = sym (fronted .front-of .ensures .0) ∙ unrefused .if2 .left in
+    let f = rw part-rest at (framed _ (clear _ _ z .frame)) in
+    let n = rw part-rest at (fronted .front-of .ensures .1 z .0) in
+    omega (
+      arith,
+      f .0,
+      n,
+      length-drop (looped .loop .used) (start .args .list .now),
+      looped .loop .inv .used-in,
+      start .good,
+    )
+
+add-written : tie.Need-add-written Inv-loop2 μ-loop2 Inv-loop μ-loop
+add-written c =
+    let unrefused = c .before .before .before .before .before .before .before .before .before .before
+    .before .before in
+    let fronted = unrefused .before .before in
+    let looped = fronted .before .before .before in
+    let z = sym (fronted .front-of .ensures .0) ∙ unrefused .if2 .left in
+    let i = looped .loop .inv in
+    omega (
+      arith,
+      clear _ _ z .fits,
+      fronted .front-of .ensures .1 z .1,
+      i .same,
+      i .counted,
+      i .room,
+      looped .before .before .before .before .before .good,
+    )
+
+add-written-2 : tie.Need-add-written-2 Inv-loop2 μ-loop2 Inv-loop μ-loop
+add-written-2 c =
+    let unrefused = c .before .before .before .before .before .before .before .before .before .before
+    .before .before in
+    let fronted = unrefused .before .before in
+    let looped = fronted .before .before .before in
+    let z = sym (fronted .front-of .ensures .0) ∙ unrefused .if2 .left in
+    let i = looped .loop .inv in
+    omega (
+      arith,
+      clear _ _ z .fits,
+      fronted .front-of .ensures .1 z .1,
+      i .same,
+      i .counted,
+      i .room,
+      looped .before .before .before .before .before .good,
+    )
+
 loop-less : tie.Need-loop-less Inv-loop2 μ-loop2 Inv-loop μ-loop
 loop-less c =
-    let unrefused = c .before .before .before .before .before .before .before .before .before .before .before in
-    let fronted = unrefused .before in
+    let unrefused = c .before .before .before .before .before .before .before .before .before .before
+    .before .before in
+    let fronted = unrefused .before .before in
     let z = sym (fronted .front-of .ensures .0) ∙ unrefused .if2 .left in
     omega (arith, fronted .before .before .loop-test .taken, fronted .front-of .ensures .1 z .0)
 
 loop-again : tie.Need-loop-again Inv-loop2 μ-loop2 Inv-loop μ-loop
 loop-again c =
-    let replied = c .before .before .before .before in
+    let put = c .before .before .before .before in
+    let replied = put .before .before in
     let lined = replied .before .before .before in
     let met = lined .before in
-    let known = met .before .before in
+    let known = met .before in
     let unrefused = known .before in
-    let fronted = unrefused .before in
+    let fronted = unrefused .before .before in
     let inside = fronted .before .before in
     let looped = inside .before in
     let z = sym (fronted .front-of .ensures .0) ∙ unrefused .if2 .left in
@@ -533,8 +552,8 @@ loop-again c =
     (sym (wired-is (met .match .b) _ _ (lined .line2 .ensures) (replied .before .with-source .ensures))) in
     goes-on _ _ _ _ _ _ _ _ (looped .loop .inv) (inside .loop-test .taken)
     (λ i. omega (arith, rw part-rest at (known .shared-slice-known2 .given i))) (rw part-rest at z)
-    _ (replied .answered .result) (rw part-rest at e) (c .before .before .put-record .last .0)
-    (rw part-rest at (c .before .before .put-record .ensures)) (fronted .front-of .result .length)
+    _ (replied .answered .result) (rw part-rest at e) (put .put-record .last .0)
+    (rw part-rest at (put .put-record .ensures)) (fronted .front-of .result .length)
     (fronted .front-of .result .size) (rw part-rest at (fronted .front-of .ensures .1 z))
 
 same-length-2 : tie.Need-same-length-2 Inv-loop2 μ-loop2 Inv-loop μ-loop
@@ -567,9 +586,6 @@ run-spec =
     same-length
     returns-2
     shared-slice-read-tag
-    add-next
-    add-end
-    add-end-2
     offset-at-requires
     shared-at-requires
     channel-index-requires
@@ -594,7 +610,7 @@ run-spec =
     loop2-holds
     mul-timer-3
     element-copy-out-timer-3
-    cast-t88
+    cast-t84
     selected-requires
     advance-cycles-requires
     mul-moved
@@ -610,6 +626,9 @@ run-spec =
     answered-requires
     put-record-requires
     add-calls
+    add-used
+    add-written
+    add-written-2
     loop-less
     loop-again
     same-length-2
