@@ -72,7 +72,7 @@ impl Board {
 
     // ---- what an accepted call does
 
-    pub fn advanced(self, cycles: Cycles) -> Self
+    fn advanced(self, cycles: Cycles) -> Self
         requires { ⌜ sound self ≡ true ⌝ }
         ensures { λ r. ⌜ r ≡ advancedBoard (cycles .0) self ⌝ }
     {
@@ -84,21 +84,17 @@ impl Board {
         let clock = b.clock;
         let later = clock.advance(cycles);
         b.clock = later;
-        let line = b.line();
-        let controller = b.controller;
-        let set = controller::with_source(controller, SourceNumber(Self::LINE_SOURCE), line);
-        b.controller = set;
-        b
+        b.wired()
     }
 
-    pub fn hosted(self, host: HostTime) -> Self
+    fn hosted(self, host: HostTime) -> Self
         ensures { λ r. ⌜ r ≡ hostedBoard host self ⌝ }
     {
         let clock = self.clock;
         self.with_clock(clock.with_host(host)).wired()
     }
 
-    pub fn sourced(self, number: SourceNumber, level: u8) -> Self
+    fn sourced(self, number: SourceNumber, level: u8) -> Self
         ensures { λ r. ⌜ r ≡ sourcedBoard (number .0) level self ⌝ }
     {
         let controller = self.controller;
@@ -106,7 +102,7 @@ impl Board {
         self.with_controller(set).wired()
     }
 
-    pub fn controller_written(self, address: u32, value: u8) -> Self
+    fn controller_written(self, address: u32, value: u8) -> Self
         ensures { λ r. ⌜ r ≡ controllerWritten address value self ⌝ }
     {
         let controller = self.controller;
@@ -166,7 +162,7 @@ impl Board {
     }
 
     // Advances once, to the interrupt or as far as a word reaches; with the line high or no deadline, not at all.
-    pub fn skipped(self) -> SkipAnswer
+    fn skipped(self) -> SkipAnswer
         requires { ⌜ sound self ≡ true ⌝ }
         ensures { λ r. ⌜ r ≡ skippedBy (skipLength self) self ⌝ }
     {

@@ -27,7 +27,7 @@ pub fn address_refusal(address: u16) -> u8
 }
 
 // What an accepted read answers.
-pub fn read_accepted(board: Board, address: u16) -> ByteAnswer
+fn read_accepted(board: Board, address: u16) -> ByteAnswer
     requires { ⌜ sound board ≡ true ⌝ }
     ensures { λ r. ⌜ r ≡ readAccepted address board ⌝ }
 {
@@ -53,7 +53,7 @@ pub fn read_accepted(board: Board, address: u16) -> ByteAnswer
 }
 
 // The board after an accepted write.
-pub fn written(board: Board, address: u16, value: u8) -> Board
+fn written(board: Board, address: u16, value: u8) -> Board
     requires { ⌜ sound board ≡ true ⌝ }
     ensures { λ r. ⌜ r ≡ writtenBoard address value board ⌝ }
 {

@@ -1,6 +1,5 @@
 -- `Board::advanced` meets its contract. Assumes nothing.
 use native.Mathlib.Omega.{arith}
-use Rattle.board.specs.Board.{wired}
 use Rattle.board.specs.Calls.{advancedBoard}
 use Rattle.clock.specs.Clock.{clockRate}
 use Rattle.clock.proofs.Soundness.{sound-timed}
@@ -25,22 +24,17 @@ advance-requires c κs =
     })
     (s .pre))
 
-line-requires : tie.Need-line-requires
-line-requires c κs = search needs
-
-with-source-requires : tie.Need-with-source-requires
-with-source-requires c κs = search needs
+wired-requires : tie.Need-wired-requires
+wired-requires c κs = search needs
 
 returns : tie.Need-returns
-unfolding advancedBoard wired
+unfolding advancedBoard
 returns c =
     rw (
-      c .with-source .ensures,
-      c .before .before .line .ensures,
-      c .before .before .before .advance .ensures,
-      c .before .before .before .before .before .advance-all .ensures,
+      c .wired .ensures,
+      c .before .advance .ensures,
+      c .before .before .before .advance-all .ensures,
     )
 
 pub advanced-spec : {M : Type 1} → statement M
-advanced-spec =
-    tie.close (tie.spec advance-all-requires advance-requires line-requires with-source-requires returns)
+advanced-spec = tie.close (tie.spec advance-all-requires advance-requires wired-requires returns)
