@@ -1,8 +1,7 @@
 -- Laws of joined tests, of the tests of control and of the alarm check. Assumes nothing.
 use Prim.Native.Nat.{ℕ, _≤_, _<_}
 use mathlib.Core.Path.{_≡_, refl, sym, _∙_}
-use native.Mathlib.Omega.{arith}
-use mathlib.Core.Bool.{Bool, true, false, cond, not, _&&_, _||_, false≢true}
+use mathlib.Core.Bool.{Bool, true, false, not, _&&_, _||_, false≢true}
 use lib.Dec.{leb, ltb}
 use borrow.Author.Tests.{leb-true, leb-false, not-true}
 use Rattle.wide.proofs.Choices.{and-parts}
@@ -44,11 +43,6 @@ and-false false = refl
 pub or-false : (a : Bool) → (a || false) ≡ a
 or-false true = refl
 or-false false = refl
-
--- a flag as a number
-pub flag-small : (r : ℕ) (b : Bool) → r ≡ cond b 1 0 → r ≤ 1
-flag-small r true e = omega arith
-flag-small r false e = omega arith
 
 -- ---- control
 
