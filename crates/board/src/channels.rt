@@ -13,6 +13,8 @@ use wide::deadline::Deadline;
 
 const COUNT: usize = 4;
 
+// The number of channels. The contract also says that the array has as many, which the check does not know of an array
+// in a field.
 pub fn count_of(timers: [HardwareTimer; 4]) -> usize
     ensures { λ r. ⌜ (r ≡ 4) × (length timers ≡ 4) ⌝ }
 {

@@ -73,7 +73,7 @@ impl Board {
         }
     }
 
-    // The number of channels.
+    // The number of channels. The contract also says that the board has as many.
     pub fn channels(self) -> usize
         ensures { λ r. ⌜ (r ≡ 4) × (length (self .timers) ≡ 4) ⌝ }
     {

@@ -30,7 +30,7 @@ impl ChannelNumber {
     }
 }
 
-// The small fields stand first: there is least room between fields so.
+// The small fields stand first, which leaves the fewest bytes between fields.
 pub struct HardwareTimer {
     // Bits 0 and 1 the mode, 2 enable, 3 interrupt enable.
     pub control: u8,

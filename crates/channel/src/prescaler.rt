@@ -43,7 +43,7 @@ impl HardwareTimer {
         }
     }
 
-    // What `advance_cycles` gives.
+    // The channel after the cycles, as its mode leaves it; `advance_cycles` makes it anew of its fields.
     fn advanced(self, selected: bool, cycles: Cycles) -> Self
         requires { ⌜ self .phase ≤ self .prescaler ⌝ }
         ensures { λ r. ⌜ r ≡ advanced selected (cycles .0) self ⌝ }

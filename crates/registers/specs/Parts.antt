@@ -63,7 +63,7 @@ unfoldable pub countFilled : ℕ → ℕ → Latches → Latches
 countFilled offset counter ls =
     cond (atCountLow offset) (withCount (channelIndex offset) (Held (highWord counter)) ls) ls
 
--- byte 0 of a low word fills the latches of its pair
+-- byte 0 of the clock's low seconds fills both of the clock's latches; elsewhere a count's may be filled
 unfoldable pub filled : ℕ → ℕ → Clock → Latches → Latches
 filled offset counter k ls =
     cond (eqb offset secondsLowAt)
@@ -127,12 +127,13 @@ latchReading word k ls offset =
       armed = k .alarm .armed;
     }
 
--- by the latches that byte 0 of a low word has filled
+-- by the latches, filled where the offset is byte 0 of a low word
 unfoldable pub readingBy : HardwareTimer → ℕ → Clock → Latches → ℕ → Reading
 readingBy h shared k ls offset =
     cond (heldOf (serving offset ls)) (latchReading (heldValue (serving offset ls)) k ls offset)
     (liveReading h shared (checkAlarm clockRate k) ls offset)
 
+-- a read at an offset: h is the channel of its index, shared the word of the register that all channels share
 unfoldable pub readingOf : HardwareTimer → ℕ → Clock → Latches → ℕ → Reading
 readingOf h shared k ls offset = readingBy h shared k (filled offset (h .counter) k ls) offset
 
@@ -177,7 +178,7 @@ enableAfter offset v n = cond (within 0x184 0x187 offset) (mergeByte (byteOf off
 unfoldable pub clockAfter : ℕ → ℕ → Clock → Clock
 clockAfter offset v k = cond (inClock offset) (clockWritten (registerOf offset) (byteOf offset) v k) k
 
--- the channel whose index the offset has after it
+-- the channel of the offset's index after it
 unfoldable pub timerAfter : ℕ → ℕ → HardwareTimer → HardwareTimer
 timerAfter offset v h =
     cond (inChannels offset) (byteWritten (registerOf (placeOf offset)) (byteOf offset) v h) h
