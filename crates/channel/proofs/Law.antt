@@ -13,6 +13,7 @@ use Rattle.wide.specs.Number.{largest}
 use Rattle.wide.specs.Deadline.{due}
 use Rattle.wide.proofs.Choices.{choose, either, leb-same}
 use Rattle.wide.proofs.Deadlines.{due-later, Positive, due-zero, due-is}
+use Rattle.wide.proofs.Quotients.{periods-add}
 use Rattle.channel.specs.declared.HardwareTimer.{HardwareTimer}
 use Rattle.channel.specs.Channel.{TimerFits, modeOf, irqEnabledOf, divisor, lineOf, withCounter, soundTimer}
 use Rattle.channel.specs.Prescaler.{runs, ticksOf, phaseAfter, advanced}
@@ -30,7 +31,7 @@ use Rattle.channel.specs.Modes.{
 use Rattle.channel.specs.Deadline.{ticksToGo, deadlineOf}
 use Rattle.channel.proofs.Keeping.{Kept}
 use Rattle.channel.proofs.Distances.{distance-positive, distance-after}
-use Rattle.channel.proofs.Prescaling.{due-in-cycles, ticks-add}
+use Rattle.channel.proofs.Prescaling.{due-in-cycles}
 use Rattle.channel.proofs.Sound.{
   start,
   advance-kept,
@@ -210,7 +211,7 @@ module _ (selected : Bool) (c : ℕ) (h : HardwareTimer) (f : TimerFits h) where
       m = modeOf (h .control)
 
       later : (h .phase + (c + t)) / divisor h ≡ ticksOf c h + (phaseAfter c h + t) / divisor h
-      later = ticks-add (divisor h) (h .phase) c t (omega arith)
+      later = periods-add (divisor h) (h .phase) c t (omega arith)
 
       waiting : irqEnabledOf (h .control) ≡ true → h .pending ≡ false → runs selected h ≡ true →
           Ticked m (ticksOf c h) (start selected c h f) ran →

@@ -1,4 +1,4 @@
--- Laws of the prescaler: the code's quotients are the rule's, and ticks add up. Assumes nothing.
+-- Laws of the prescaler: the code's quotients are the rule's, and ticks as cycles. Assumes nothing.
 use Prim.Native.Nat.{ℕ, zero, suc, _+_, _-_, _*_, _/_, _%_, _^_, _≤_, _<_}
 use mathlib.Core.Path.{_≡_, refl, sym, ap, _∙_}
 use mathlib.Core.Logic.{_↔_}
@@ -16,8 +16,6 @@ use native.Mathlib.Nat.{
   mul-le-mul,
   le-of-lt,
   le-div-iff-mul-le,
-  mul-add-div,
-  div-add-mod,
   div-one,
   mod-one,
   zero-add,
@@ -75,13 +73,6 @@ module _ (v p c : ℕ) where
   cycles-fit h k =
       let m : c * v ≤ 2 ^ 64 * 2 ^ 32 = mul-le-mul (le-of-lt k) h in
       lt-of-lt-of-le {m = 2 ^ 97} (omega arith) (lit≤ tt)
-
--- the ticks of c and then t cycles
-pub ticks-add : (v p c t : ℕ) → 0 < v → (p + (c + t)) / v ≡ (p + c) / v + ((p + c) % v + t) / v
-ticks-add v p c t h = ap (λ n. n / v) parts ∙ mul-add-div h ((p + c) / v) ((p + c) % v + t)
-  where
-    parts : p + (c + t) ≡ v * ((p + c) / v) + ((p + c) % v + t)
-    parts = omega (arith, div-add-mod (p + c) v)
 
 -- N ticks, as cycles, have passed when N ticks have come
 cycles-passed : (v p n t : ℕ) → p < v → 1 ≤ n → leb (v - p + (n - 1) * v) t ≡ leb n ((p + t) / v)

@@ -2,7 +2,7 @@
 use Prim.Native.Nat.{ℕ, _+_, _-_, _*_, _/_, _%_, _^_, _≤_, _<_}
 use mathlib.Core.Path.{_≡_, sym, _∙_}
 use mathlib.Core.Bool.{Bool, true, false, cond}
-use native.Mathlib.Nat.{mul-le-mul-right, zero-mul, zero-add, lt-of-lt-of-le}
+use native.Mathlib.Nat.{mul-le-mul-right, lt-of-lt-of-le}
 use native.Mathlib.Omega.{arith}
 use lib.Dec.{ltb}
 use borrow.Author.Tests.{ltb-true, ltb-false, lt-ltb, le-ltb}
@@ -93,10 +93,6 @@ pub sum-fits : (a b : ℕ) → a < 2 ^ 65 → b < 2 ^ 65 → a + b < 2 ^ 128
 sum-fits a b = sum-below (2 ^ 64) a b (omega arith)
 
 -- ---- the words of a time
-
-pub low-word-is : (w : Wide) → w .high ≡ 0 → valueOf w ≡ w .low
-unfolding valueOf
-low-word-is w e = rw (e, zero-mul, zero-add)
 
 pub high-word-is : (w : Wide) → (w .high ≡ 0 → ⊥) → largest < valueOf w
 unfolding valueOf

@@ -1,14 +1,12 @@
 -- The clock's law: after c cycles what is due at t is what was due at c + t, at any rate above 0. Assumes nothing.
 use Prim.Native.Nat.{ℕ, _+_, _-_, _*_, _/_, _%_, _^_, _≤_, _<_}
-use mathlib.Core.Path.{_≡_, refl, sym, ap, _∙_}
+use mathlib.Core.Path.{_≡_, refl, sym, _∙_}
 use mathlib.Core.Logic.{_↔_}
 use mathlib.Core.Bool.{Bool, true, false, cond, not, _&&_, _||_, false≢true}
 use mathlib.Core.Option.{none, some}
 use native.Mathlib.Nat.{
   mod-lt,
   div-eq-of-lt,
-  mul-add-div,
-  div-add-mod,
   add-zero,
   zero-add,
   add-assoc,
@@ -18,6 +16,7 @@ use native.Mathlib.Omega.{arith}
 use lib.Dec.{leb, ltb}
 use borrow.Author.Tests.{ltb-false, le-leb, lt-leb}
 use Rattle.wide.proofs.Choices.{choose, either, leb-same, and-parts, and-join}
+use Rattle.wide.proofs.Quotients.{periods-add}
 use Rattle.wide.specs.Bits.{bit}
 use Rattle.wide.specs.Deadline.{due}
 use Rattle.wide.specs.Number.{largest}
@@ -52,13 +51,6 @@ use Rattle.clock.proofs.Tests.{
 use Rattle.clock.proofs.Soundness.{Sound, own-time-seconds}
 
 -- ---- numbers
-
--- the seconds of c and then t cycles
-seconds-add : (v p c t : ℕ) → 0 < v → (p + (c + t)) / v ≡ (p + c) / v + ((p + c) % v + t) / v
-seconds-add v p c t h = ap (λ (n : ℕ). n / v) parts ∙ mul-add-div h ((p + c) / v) ((p + c) % v + t)
-  where
-    parts : p + (c + t) ≡ v * ((p + c) / v) + ((p + c) % v + t)
-    parts = omega (arith, div-add-mod (p + c) v)
 
 -- the deadline of an alarm ahead is reached when the clock's seconds have come to it
 alarm-due : (rate a s u t : ℕ) → s < a → u < rate →
@@ -159,7 +151,7 @@ module _ (rate c : ℕ) (k : Clock) (u : k .subsecond < rate) (s : k .seconds < 
   passed-on h = record {
     sub = mod-lt (k .subsecond + c) pos;
     word = omega arith;
-    reach = λ a t _. rw (seconds-add rate (k .subsecond) c t pos, add-assoc);
+    reach = λ a t _. rw (periods-add rate (k .subsecond) c t pos, add-assoc);
   }
 
   -- saturated: any alarm is reached on both sides
@@ -173,7 +165,7 @@ module _ (rate c : ℕ) (k : Clock) (u : k .subsecond < rate) (s : k .seconds < 
   }
     where
       top : (a t : ℕ) → a < 2 ^ 64 → a ≤ k .seconds + (k .subsecond + (c + t)) / rate
-      top a t b = omega (arith, seconds-add rate (k .subsecond) c t pos)
+      top a t b = omega (arith, periods-add rate (k .subsecond) c t pos)
 
   passed-none : c ≡ 0 → Passed rate c k (k .seconds) (k .subsecond)
   passed-none h = record { sub = u; word = s; reach = λ a t _. rw (h, zero-add) }

@@ -1,11 +1,12 @@
 -- What a byte written does, by the offset, as the ways of the code have it. Assumes nothing.
-use Prim.Native.Nat.{ℕ, zero, suc, _/_, _%_, _*_, _≤_, _<_}
+use Prim.Native.Nat.{ℕ, _/_, _%_, _*_, _≤_, _<_}
 use native.Mathlib.Omega.{arith}
-use mathlib.Core.Path.{_≡_, refl, sym, ap}
-use mathlib.Core.List.{List, [], _∷_}
+use mathlib.Core.Path.{_≡_, sym, ap}
+use mathlib.Core.List.{List}
 use mathlib.Core.Bool.{false, _&&_, and-false}
 use lib.Dec.{leb, eqb}
 use lib.ListN.{getD, set}
+use lib.Seq.{set-getD}
 use borrow.Author.Tests.{leb-true, leb-false, eqb-true, ne-eqb}
 use Rattle.wide.proofs.Choices.{either}
 use Rattle.channel.specs.declared.HardwareTimer.{HardwareTimer}
@@ -25,11 +26,6 @@ use Rattle.offsets.proofs.Ranges.{
   before-channels,
   after-channels,
 }
-
-set-same : (ts : List HardwareTimer) (i : ℕ) → set ts i (getD ts i freshTimer) ≡ ts
-set-same [] i = refl
-set-same (t ∷ ts) zero = refl
-set-same (t ∷ ts) (suc i) = ap (λ (l : List HardwareTimer). t ∷ l) (set-same ts i)
 
 module _ (o v : ℕ) (b : Board) where
   enable-at : 0x184 ≤ o → o < 0x188 →
@@ -95,4 +91,4 @@ module _ (o v : ℕ) (b : Board) where
       let m : i ≡ channelOf o = rw (t .2) at n in
       rw (t .0, t .1, t .2, m))
       (λ e. let t = after-channels o (omega (arith, leb-false o 0x4FF e)) in
-      rw (t .0, t .1, t .2) (ap (λ (ts : List HardwareTimer). withTimers ts b) (sym (set-same (b .timers) i))))
+      rw (t .0, t .1, t .2) (ap (λ (ts : List HardwareTimer). withTimers ts b) (sym (set-getD (b .timers) i freshTimer))))

@@ -1,11 +1,11 @@
 -- A read by its parts is the read of the rules. Assumes nothing.
-use Prim.Native.Nat.{ℕ, zero, suc, _+_, _*_, _/_, _≤_}
+use Prim.Native.Nat.{ℕ, _+_, _*_, _/_, _≤_}
 use native.Mathlib.Omega.{arith}
 use mathlib.Core.Path.{_≡_, refl, sym, ap, _∙_}
 use mathlib.Core.Bool.{Bool, true, false, cond, false≢true}
-use mathlib.Core.List.{List, [], _∷_}
 use lib.Dec.{leb, eqb}
 use lib.ListN.{getD, set}
+use lib.Seq.{set-getD}
 use borrow.Author.Tests.{leb-true, eqb-true, eq-eqb, ne-eqb}
 use Rattle.wide.proofs.Choices.{choose, either, and-parts}
 use Rattle.channel.specs.declared.HardwareTimer.{HardwareTimer}
@@ -86,12 +86,6 @@ high-place p =
     (λ e. let w = bounds 0x0C 0x0F p e in eq-eqb (p / 4 * 4) 0x0C (omega (arith, w .0, w .1)) ∙ sym e)
     (λ e. ne-eqb (p / 4 * 4) 0x0C
     (λ h. false≢true (sym e ∙ inside 0x0C 0x0F p (omega (arith, h)) (omega (arith, h)))) ∙ sym e)
-
--- an element put where it is
-set-same : {A : Type 0} (d : A) (l : List A) (n : ℕ) → set l n (getD l n d) ≡ l
-set-same d [] n = refl
-set-same d (x ∷ xs) zero = refl
-set-same d (x ∷ xs) (suc n) = ap (λ t. x ∷ t) (set-same d xs n)
 
 -- the alarm check changes the alarm's two flags alone
 check-flags : (k : Clock) →
@@ -240,7 +234,7 @@ module _ (o : ℕ) (b : Board) where
             either (eqb (byteOf o) 3) (λ t. rw (t, d, e, high-at, q, index))
             (λ t. rw t
             (ap (λ (counts : _). record { counts = counts; low = b .latches .low; high = b .latches .high })
-            (set-same (record { high = Empty }) (b .latches .counts) (channelOf o))))
+            (set-getD (b .latches .counts) (channelOf o) (record { high = Empty }))))
 
         count-parts : within 0x0C 0x0F (placeOf o) ≡ true → readCountHigh o b ≡ answer b (by (b .latches))
         unfolding readCountHigh serving countServing

@@ -1,5 +1,6 @@
 pub mod Choices
 pub mod Deadlines
 pub mod BigEndian
+pub mod Quotients
+pub mod TwoWords
 mod Products
-mod TwoWords

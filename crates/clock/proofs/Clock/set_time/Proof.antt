@@ -3,7 +3,8 @@ use Prim.Native.Nat.{ℕ}
 use mathlib.Core.Path.{sym, ap, _∙_}
 use native.Mathlib.Omega.{arith}
 use Rattle.wide.specs.Number.{valueOf}
-use Rattle.clock.proofs.Durations.{low-word-is, high-word-is}
+use Rattle.wide.proofs.TwoWords.{one-word}
+use Rattle.clock.proofs.Durations.{high-word-is}
 use Rattle.clock.proofs.Branches.{set-word, set-past}
 use Rattle.clock.specs.Clock.{clockRate, inNanoseconds}
 use Rattle.clock.specs.Registers.{setTime}
@@ -36,7 +37,7 @@ returns c =
     let n = a .time .nanoseconds in
     c .own-time-set .ensures
     ∙ set-word clockRate (w .low) n (a .self) (c .before .before .before .pre) (omega arith)
-    ∙ ap (λ (s : ℕ). setTime clockRate (inNanoseconds s n) (a .self)) (sym (low-word-is w (c .before .if1 .taken)))
+    ∙ ap (λ (s : ℕ). setTime clockRate (inNanoseconds s n) (a .self)) (sym (one-word w (c .before .if1 .taken)))
 
 own-time-set-requires-2 : tie.Need-own-time-set-requires-2
 own-time-set-requires-2 c κs = search needs
