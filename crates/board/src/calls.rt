@@ -3,7 +3,7 @@
 ghost use mathlib.Core.Path.{_≡_};
 ghost use mathlib.Core.Bool.{true};
 ghost use Rattle.wide.specs.Number.{valueOf};
-ghost use Rattle.board.specs.Board.{sound, exactDeadline};
+ghost use Rattle.board.specs.Board.{BoardFits, sound, exactDeadline};
 ghost use Rattle.board.specs.Calls.{refusalOf, answerOf, emptyAnswer, byteAnswer, advanceAnswer};
 ghost use Rattle.board.specs.Calls.{deadlineAnswer, skipAnswer, outputAnswer, hostTimeRefusal, hostTimeCall};
 ghost use Rattle.board.specs.Calls.{advancedBoard, advanceCall, deadlineCall, skipLength, skipCall};
@@ -148,9 +148,10 @@ impl Board {
 
     // ---- the calls
 
-    // The refusal of a call, by its own: 1 comes first.
+    // The refusal of a call, by its own: 1 comes first. The contract also says that the board's words are words, which
+    // the promise of its deadline rests on.
     pub fn refusal_of(self, own: u8) -> u8
-        ensures { λ r. ⌜ r ≡ refusalOf self own ⌝ }
+        ensures { λ r. ⌜ (r ≡ refusalOf self own) × BoardFits self ⌝ }
     {
         if self.sound() { own } else { Self::NOT_SOUND }
     }
