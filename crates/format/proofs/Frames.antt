@@ -102,6 +102,19 @@ unknown-is tag n1 n2 n3 n4 n5 n6 n7 n8 n9 n10 =
 
 -- ---- a call at the front
 
+-- the refusal by the code's tests, of bytes that have a header
+pub tested : (l : List ℕ) → headerLength ≤ length l → (n : Lengths) → n ≡ lengthsOf (tagAt l) → (told : ℕ) →
+    told ≡ beAt l 1 2 →
+    frameRefusal l ≡ cond (not (n .known)) tagUnknown
+    (cond (not (eqb told (n .value))) lengthWrong
+    (cond (ltb (length l - headerLength) (n .value)) valueCut 0))
+unfolding frameRefusal
+tested l h n e told g = rw (le-ltb (length l) headerLength h, e, g)
+
+-- a frame that is refused, by a number k, tells no lengths
+pub refused-is : {P : Type 0} (r k f : ℕ) → r ≡ k → 0 < k → f ≡ k → (r ≡ f) × (f ≡ 0 → P)
+refused-is r k f p h q = (p ∙ sym q, λ z. absurd (omega arith))
+
 -- no refusal: no test that gives one is met, and the tag is neither too small nor too large
 record Passed (t₁ t₂ u₂ t₃ t₄ : Bool) : Type 0 where
   header : t₁ ≡ false
@@ -156,19 +169,6 @@ module _ (l : List ℕ) (e : frameRefusal l ≡ 0) where
 
     pub arguments-before : argumentsOf (tagAt (l ++ m)) (l ++ m) ≡ argumentsOf (tagAt l) l
     arguments-before = rw tag-before (members-before l m headerLength (rowOf (tagAt l) .value) (framed .0))
-
--- the refusal by the code's tests, of bytes that have a header
-pub tested : (l : List ℕ) → headerLength ≤ length l → (n : Lengths) → n ≡ lengthsOf (tagAt l) → (told : ℕ) →
-    told ≡ beAt l 1 2 →
-    frameRefusal l ≡ cond (not (n .known)) tagUnknown
-    (cond (not (eqb told (n .value))) lengthWrong
-    (cond (ltb (length l - headerLength) (n .value)) valueCut 0))
-unfolding frameRefusal
-tested l h n e told g = rw (le-ltb (length l) headerLength h, e, g)
-
--- a frame that is refused, by a number k, tells no lengths
-pub refused-is : {P : Type 0} (r k f : ℕ) → r ≡ k → 0 < k → f ≡ k → (r ≡ f) × (f ≡ 0 → P)
-refused-is r k f p h q = (p ∙ sym q, λ z. absurd (omega arith))
 
 -- a part of a slice that goes to its end
 pub part-rest : (l : List ℕ) (k : ℕ) → take (length l - k) (drop k l) ≡ drop k l
