@@ -1,7 +1,8 @@
 //! Times the proved board and the original Rust on the same lists, through the same driver.
 //!
 //! `bench` prints, for each kind of list, nanoseconds a call of both, median and spread of five repeats, and the
-//! ratio; and the seconds of a ten-year record. `bench NAME` prints one kind alone.
+//! ratio; and the seconds of a ten-year record. `bench NAME` prints one kind alone. Above its table it prints how the
+//! Rust is built.
 
 use std::process::ExitCode;
 use std::time::Instant;
@@ -14,17 +15,30 @@ use oracle::proved;
 const REPEATS: usize = 5;
 
 fn main() -> ExitCode {
+    if cfg!(debug_assertions) {
+        eprintln!("bench: not built for release");
+        return ExitCode::FAILURE;
+    }
     let kinds = kinds::named(std::env::args().nth(1).as_deref());
     if kinds.is_empty() {
         eprintln!("bench: no kind of that name");
         return ExitCode::FAILURE;
     }
+    println!("The Rust is built for release with {}.\n", release_profile());
     println!("| List | Calls | Rust, ns a call | proved, ns a call | ratio | Rust, s | proved, s |");
     println!("|---|---|---|---|---|---|---|");
     for kind in &kinds {
         measure(kind);
     }
     ExitCode::SUCCESS
+}
+
+/// The settings of a release build, as Cargo.toml has them.
+fn release_profile() -> String {
+    let manifest = include_str!("../../Cargo.toml").lines();
+    let settings = manifest.skip_while(|line| *line != "[profile.release]").skip(1);
+    let settings: Vec<&str> = settings.take_while(|line| !line.is_empty()).collect();
+    settings.join(", ")
 }
 
 fn measure(kind: &Kind) {

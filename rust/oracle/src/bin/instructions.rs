@@ -54,8 +54,8 @@ fn table(wanted: Option<&str>) -> Result<(), String> {
     Ok(())
 }
 
-/// The instructions a call, to the nearest whole number: what the further repetitions add. So what both runs do does not
-/// count: the start, the making of the lists and the preparing of the board.
+/// The instructions a call, to the nearest whole number: what the further repetitions add. So what both runs do does
+/// not count: the start, the making of the lists and the preparing of the board.
 fn a_call(kind: &Kind, board: &str) -> Result<u64, String> {
     let [fewer, more] = REPETITIONS;
     let added = total(kind.name, board, more)? - total(kind.name, board, fewer)?;
