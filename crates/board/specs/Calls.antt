@@ -10,7 +10,7 @@ use lib.Dec.{leb, ltb, eqb}
 use Rattle.wide.specs.Bits.{flagOf}
 use Rattle.wide.specs.Number.{wideOf}
 use Rattle.clock.specs.declared.HostTime.{HostTime}
-use Rattle.clock.specs.Clock.{clockRate, nanosPerSecond, advanceClock}
+use Rattle.clock.specs.Clock.{rateOf, nanosPerSecond, advanceClock}
 use Rattle.clock.specs.Fields.{withHost}
 use Rattle.controller.specs.Controller.{sourceSet, byteRead, byteWritten, outputOf}
 use Rattle.board.specs.declared.Board.{Board}
@@ -117,7 +117,8 @@ hostTimeCall h b =
 -- c cycles arrive at the channels and the clock
 unfoldable pub movedBoard : ℕ → Board → Board
 movedBoard c b =
-    withClock (advanceClock clockRate c (b .clock)) (withTimers (advancedAll (b .«timer_enable») c (b .timers)) b)
+    withClock (advanceClock (rateOf (b .clock)) c (b .clock))
+    (withTimers (advancedAll (b .«timer_enable») c (b .timers)) b)
 
 -- the same with source 3 set to the line: the board after an accepted advance
 unfoldable pub advancedBoard : ℕ → Board → Board

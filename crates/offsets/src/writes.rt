@@ -1,7 +1,7 @@
 // What a byte written to a register does.
 ghost use mathlib.Core.Path.{_≡_};
 ghost use Prim.Native.Nat.{_<_, _≤_, _%_};
-ghost use Rattle.clock.specs.Clock.{clockRate};
+ghost use Rattle.clock.specs.Clock.{rateOf};
 ghost use Rattle.clock.specs.Registers.{mergeByte};
 ghost use Rattle.clock.specs.Sound.{Timed};
 ghost use Rattle.offsets.specs.Writes.{clearedBy, acknowledged, timerWritten, clockWritten};
@@ -73,7 +73,7 @@ fn timer_written(board: Board, register: u32, byte: usize, value: u8) -> Board
 
 // Byte `byte` of a register of the clock, 0 the most significant.
 pub fn clock_written(clock: Clock, register: u32, byte: usize, value: u8) -> Clock
-    requires { ⌜ (byte < 4) × Timed clockRate clock ⌝ }
+    requires { ⌜ (byte < 4) × Timed (rateOf clock) clock ⌝ }
     ensures { λ r. ⌜ r ≡ clockWritten register byte value clock ⌝ }
 {
     let low = byte + 4;
@@ -102,7 +102,7 @@ fn channel_written(board: Board, offset: u32, value: u8) -> Board
 
 // A byte written at an offset.
 pub fn written_at(board: Board, offset: u32, value: u8) -> Board
-    requires { ⌜ Timed clockRate (board .clock) ⌝ }
+    requires { ⌜ Timed (rateOf (board .clock)) (board .clock) ⌝ }
     ensures { λ r. ⌜ r ≡ writtenAt offset value board ⌝ }
 {
     let clock = board.clock;

@@ -12,7 +12,7 @@ use Rattle.wide.proofs.Choices.{choose, and-parts}
 use Rattle.channel.specs.declared.HardwareTimer.{HardwareTimer}
 use Rattle.channel.specs.Registers.{countLowAt}
 use Rattle.clock.specs.declared.Clock.{Clock}
-use Rattle.clock.specs.Clock.{clockRate, timeSeconds, checkAlarm}
+use Rattle.clock.specs.Clock.{rateOf, timeSeconds, checkAlarm}
 use Rattle.board.specs.declared.Latch.the-variants.{Empty, Held}
 use Rattle.board.specs.declared.Latches.{Latches}
 use Rattle.board.specs.Board.{heldOf}
@@ -71,9 +71,9 @@ module _ (h : HardwareTimer) (shared : ℕ) (k : Clock) (ls : Latches) (o : ℕ)
   pub by-seconds : o ≡ secondsLowAt →
       readingOf h shared k ls o
       ≡ record {
-        byte = byteOfWord 0 (lowWord (timeSeconds clockRate k));
+        byte = byteOfWord 0 (lowWord (timeSeconds (rateOf k) k));
         latches =
-            withSeconds (Held (lowWord (timeSeconds clockRate k))) (Held (highWord (timeSeconds clockRate k))) ls;
+            withSeconds (Held (lowWord (timeSeconds (rateOf k) k))) (Held (highWord (timeSeconds (rateOf k) k))) ls;
         pending = k .alarm .pending;
         armed = k .alarm .armed;
       }
@@ -89,6 +89,6 @@ module _ (h : HardwareTimer) (shared : ℕ) (k : Clock) (ls : Latches) (o : ℕ)
     -- no latch serves
     pub by-register : serving o ls ≡ Empty →
         readingOf h shared k ls o
-        ≡ liveReading h shared (checkAlarm clockRate k) (countFilled o (h .counter) ls) o
+        ≡ liveReading h shared (checkAlarm (rateOf k) k) (countFilled o (h .counter) ls) o
     unfolding readingOf readingBy filled
     by-register s = rw (n, filled-serves o (h .counter) ls, s)

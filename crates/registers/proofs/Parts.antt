@@ -13,7 +13,7 @@ use Rattle.channel.specs.Channel.{freshTimer}
 use Rattle.channel.specs.Registers.{countLowAt}
 use Rattle.clock.specs.declared.Clock.{Clock}
 use Rattle.clock.specs.Fields.{withAlarm}
-use Rattle.clock.specs.Clock.{clockRate, alarmReached, checkAlarm}
+use Rattle.clock.specs.Clock.{rateOf, alarmReached, checkAlarm}
 use Rattle.board.specs.declared.Latch.{Latch}
 use Rattle.board.specs.declared.Latch.the-variants.{Empty}
 use Rattle.board.specs.declared.Latches.{Latches}
@@ -93,11 +93,11 @@ check-flags : (k : Clock) →
     (record {
       enable = k .alarm .enable;
       seconds = k .alarm .seconds;
-      pending = checkAlarm clockRate k .alarm .pending;
-      armed = checkAlarm clockRate k .alarm .armed;
+      pending = checkAlarm (rateOf k) k .alarm .pending;
+      armed = checkAlarm (rateOf k) k .alarm .armed;
     })
     k
-    ≡ checkAlarm clockRate k
+    ≡ checkAlarm (rateOf k) k
 unfolding checkAlarm
 check-flags k =
     choose
@@ -111,7 +111,7 @@ check-flags k =
     })
     k
     ≡ r)
-    (alarmReached clockRate k) (λ _. refl) (λ _. refl)
+    (alarmReached (rateOf k) k) (λ _. refl) (λ _. refl)
 
 -- ---- a read at an offset
 
@@ -143,10 +143,10 @@ module _ (o : ℕ) (b : Board) where
   word-parts k ls = either (inChannels o) (λ e. rw e) (λ e. rw e)
 
   live-parts : (ls : Latches) →
-      readLive o (withLatches ls b) ≡ answer b (liveReading timer shared (checkAlarm clockRate (b .clock)) ls o)
+      readLive o (withLatches ls b) ≡ answer b (liveReading timer shared (checkAlarm (rateOf (b .clock)) (b .clock)) ls o)
   unfolding readLive
   live-parts ls =
-      let k = checkAlarm clockRate (b .clock) in
+      let k = checkAlarm (rateOf (b .clock)) (b .clock) in
       ap (λ (w : ℕ). answered o w (checked (withLatches ls b))) (word-parts k ls)
       ∙ ap (λ (h : Clock). answered o (wordAt timer k shared o) (withClock h (withLatches ls b)))
       (sym (check-flags (b .clock)))
@@ -164,7 +164,7 @@ module _ (o : ℕ) (b : Board) where
   read-by ls after l e f =
       rw (e, f)
       (cond-answer b (heldOf l) (latchReading (heldValue l) (b .clock) ls o)
-      (liveReading timer shared (checkAlarm clockRate (b .clock)) ls o) refl (live-parts ls))
+      (liveReading timer shared (checkAlarm (rateOf (b .clock)) (b .clock)) ls o) refl (live-parts ls))
 
   -- ---- the clock's seconds
 

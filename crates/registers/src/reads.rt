@@ -1,7 +1,7 @@
 // Reads of a byte, with the latches, as functions of the parts of a board that a read takes.
 ghost use mathlib.Core.Path.{_≡_};
 ghost use Prim.Native.Nat.{_<_};
-ghost use Rattle.clock.specs.Clock.{clockRate};
+ghost use Rattle.clock.specs.Clock.{rateOf};
 ghost use Rattle.clock.specs.Sound.{Timed};
 ghost use Rattle.offsets.specs.Registers.{inChannels, registerOf};
 ghost use Rattle.offsets.specs.Words.{timerWord};
@@ -161,7 +161,7 @@ fn freed_at(latches: Latches, offset: u32) -> Latches
 
 // The word of the register at an offset.
 fn word_of(timer: HardwareTimer, clock: Clock, shared: u32, offset: u32) -> u32
-    requires { ⌜ Timed clockRate clock ⌝ }
+    requires { ⌜ Timed (rateOf clock) clock ⌝ }
     ensures { λ r. ⌜ r ≡ wordAt timer clock shared offset ⌝ }
 {
     match offset {
@@ -190,7 +190,7 @@ pub fn reading_of(
     latches: Latches,
     offset: u32,
 ) -> Reading
-    requires { ⌜ Timed clockRate clock ⌝ }
+    requires { ⌜ Timed (rateOf clock) clock ⌝ }
     ensures { λ r. ⌜ r ≡ readingOf timer shared clock latches offset ⌝ }
 {
     if offset == Registers::RTC_SECONDS_LO {

@@ -1,6 +1,6 @@
 // What a byte written at an offset leaves of the parts of a board, each of which a register changes by itself.
 ghost use mathlib.Core.Path.{_≡_};
-ghost use Rattle.clock.specs.Clock.{clockRate};
+ghost use Rattle.clock.specs.Clock.{rateOf};
 ghost use Rattle.clock.specs.Sound.{Timed};
 ghost use Rattle.registers.specs.Parts.{enableAfter, clockAfter, timerAfter};
 use channel::HardwareTimer;
@@ -22,7 +22,7 @@ pub fn enable_after(timer_enable: u8, offset: u32, value: u8) -> u8
 }
 
 pub fn clock_after(clock: Clock, offset: u32, value: u8) -> Clock
-    requires { ⌜ Timed clockRate clock ⌝ }
+    requires { ⌜ Timed (rateOf clock) clock ⌝ }
     ensures { λ r. ⌜ r ≡ clockAfter offset value clock ⌝ }
 {
     match offset {
