@@ -3,11 +3,11 @@ use Prim.Native.Nat.{ℕ, _+_, _*_, _/_, _≤_}
 use native.Mathlib.Omega.{arith}
 use mathlib.Core.Path.{_≡_, refl, sym, ap, _∙_}
 use mathlib.Core.Bool.{Bool, true, false, cond, false≢true}
-use lib.Dec.{leb, eqb}
+use lib.Dec.{eqb}
 use lib.ListN.{getD, set}
 use lib.Seq.{set-getD}
-use borrow.Author.Tests.{leb-true, eqb-true, eq-eqb, ne-eqb}
-use Rattle.wide.proofs.Choices.{choose, either, and-parts}
+use borrow.Author.Tests.{eqb-true, eq-eqb, ne-eqb}
+use Rattle.wide.proofs.Choices.{choose, either}
 use Rattle.channel.specs.declared.HardwareTimer.{HardwareTimer}
 use Rattle.channel.specs.Channel.{freshTimer}
 use Rattle.channel.specs.Registers.{countLowAt}
@@ -33,7 +33,7 @@ use Rattle.offsets.specs.Registers.{
   withLatches,
 }
 use Rattle.offsets.specs.Words.{timerWord, liveWord}
-use Rattle.offsets.proofs.Ranges.{inside, below}
+use Rattle.offsets.proofs.Ranges.{inside, below, bounds}
 use Rattle.registers.specs.declared.reads.Reading.{Reading}
 use Rattle.registers.specs.Reads.{
   answered,
@@ -73,11 +73,6 @@ use Rattle.registers.specs.Parts.{
 }
 
 -- ---- ranges
-
-pub bounds : (first last n : ℕ) → within first last n ≡ true → (first ≤ n) × (n ≤ last)
-bounds first last n e =
-    let p = and-parts (leb first n) (leb n last) e in
-    (leb-true first n (p .0), leb-true n last (p .1))
 
 -- the bytes of a count's high word
 high-place : (p : ℕ) → eqb (p / 4 * 4) 0x0C ≡ within 0x0C 0x0F p
@@ -135,6 +130,9 @@ module _ (o : ℕ) (b : Board) where
   abbrev by : Latches → Reading
   by ls = readingBy timer shared (b .clock) ls o
 
+  abbrev live : Latches → Reading
+  live ls = liveReading timer shared (checkAlarm clockRate (b .clock)) (b .clock .alarm .pending) ls o
+
   abbrev full : Latches
   full = filled o (timer .counter) (b .clock) (b .latches)
 
@@ -143,7 +141,7 @@ module _ (o : ℕ) (b : Board) where
   word-parts k ls = either (inChannels o) (λ e. rw e) (λ e. rw e)
 
   live-parts : (ls : Latches) →
-      readLive o (withLatches ls b) ≡ answer b (liveReading timer shared (checkAlarm clockRate (b .clock)) ls o)
+      readLive o (withLatches ls b) ≡ answer b (live ls)
   unfolding readLive
   live-parts ls =
       let k = checkAlarm clockRate (b .clock) in
@@ -163,8 +161,7 @@ module _ (o : ℕ) (b : Board) where
   unfolding readingBy
   read-by ls after l e f =
       rw (e, f)
-      (cond-answer b (heldOf l) (latchReading (heldValue l) (b .clock) ls o)
-      (liveReading timer shared (checkAlarm clockRate (b .clock)) ls o) refl (live-parts ls))
+      (cond-answer b (heldOf l) (latchReading (heldValue l) (b .clock) ls o) (live ls) refl (live-parts ls))
 
   -- ---- the clock's seconds
 
