@@ -9,9 +9,10 @@ use Rattle.wide.proofs.Choices.{choose}
 use Rattle.channel.specs.Channel.{lineOf}
 use Rattle.channel.proofs.Sound.{fresh-sound as timer-sound}
 use Rattle.clock.specs.declared.HostTime.{HostTime}
-use Rattle.clock.specs.Clock.{clockRate}
+use Rattle.clock.specs.Clock.{rateOf}
 use Rattle.clock.specs.Fields.{freshClock}
-use Rattle.clock.proofs.Soundness.{clock-rate, facts-sound as clock-sound, fresh-sound as clock-fresh}
+use Rattle.clock.proofs.Soundness.{facts-sound as clock-sound}
+use Rattle.clock.proofs.Kept.{fresh-kept as clock-fresh}
 use Rattle.controller.specs.declared.IrqController.{IrqController}
 use Rattle.controller.specs.Controller.{sourceSet, byteWritten}
 use Rattle.board.specs.declared.Board.{Board}
@@ -47,7 +48,7 @@ fresh-sound =
     (record {
       timers = rw timer-sound;
       enable = omega arith;
-      clock = clock-sound clockRate freshClock (clock-fresh clockRate clock-rate);
+      clock = clock-sound (rateOf freshClock) freshClock clock-fresh;
       level = refl;
     })
 

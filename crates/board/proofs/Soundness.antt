@@ -7,9 +7,9 @@ use lib.Dec.{ltb}
 use borrow.Author.Tests.{ltb-true, lt-ltb}
 use Rattle.wide.specs.Bits.{bit}
 use Rattle.wide.proofs.Choices.{and-parts, and-join}
-use Rattle.clock.specs.Clock.{clockRate}
+use Rattle.clock.specs.Clock.{rateOf}
 use Rattle.clock.specs.Sound.{ClockFits, soundClock}
-use Rattle.clock.proofs.Soundness.{Sound, sound-facts as clock-sound-facts}
+use Rattle.clock.proofs.Soundness.{OwnSound, sound-facts as clock-sound-facts}
 use Rattle.controller.proofs.Laws.{steady}
 use Rattle.board.specs.declared.Latch.{Latch}
 use Rattle.board.specs.declared.Latch.the-variants.{Empty, Held}
@@ -55,12 +55,12 @@ beq-true false false e = refl
 pub record SoundFacts (b : Board) : Type 0 where
   pub timers : allSound (b .timers) ≡ true
   pub enable : b .«timer_enable» < 16
-  pub clock : soundClock clockRate (b .clock) ≡ true
+  pub clock : soundClock (rateOf (b .clock)) (b .clock) ≡ true
   pub level : bit 3 (b .controller .levels) ≡ line b
 
 module _ (b : Board) where
   abbrev inner : Bool
-  inner = soundClock clockRate (b .clock) && soundLatches (b .latches)
+  inner = soundClock (rateOf (b .clock)) (b .clock) && soundLatches (b .latches)
 
   abbrev outer : Bool
   outer = ltb (b .«timer_enable») 16 && inner
@@ -71,7 +71,7 @@ module _ (b : Board) where
       let p = and-parts (soundParts b) (soundLevel b) e in
       let q = and-parts (allSound (b .timers)) outer (p .0) in
       let r = and-parts (ltb (b .«timer_enable») 16) inner (q .1) in
-      let s = and-parts (soundClock clockRate (b .clock)) (soundLatches (b .latches)) (r .1) in
+      let s = and-parts (soundClock (rateOf (b .clock)) (b .clock)) (soundLatches (b .latches)) (r .1) in
       record {
         timers = q .0;
         enable = ltb-true (b .«timer_enable») 16 (r .0);
@@ -85,12 +85,13 @@ module _ (b : Board) where
       and-join (soundParts b) (soundLevel b)
       (and-join (allSound (b .timers)) outer (f .timers)
       (and-join (ltb (b .«timer_enable») 16) inner (lt-ltb (b .«timer_enable») 16 (f .enable))
-      (and-join (soundClock clockRate (b .clock)) (soundLatches (b .latches)) (f .clock) (latches-sound (b .latches)))))
+      (and-join (soundClock (rateOf (b .clock)) (b .clock)) (soundLatches (b .latches)) (f .clock)
+      (latches-sound (b .latches)))))
       (rw (f .level) (beq-refl (line b)))
 
   -- the facts of its clock
-  pub clock-facts : ClockFits (b .clock) → sound b ≡ true → Sound clockRate (b .clock)
-  clock-facts f e = clock-sound-facts clockRate (b .clock) f (sound-facts e .clock)
+  pub clock-facts : ClockFits (b .clock) → sound b ≡ true → OwnSound (b .clock)
+  clock-facts f e = clock-sound-facts (rateOf (b .clock)) (b .clock) f (sound-facts e .clock)
 
   -- source 3 of a sound board is at the line already
   pub wired-sound : sound b ≡ true → wired b ≡ b

@@ -12,17 +12,12 @@ use Rattle.wide.specs.Deadline.{due}
 use Rattle.wide.proofs.Choices.{either}
 use Rattle.wide.proofs.Deadlines.{due-sooner}
 use Rattle.clock.specs.declared.HostTime.{HostTime}
-use Rattle.clock.specs.Clock.{clockRate, nanosPerSecond, fromHost, advanceClock}
+use Rattle.clock.specs.Clock.{rateOf, nanosPerSecond, fromHost, advanceClock}
 use Rattle.clock.specs.Fields.{withHost}
 use Rattle.clock.specs.Deadline.{clockLine, clockDeadline, clockDue}
-use Rattle.clock.proofs.Soundness.{
-  Sound,
-  clock-rate,
-  facts-sound as clock-sound,
-  sound-fits,
-  advance-sound,
-  host-sound,
-}
+use Rattle.clock.proofs.Rate.{advance-rate}
+use Rattle.clock.proofs.Soundness.{OwnSound, facts-sound as clock-sound, sound-fits}
+use Rattle.clock.proofs.Kept.{advance-kept, host-kept}
 use Rattle.clock.proofs.Law.{advance-due as clock-advance-due, advance-own, host-due, line-due as clock-line-due}
 use Rattle.controller.proofs.Laws.{level-set, pending-set}
 use Rattle.board.specs.declared.Board.{Board}
@@ -48,7 +43,7 @@ pub record Good (b : Board) : Type 0 where
 pub good : (b : Board) → BoardFits b → sound b ≡ true → Good b
 good b f s = record { fits = f; facts = sound-facts b s }
 
-clock-good : (b : Board) → Good b → Sound clockRate (b .clock)
+clock-good : (b : Board) → Good b → OwnSound (b .clock)
 clock-good b g = clock-facts b (g .fits .clock) (facts-sound b (g .facts))
 
 -- ---- what is due
@@ -58,19 +53,19 @@ unfoldable pub boardDue : Board → ℕ → Bool
 boardDue b t = line b || due (exactDeadline b) t
 
 due-parts : (b : Board) (t : ℕ) →
-    boardDue b t ≡ (channelsDue (b .«timer_enable») 0 (b .timers) t || clockDue clockRate (b .clock) t)
+    boardDue b t ≡ (channelsDue (b .«timer_enable») 0 (b .timers) t || clockDue (rateOf (b .clock)) (b .clock) t)
 unfolding boardDue line exactDeadline channelsDue clockDue
 due-parts b t =
     rw due-sooner
     (or-swap (anyLine (b .timers)) (clockLine (b .clock)) (due (soonestOf (b .«timer_enable») (b .timers)) t)
-    (due (clockDeadline clockRate (b .clock)) t))
+    (due (clockDeadline (rateOf (b .clock)) (b .clock)) t))
 
 -- the line is what is due at once
 pub line-due : (b : Board) → Good b → line b ≡ boardDue b 0
 unfolding line
 line-due b g =
     ap₂ _||_ (channels-line-due (b .«timer_enable») 0 (b .timers) (g .fits .timers) (g .facts .timers))
-    (clock-line-due clockRate (b .clock) (clock-good b g))
+    (clock-line-due (rateOf (b .clock)) (b .clock) (clock-good b g))
     ∙ sym (due-parts b 0)
 
 -- ---- source 3 is set to the line
@@ -104,10 +99,16 @@ pub record Step (c : ℕ) (x y : Board) : Type 0 where
 module _ (c : ℕ) (b : Board) (g : Good b) where
   -- before source 3 is set
   abbrev moved : Board
-  moved = withClock (advanceClock clockRate c (b .clock)) (withTimers (advancedAll (b .«timer_enable») c (b .timers)) b)
+  moved =
+      withClock (advanceClock (rateOf (b .clock)) c (b .clock))
+      (withTimers (advancedAll (b .«timer_enable») c (b .timers)) b)
 
-  moved-clock : Sound clockRate (moved .clock)
-  moved-clock = advance-sound clockRate clock-rate c (b .clock) (clock-good b g)
+  -- an advance leaves the rate
+  same-rate : rateOf (moved .clock) ≡ rateOf (b .clock)
+  same-rate = advance-rate (rateOf (b .clock)) (b .clock) c
+
+  moved-clock : OwnSound (moved .clock)
+  moved-clock = advance-kept (b .clock) (clock-good b g) c
 
   pub advance-step : Step c b (advancedBoard c b)
   unfolding advancedBoard wired
@@ -116,22 +117,23 @@ module _ (c : ℕ) (b : Board) (g : Good b) where
         good = record {
           fits = record {
             timers = channels-fits (b .«timer_enable») c 0 (b .timers) (g .fits .timers);
-            clock = sound-fits clockRate (moved .clock) moved-clock;
+            clock = sound-fits (rateOf (moved .clock)) (moved .clock) moved-clock;
           };
           facts = record {
             timers = channels-sound (b .«timer_enable») c 0 (b .timers) (g .fits .timers) (g .facts .timers);
             enable = g .facts .enable;
-            clock = clock-sound clockRate (moved .clock) moved-clock;
+            clock = clock-sound (rateOf (moved .clock)) (moved .clock) moved-clock;
             level = wired-level moved;
           };
         };
-        own = advance-own clockRate c (b .clock) (clock-good b g);
+        own = advance-own (rateOf (b .clock)) c (b .clock) (clock-good b g);
         due = λ o t.
             wired-due moved t
             ∙ due-parts moved t
             ∙ ap₂ _||_
             (channels-advance-due (b .«timer_enable») c 0 (b .timers) (g .fits .timers) (g .facts .timers) t)
-            (clock-advance-due clockRate c (b .clock) (clock-good b g) o t)
+            (ap (λ (rate : ℕ). clockDue rate (moved .clock) t) same-rate
+            ∙ clock-advance-due (rateOf (b .clock)) c (b .clock) (clock-good b g) o t)
             ∙ sym (due-parts b (c + t));
         source =
             wired-source moved
@@ -143,13 +145,13 @@ module _ (h : HostTime) (b : Board) (small : h .nanoseconds < nanosPerSecond) (g
   abbrev told : Board
   told = withClock (withHost h (b .clock)) b
 
-  told-clock : Sound clockRate (told .clock)
-  told-clock = host-sound clockRate h (b .clock) small (clock-good b g)
+  told-clock : OwnSound (told .clock)
+  told-clock = host-kept (b .clock) (clock-good b g) h small
 
   told-due : (t : ℕ) → boardDue told t ≡ boardDue b t
   told-due t =
       due-parts told t
-      ∙ ap (λ v. channelsDue (b .«timer_enable») 0 (b .timers) t || v) (host-due clockRate h (b .clock) t)
+      ∙ ap (λ v. channelsDue (b .«timer_enable») 0 (b .timers) t || v) (host-due (rateOf (b .clock)) h (b .clock) t)
       ∙ sym (due-parts b t)
 
   pub host-step : Step 0 b (hostedBoard h b)
@@ -157,11 +159,14 @@ module _ (h : HostTime) (b : Board) (small : h .nanoseconds < nanosPerSecond) (g
   host-step =
       record {
         good = record {
-          fits = record { timers = g .fits .timers; clock = sound-fits clockRate (told .clock) told-clock };
+          fits = record {
+            timers = g .fits .timers;
+            clock = sound-fits (rateOf (told .clock)) (told .clock) told-clock;
+          };
           facts = record {
             timers = g .facts .timers;
             enable = g .facts .enable;
-            clock = clock-sound clockRate (told .clock) told-clock;
+            clock = clock-sound (rateOf (told .clock)) (told .clock) told-clock;
             level = wired-level told;
           };
         };

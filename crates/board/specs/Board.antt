@@ -11,7 +11,7 @@ use Rattle.wide.specs.Deadline.{sooner}
 use Rattle.channel.specs.declared.HardwareTimer.{HardwareTimer}
 use Rattle.channel.specs.Channel.{TimerFits, freshTimer}
 use Rattle.clock.specs.declared.Clock.{Clock}
-use Rattle.clock.specs.Clock.{clockRate}
+use Rattle.clock.specs.Clock.{rateOf}
 use Rattle.clock.specs.Fields.{freshClock}
 use Rattle.clock.specs.Sound.{ClockFits, soundClock}
 use Rattle.clock.specs.Deadline.{clockLine, clockDeadline}
@@ -93,7 +93,7 @@ line b = anyLine (b .timers) || clockLine (b .clock)
 
 -- 'D is the smallest, or none'
 unfoldable pub exactDeadline : Board → Option ℕ
-exactDeadline b = sooner (soonestOf (b .«timer_enable») (b .timers)) (clockDeadline clockRate (b .clock))
+exactDeadline b = sooner (soonestOf (b .«timer_enable») (b .timers)) (clockDeadline (rateOf (b .clock)) (b .clock))
 
 -- 'The 64-bit deadline is the smaller of D and 2^64 − 1.'
 abbrev pub wordDeadline : Option ℕ → Option ℕ
@@ -118,7 +118,7 @@ soundLatches ls =
 unfoldable pub soundParts : Board → Bool
 soundParts b =
     allSound (b .timers)
-    && (ltb (b .«timer_enable») 16 && (soundClock clockRate (b .clock) && soundLatches (b .latches)))
+    && (ltb (b .«timer_enable») 16 && (soundClock (rateOf (b .clock)) (b .clock) && soundLatches (b .latches)))
 
 -- 'level bit 3 equals the line'
 abbrev pub soundLevel : Board → Bool

@@ -7,7 +7,7 @@ use mathlib.Core.Option.{Option, none, some}
 use lib.Dec.{leb, ltb, eqb}
 use Rattle.wide.specs.Number.{valueOf}
 use Rattle.clock.specs.declared.HostTime.{HostTime}
-use Rattle.clock.specs.Clock.{clockRate, nanosPerSecond, advanceClock}
+use Rattle.clock.specs.Clock.{rateOf, nanosPerSecond, advanceClock}
 use Rattle.clock.specs.Fields.{withHost}
 use Rattle.controller.specs.Controller.{sourceSet, byteRead, byteWritten, outputOf}
 use Rattle.board.specs.declared.Board.{Board}
@@ -65,7 +65,8 @@ refusalOf b own = cond (sound b) own notSound
 unfoldable pub advancedBoard : ℕ → Board → Board
 advancedBoard c b =
     wired
-    (withClock (advanceClock clockRate c (b .clock)) (withTimers (advancedAll (b .«timer_enable») c (b .timers)) b))
+    (withClock (advanceClock (rateOf (b .clock)) c (b .clock))
+    (withTimers (advancedAll (b .«timer_enable») c (b .timers)) b))
 
 -- 'it sets the two host fields and makes no alarm check'
 unfoldable pub hostedBoard : HostTime → Board → Board

@@ -4,7 +4,7 @@ use Prim.Native.Nat.{ℕ, _+_, _-_, _*_, _/_, _%_, _≤_, _<_}
 use mathlib.Core.Path.{_≡_, ap}
 use mathlib.Core.Bool.{true, false, not, _&&_}
 use mathlib.Core.Option.{none, some}
-use native.Mathlib.Nat.{mod-eq-of-lt, mod-lt, div-add-mod', le-div-iff-mul-le}
+use native.Mathlib.Nat.{mod-eq-of-lt, mod-lt, div-add-mod', mul-le-mul-right, le-div-iff-mul-le}
 use native.Mathlib.Omega.{arith}
 use lib.Dec.{ltb, eqb}
 use lib.Arith.{digits-div, digits-mod}
@@ -96,6 +96,10 @@ module _ (rate n : ℕ) (k : Clock) (pos : 0 < pollLimit rate) (p : ℕ) (e : p 
       reached = omega (arith, le-div-iff-mul-le {k = pollLimit rate} {x = 1} {y = n} pos .0 one)
 
 -- ---- the deadline
+
+-- an alarm ahead is at least a second ahead
+pub second-ahead : (rate a s u : ℕ) → s < a → u < rate → u ≤ (a - s) * rate
+second-ahead rate a s u h k = omega (arith, mul-le-mul-right {m = 1} {n = a - s} rate (omega arith))
 
 module _ (rate : ℕ) (k : Clock) where
   pub deadline-past : (n : ℕ) → awaited k ≡ true → k .alarm .seconds ≤ k .seconds → n ≡ 1 →

@@ -2,7 +2,7 @@
 use Prim.Native.Nat.{ℕ, _+_, _-_, _*_, _/_, _%_, _^_, _≤_, _<_}
 use mathlib.Core.Path.{_≡_}
 use mathlib.Core.Bool.{false, _&&_}
-use native.Mathlib.Nat.{mod-lt, mul-comm, mul-lt-mul-of-pos-right, div-lt-iff-lt-mul}
+use native.Mathlib.Nat.{mod-lt}
 use native.Mathlib.Omega.{arith}
 use lib.Dec.{ltb}
 use borrow.Author.Tests.{ltb-true, ltb-false}
@@ -20,6 +20,7 @@ use Rattle.clock.specs.Registers.{
   timeKept,
   offsetFor,
 }
+use Rattle.clock.proofs.Durations.{cycles-below}
 
 module _ (P : Clock → Type 0) (rate : ℕ) (k : Clock) where
   -- c cycles: past the largest word, on, or not at all
@@ -43,17 +44,12 @@ module _ (P : Clock → Type 0) (rate : ℕ) (k : Clock) where
         choose P (fromHost (k .control)) (λ _. offset (s * nanosPerSecond) (hostNanoseconds (k .host))) (λ _. same)
 
     module _ (pos : 0 < rate) (set : (s u : ℕ) → s < 2 ^ 64 → u < rate → P (ownTimeSet s u k)) where
-      cycles-below : (n : ℕ) → n < nanosPerSecond → n * rate / nanosPerSecond < rate
-      cycles-below n h =
-          div-lt-iff-lt-mul {k = nanosPerSecond} {x = n * rate} {y = rate} (omega arith) .1
-          (rw (mul-comm rate nanosPerSecond) (mul-lt-mul-of-pos-right h pos))
-
       set-cases : (n : ℕ) → P (setTime rate n k)
       unfolding setTime
       set-cases n =
           choose P (ltb largest (n / nanosPerSecond)) (λ _. set largest 0 (omega arith) pos)
           (λ e. set (n / nanosPerSecond) (n % nanosPerSecond * rate / nanosPerSecond) (word e)
-          (cycles-below (n % nanosPerSecond) (mod-lt n (omega arith))))
+          (cycles-below rate (n % nanosPerSecond) (mod-lt n (omega arith)) pos))
         where
           word : ltb largest (n / nanosPerSecond) ≡ false → n / nanosPerSecond < 2 ^ 64
           word e = let l = ltb-false largest (n / nanosPerSecond) e in omega arith

@@ -1,8 +1,17 @@
--- Seconds and nanoseconds: order, difference and sum of two durations, and the words of a time. Assumes nothing.
+-- Seconds and nanoseconds: order, difference and sum of two durations, a part of a second in cycles and in
+-- nanoseconds, and the words of a time. Assumes nothing.
 use Prim.Native.Nat.{ℕ, _+_, _-_, _*_, _/_, _%_, _^_, _≤_, _<_}
 use mathlib.Core.Path.{_≡_, sym, _∙_}
 use mathlib.Core.Bool.{Bool, true, false, cond}
-use native.Mathlib.Nat.{mul-le-mul-right, lt-of-lt-of-le}
+use native.Mathlib.Nat.{
+  mul-comm,
+  mul-le-mul-left,
+  mul-le-mul-right,
+  mul-lt-mul-of-pos-right,
+  div-lt-iff-lt-mul,
+  lt-of-lt-of-le,
+  lt-of-le-of-lt,
+}
 use native.Mathlib.Omega.{arith}
 use lib.Dec.{ltb}
 use borrow.Author.Tests.{ltb-true, ltb-false, lt-ltb, le-ltb}
@@ -72,6 +81,24 @@ since-is v a b d e h =
 
     rest : (s n m : ℕ) → inNanoseconds s n ≡ m → n < nanosPerSecond → n ≡ m % nanosPerSecond
     rest s n m f l = omega arith
+
+-- ---- a part of a second, at any rate
+
+-- u cycles in nanoseconds
+pub nanos-below : (rate u : ℕ) → u < rate → u * nanosPerSecond / rate < nanosPerSecond
+nanos-below rate u h =
+    div-lt-iff-lt-mul {k = rate} {x = u * nanosPerSecond} {y = nanosPerSecond} (omega arith) .1
+    (rw (mul-comm nanosPerSecond rate) (mul-lt-mul-of-pos-right h (omega arith)))
+
+-- n nanoseconds in cycles
+module _ (rate n : ℕ) (h : n < nanosPerSecond) where
+  pub cycles-below : 0 < rate → n * rate / nanosPerSecond < rate
+  cycles-below pos =
+      div-lt-iff-lt-mul {k = nanosPerSecond} {x = n * rate} {y = rate} (omega arith) .1
+      (rw (mul-comm rate nanosPerSecond) (mul-lt-mul-of-pos-right h pos))
+
+  pub cycles-fit : rate ≤ 2 ^ 32 → n * rate < 2 ^ 64
+  cycles-fit k = lt-of-le-of-lt (mul-le-mul-left n k) (omega arith)
 
 -- ---- times
 

@@ -1,4 +1,6 @@
+pub mod Rate
 pub mod Soundness
+pub mod Kept
 pub mod Law
 mod Settings
 mod Tests

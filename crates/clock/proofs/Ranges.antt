@@ -1,11 +1,12 @@
 -- What reading the time asks of a clock is kept by each step between two readings. Assumes nothing.
 use Prim.Native.Nat.{ℕ, _+_, _%_, _<_}
+use mathlib.Core.Path.{_≡_, subst⁻¹}
 use native.Mathlib.Nat.{mod-lt}
 use native.Mathlib.Omega.{arith}
 use Rattle.clock.specs.declared.Alarm.{Alarm}
 use Rattle.clock.specs.declared.Shadow.{Shadow}
 use Rattle.clock.specs.declared.Clock.{Clock}
-use Rattle.clock.specs.Clock.{nanosPerSecond, movedTime}
+use Rattle.clock.specs.Clock.{rateOf, nanosPerSecond, movedTime}
 use Rattle.clock.specs.Fields.{
   withControl,
   withTime,
@@ -22,6 +23,10 @@ use Rattle.clock.proofs.Cases.{moved-cases, offset-for-cases, kept-case
 pub signed-small : (a b : ℕ) → signedDifference a b .nanoseconds < nanosPerSecond
 unfolding signedDifference
 signed-small a b = mod-lt _ (omega arith)
+
+-- of a clock at its own rate, whatever the clock is called
+pub timed-same : {j k : Clock} → j ≡ k → Timed (rateOf k) k → Timed (rateOf j) j
+timed-same e t = subst⁻¹ (λ (x : Clock). Timed (rateOf x) x) e t
 
 module _ (rate : ℕ) (k : Clock) (t : Timed rate k) where
   pos : 0 < rate

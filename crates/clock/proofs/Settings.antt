@@ -8,7 +8,7 @@ use lib.Dec.{eqb}
 use Rattle.wide.specs.Fields.{withByte}
 use Rattle.clock.specs.declared.Clock.{Clock}
 use Rattle.clock.specs.Clock.{
-  clockRate,
+  rateOf,
   shifted,
   ownNanoseconds,
   timeOf,
@@ -48,11 +48,11 @@ isSome (some d) n = eqb d n
 -- bytes i + 1 of seconds written at each index i of a list, and zero bytes of the alarm
 secondsBytes : List ℕ → Clock → Clock
 secondsBytes [] k = k
-secondsBytes (i ∷ l) k = secondsBytes l (writeSeconds clockRate i (i + 1) k)
+secondsBytes (i ∷ l) k = secondsBytes l (writeSeconds (rateOf k) i (i + 1) k)
 
 alarmBytes : List ℕ → Clock → Clock
 alarmBytes [] k = k
-alarmBytes (i ∷ l) k = alarmBytes l (writeAlarm clockRate i 0 k)
+alarmBytes (i ∷ l) k = alarmBytes l (writeAlarm (rateOf k) i 0 k)
 
 -- F: alarm 2, armed, alarm enable 1: D 96,000,000
 f : Clock
@@ -72,16 +72,16 @@ nine = withHost (record { seconds = 9; nanoseconds = 0 }) (withArmed 9 (withCont
 
 -- host time 3 s and 1 ns on a clock at 0, then taken up
 ahead : Clock
-ahead = writeControl clockRate 3 5 (withHost (record { seconds = 3; nanoseconds = 1 }) freshClock)
+ahead = writeControl (rateOf freshClock) 3 5 (withHost (record { seconds = 3; nanoseconds = 1 }) freshClock)
 
 settings : Bool
 settings =
-    (isSome (clockDeadline clockRate f) 96_000_000
-    && not (clockLine (advanceClock clockRate 95_999_999 f))
-    && clockLine (advanceClock clockRate 96_000_000 f))
-    && (eqb (advanceClock clockRate 47_999_999 g .subsecond) 47_999_999
-    && eqb (advanceClock clockRate 48_000_000 g .subsecond) 0
-    && eqb (advanceClock clockRate 48_000_000 g .seconds) (2 ^ 64 - 1))
+    (isSome (clockDeadline (rateOf f) f) 96_000_000
+    && not (clockLine (advanceClock (rateOf f) 95_999_999 f))
+    && clockLine (advanceClock (rateOf f) 96_000_000 f))
+    && (eqb (advanceClock (rateOf g) 47_999_999 g .subsecond) 47_999_999
+    && eqb (advanceClock (rateOf g) 48_000_000 g .subsecond) 0
+    && eqb (advanceClock (rateOf g) 48_000_000 g .seconds) (2 ^ 64 - 1))
     && (eqb (seven .seconds) 0
     && eqb (seven .shadow .mask) 254
     && eqb (secondsBytes (1 ∷ []) seven .seconds) 0
@@ -91,17 +91,17 @@ settings =
     && (not (alarmBytes (0 ∷ 1 ∷ 2 ∷ 3 ∷ 4 ∷ 5 ∷ 6 ∷ []) freshClock .alarm .pending)
     && alarmBytes (0 ∷ 1 ∷ 2 ∷ 3 ∷ 4 ∷ 5 ∷ 6 ∷ 7 ∷ []) freshClock .alarm .pending)
     -- subsecond 1 is lost when the clock is switched off: 20 ns are no whole cycle
-    && (eqb (timeNanoseconds clockRate (withTime 0 1 freshClock)) 20
-    && eqb (writeControl clockRate 3 0 (withTime 0 1 freshClock) .subsecond) 0
-    && eqb (writeControl clockRate 2 0 (withTime 0 1 freshClock) .subsecond) 1)
-    && (not (advanceClock clockRate 47_999 nine .alarm .pending)
-    && eqb (advanceClock clockRate 47_999 nine .poll) 47_999
-    && advanceClock clockRate 48_000 nine .alarm .pending
-    && eqb (advanceClock clockRate 48_001 nine .poll) 1)
+    && (eqb (timeNanoseconds (rateOf freshClock) (withTime 0 1 freshClock)) 20
+    && eqb (writeControl (rateOf freshClock) 3 0 (withTime 0 1 freshClock) .subsecond) 0
+    && eqb (writeControl (rateOf freshClock) 2 0 (withTime 0 1 freshClock) .subsecond) 1)
+    && (not (advanceClock (rateOf nine) 47_999 nine .alarm .pending)
+    && eqb (advanceClock (rateOf nine) 47_999 nine .poll) 47_999
+    && advanceClock (rateOf nine) 48_000 nine .alarm .pending
+    && eqb (advanceClock (rateOf nine) 48_001 nine .poll) 1)
     && (ahead .offset .negative
     && eqb (ahead .offset .seconds) 3
     && eqb (ahead .offset .nanoseconds) 1
-    && eqb (timeOf clockRate ahead) 0
+    && eqb (timeOf (rateOf ahead) ahead) 0
     && not (signedDifference 5 5 .negative))
 
 settings-hold : settings ≡ true

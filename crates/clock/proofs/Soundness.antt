@@ -3,7 +3,7 @@
 use Prim.Native.Nat.{ℕ, _+_, _-_, _*_, _/_, _%_, _^_, _≤_, _<_, min}
 use mathlib.Core.Path.{_≡_, refl, sym, _∙_}
 use mathlib.Core.Bool.{Bool, true, false, not, _&&_, _||_, false≢true}
-use native.Mathlib.Nat.{mod-lt, div-lt-iff-lt-mul, mul-lt-mul-of-pos-right, mul-comm}
+use native.Mathlib.Nat.{mod-lt}
 use native.Mathlib.Omega.{arith}
 use lib.Arith.{digits-div}
 use lib.Dec.{leb, ltb, eqb}
@@ -18,7 +18,7 @@ use Rattle.clock.specs.declared.Shadow.{Shadow}
 use Rattle.clock.specs.declared.HostTime.{HostTime}
 use Rattle.clock.specs.declared.Clock.{Clock}
 use Rattle.clock.specs.Clock.{
-  clockRate,
+  rateOf,
   nanosPerSecond,
   pollLimit,
   setEnabled,
@@ -80,23 +80,14 @@ use Rattle.clock.specs.Sound.{
   soundClock,
   Timed,
 }
+use Rattle.clock.proofs.Durations.{nanos-below}
 use Rattle.clock.proofs.Cases.{moved-cases, offset-for-cases, kept-cases}
 use Rattle.clock.proofs.Tests.{own-enabled, own-host, polls-host, not-reached}
 use Rattle.clock.proofs.Marks.{marked-fits}
 use Rattle.clock.proofs.Ranges.{signed-small}
+use Rattle.clock.proofs.Rate.{Rate, limit-positive}
 
 -- ---- the facts
-
--- a rate that the rules are for
-pub record Rate (rate : ℕ) : Type 0 where
-  pub positive : 0 < rate
-  pub thousands : rate % 1_000 ≡ 0
-
-pub clock-rate : Rate clockRate
-clock-rate = record { positive = omega arith; thousands = refl }
-
-limit-positive : (rate : ℕ) → Rate rate → 0 < pollLimit rate
-limit-positive rate r = let p = r .positive in let t = r .thousands in omega arith
 
 pub record OffsetSound (o : Offset) : Type 0 where
   pub small : o .nanoseconds < nanosPerSecond
@@ -126,6 +117,10 @@ pub record Parts (rate : ℕ) (k : Clock) : Type 0 where
 pub record Sound (rate : ℕ) (k : Clock) : Type 0 where
   pub parts : Parts rate k
   pub ahead : k .alarm .armed ≡ true → ownTime (k .control) ≡ true → k .seconds < k .alarm .seconds
+
+-- at the clock's own rate
+abbrev pub OwnSound : Clock → Type 0
+OwnSound k = Sound (rateOf k) k
 
 -- ---- the facts and the rule say the same
 
@@ -365,15 +360,7 @@ module _ {rate : ℕ} {k : Clock} (p : Parts rate k) where
 -- the seconds of the own time are the clock's
 own-seconds : (rate s u : ℕ) → u < rate → s < 2 ^ 64 →
     min (inNanoseconds s (u * nanosPerSecond / rate) / nanosPerSecond) largest ≡ s
-own-seconds rate s u h w = rw (digits-div s below) (omega arith)
-  where
-    pos : 0 < rate
-    pos = omega arith
-
-    below : u * nanosPerSecond / rate < nanosPerSecond
-    below =
-        div-lt-iff-lt-mul {k = rate} {x = u * nanosPerSecond} {y = nanosPerSecond} pos .1
-        (rw (mul-comm nanosPerSecond rate) (mul-lt-mul-of-pos-right h (omega arith)))
+own-seconds rate s u h w = rw (digits-div s (nanos-below rate u h)) (omega arith)
 
 pub own-time-seconds : (rate : ℕ) (k : Clock) → k .subsecond < rate → k .seconds < 2 ^ 64 →
     fromHost (k .control) ≡ false → timeSeconds rate k ≡ k .seconds

@@ -10,9 +10,9 @@ use Rattle.clock.specs.declared.HostTime.{HostTime}
 use Rattle.clock.specs.declared.Clock.{Clock}
 use Rattle.clock.specs.Fields.{withTime, withAlarm, withPoll}
 
--- 'F = 48,000,000'
-abbrev pub clockRate : ℕ
-clockRate = 48_000_000
+-- 'F = 48,000,000', the cycles of a second, of this clock
+abbrev pub rateOf : Clock → ℕ
+rateOf k = 48_000_000
 
 -- nanoseconds of a second
 abbrev pub nanosPerSecond : ℕ

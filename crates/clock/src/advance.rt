@@ -1,7 +1,7 @@
 // The alarm check, and an advance of the clock.
 ghost use mathlib.Core.Path.{_≡_};
 ghost use Prim.Native.Nat.{_+_, _/_, _%_, _^_, _<_, _≤_};
-ghost use Rattle.clock.specs.Clock.{clockRate, alarmReached, checkAlarm, movedTime};
+ghost use Rattle.clock.specs.Clock.{rateOf, alarmReached, checkAlarm, movedTime};
 ghost use Rattle.clock.specs.Clock.{polled, endAdvance, advanceClock};
 ghost use Rattle.clock.specs.Sound.{Timed};
 use crate::Alarm;
@@ -43,8 +43,8 @@ fn elapsed(part: u32, cycles: Cycles, period: u64) -> Periods
 
 impl Clock {
     fn alarm_reached(self) -> bool
-        requires { ⌜ Timed clockRate self ⌝ }
-        ensures { λ r. ⌜ r ≡ alarmReached clockRate self ⌝ }
+        requires { ⌜ Timed (rateOf self) self ⌝ }
+        ensures { λ r. ⌜ r ≡ alarmReached (rateOf self) self ⌝ }
     {
         let alarm = self.alarm.seconds;
         let armed = self.alarm.armed;
@@ -58,8 +58,8 @@ impl Clock {
     }
 
     pub fn check_alarm(self) -> Self
-        requires { ⌜ Timed clockRate self ⌝ }
-        ensures { λ r. ⌜ r ≡ checkAlarm clockRate self ⌝ }
+        requires { ⌜ Timed (rateOf self) self ⌝ }
+        ensures { λ r. ⌜ r ≡ checkAlarm (rateOf self) self ⌝ }
     {
         let enable = self.alarm.enable;
         let seconds = self.alarm.seconds;
@@ -75,12 +75,12 @@ impl Clock {
     }
 
     fn moved_time(self, cycles: Cycles) -> Self
-        requires { ⌜ self .subsecond < clockRate ⌝ }
-        ensures { λ r. ⌜ r ≡ movedTime clockRate (cycles .0) self ⌝ }
+        requires { ⌜ self .subsecond < rateOf self ⌝ }
+        ensures { λ r. ⌜ r ≡ movedTime (rateOf self) (cycles .0) self ⌝ }
     {
         let seconds = self.seconds;
         if both(own_time(self.control), 0 < cycles.0) {
-            let e = elapsed(self.subsecond, cycles, Self::RATE);
+            let e = elapsed(self.subsecond, cycles, self.rate());
             let whole = e.whole;
             let rest = e.rest;
             if u64::MAX - seconds < whole {
@@ -93,10 +93,10 @@ impl Clock {
 
     // The end of an advance on a clock that runs from host time and waits for its alarm.
     fn polled(self, cycles: Cycles) -> Self
-        requires { ⌜ Timed clockRate self ⌝ }
-        ensures { λ r. ⌜ r ≡ polled clockRate (self .poll + cycles .0) self ⌝ }
+        requires { ⌜ Timed (rateOf self) self ⌝ }
+        ensures { λ r. ⌜ r ≡ polled (rateOf self) (self .poll + cycles .0) self ⌝ }
     {
-        let e = elapsed(self.poll, cycles, Self::POLL_LIMIT);
+        let e = elapsed(self.poll, cycles, self.poll_limit());
         let whole = e.whole;
         let rest = e.rest;
         let k = self.with_poll(rest as u32);
@@ -107,8 +107,8 @@ impl Clock {
     }
 
     fn end_advance(self, cycles: Cycles) -> Self
-        requires { ⌜ Timed clockRate self ⌝ }
-        ensures { λ r. ⌜ r ≡ endAdvance clockRate (cycles .0) self ⌝ }
+        requires { ⌜ Timed (rateOf self) self ⌝ }
+        ensures { λ r. ⌜ r ≡ endAdvance (rateOf self) (cycles .0) self ⌝ }
     {
         let armed = self.alarm.armed;
         let pending = self.alarm.pending;
@@ -120,8 +120,8 @@ impl Clock {
     }
 
     pub fn advance(self, cycles: Cycles) -> Self
-        requires { ⌜ Timed clockRate self ⌝ }
-        ensures { λ r. ⌜ r ≡ advanceClock clockRate (cycles .0) self ⌝ }
+        requires { ⌜ Timed (rateOf self) self ⌝ }
+        ensures { λ r. ⌜ r ≡ advanceClock (rateOf self) (cycles .0) self ⌝ }
     {
         self.moved_time(cycles).end_advance(cycles).rebuilt()
     }

@@ -1,7 +1,7 @@
 // Changes of the clock's control, which keep its time.
 ghost use mathlib.Core.Path.{_≡_};
 ghost use Prim.Native.Nat.{_<_};
-ghost use Rattle.clock.specs.Clock.{clockRate, nanosPerSecond};
+ghost use Rattle.clock.specs.Clock.{rateOf, nanosPerSecond};
 ghost use Rattle.clock.specs.Registers.{ownTimeSet, setTime, takesOwn, timeKept, changeControl, writeControl};
 ghost use Rattle.clock.specs.Sound.{Timed};
 ghost use Rattle.clock.specs.Time.{momentOf};
@@ -38,21 +38,24 @@ impl Clock {
 
     fn set_time(self, time: Time) -> Self
         requires { ⌜ time .nanoseconds < nanosPerSecond ⌝ }
-        ensures { λ r. ⌜ r ≡ setTime clockRate (momentOf time) self ⌝ }
+        ensures { λ r. ⌜ r ≡ setTime (rateOf self) (momentOf time) self ⌝ }
     {
         let n = time.nanoseconds as u64;
         let high = time.seconds.high;
         let low = time.seconds.low;
         if high == 0 {
-            return self.own_time_set(low, (n * Self::RATE / Self::NANOS_PER_SECOND as u64) as u32);
+            return self.own_time_set(
+                low,
+                (n * self.rate() / Self::NANOS_PER_SECOND as u64) as u32,
+            );
         }
         self.own_time_set(u64::MAX, 0)
     }
 
     // The time that the clock has goes where the new control will read it.
     fn time_kept(self, new: u8) -> Self
-        requires { ⌜ Timed clockRate self ⌝ }
-        ensures { λ r. ⌜ r ≡ timeKept clockRate new self ⌝ }
+        requires { ⌜ Timed (rateOf self) self ⌝ }
+        ensures { λ r. ⌜ r ≡ timeKept (rateOf self) new self ⌝ }
     {
         let old = self.control;
         let before = from_host(old);
@@ -66,16 +69,16 @@ impl Clock {
     }
 
     fn change_control(self, new: u8) -> Self
-        requires { ⌜ Timed clockRate self ⌝ }
-        ensures { λ r. ⌜ r ≡ changeControl clockRate new self ⌝ }
+        requires { ⌜ Timed (rateOf self) self ⌝ }
+        ensures { λ r. ⌜ r ≡ changeControl (rateOf self) new self ⌝ }
     {
         self.time_kept(new).with_control(new).check_alarm()
     }
 
     // Byte `byte` of the control register, 0 the most significant.
     pub fn write_control(self, byte: usize, value: u8) -> Self
-        requires { ⌜ (byte < 4) × Timed clockRate self ⌝ }
-        ensures { λ r. ⌜ r ≡ writeControl clockRate byte value self ⌝ }
+        requires { ⌜ (byte < 4) × Timed (rateOf self) self ⌝ }
+        ensures { λ r. ⌜ r ≡ writeControl (rateOf self) byte value self ⌝ }
     {
         let merged = wide::fields::with_byte(self.control as u64, 3 - byte, value);
         self.change_control((merged % 8) as u8)

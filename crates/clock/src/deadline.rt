@@ -2,7 +2,7 @@
 ghost use mathlib.Core.Path.{_≡_};
 ghost use Prim.Native.Nat.{_<_};
 ghost use Rattle.wide.specs.Deadline.{numberOf};
-ghost use Rattle.clock.specs.Clock.{clockRate};
+ghost use Rattle.clock.specs.Clock.{rateOf};
 ghost use Rattle.clock.specs.Deadline.{clockLine, awaited, clockDeadline};
 use crate::Alarm;
 use crate::Clock;
@@ -38,8 +38,8 @@ impl Clock {
 
     // The cycles until the alarm's interrupt.
     pub fn deadline(self) -> Deadline
-        requires { ⌜ self .subsecond < clockRate ⌝ }
-        ensures { λ r. ⌜ numberOf r ≡ clockDeadline clockRate self ⌝ }
+        requires { ⌜ self .subsecond < rateOf self ⌝ }
+        ensures { λ r. ⌜ numberOf r ≡ clockDeadline (rateOf self) self ⌝ }
     {
         let alarm = self.alarm.seconds;
         let seconds = self.seconds;
@@ -48,7 +48,7 @@ impl Clock {
             if alarm <= seconds {
                 return Deadline::At(Wide::from_word(1));
             }
-            let whole = Wide::product(alarm - seconds, Self::RATE);
+            let whole = Wide::product(alarm - seconds, self.rate());
             return Deadline::At(whole.difference(Wide::from_word(subsecond)));
         }
         Deadline::Never

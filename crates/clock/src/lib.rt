@@ -4,7 +4,7 @@ ghost use Prim.Native.Nat.{_<_, _/_, _%_};
 ghost use lib.Dec.{eqb};
 ghost use Rattle.clock.specs.Fields.{withControl, withTime, withOffset, withAlarm, withShadow};
 ghost use Rattle.clock.specs.Fields.{withPoll, withAlarmShadow, withHost, freshClock};
-ghost use Rattle.clock.specs.Clock.{fromHost, ownTime};
+ghost use Rattle.clock.specs.Clock.{rateOf, pollLimit, fromHost, ownTime};
 use wide::flags::both;
 
 pub mod advance;
@@ -94,8 +94,8 @@ impl Clock {
     // Cycles of a second.
     pub const RATE: u64 = 48_000_000;
 
-    // Cycles between two alarm checks of a clock that runs from host time.
-    pub const POLL_LIMIT: u64 = Self::RATE / 1_000;
+    // Alarm checks in a second of a clock that runs from host time.
+    pub const POLLS_PER_SECOND: u64 = 1_000;
 
     pub const NANOS_PER_SECOND: u32 = 1_000_000_000;
 
@@ -133,6 +133,20 @@ impl Clock {
                 nanoseconds: 0,
             },
         }
+    }
+
+    // The cycles of a second of this clock.
+    pub fn rate(self) -> u64
+        ensures { λ r. ⌜ r ≡ rateOf self ⌝ }
+    {
+        Self::RATE
+    }
+
+    // The cycles between two alarm checks of this clock, while it runs from host time.
+    fn poll_limit(self) -> u64
+        ensures { λ r. ⌜ r ≡ pollLimit (rateOf self) ⌝ }
+    {
+        self.rate() / Self::POLLS_PER_SECOND
     }
 
     // The clock made anew of its fields. A copy of the whole takes the bytes between the fields along; this does not.

@@ -1,7 +1,7 @@
 // Bytes written to the clock's seconds, alarm and interrupt registers, and the words that registers read as.
 ghost use mathlib.Core.Path.{_≡_};
 ghost use Prim.Native.Nat.{_<_};
-ghost use Rattle.clock.specs.Clock.{clockRate};
+ghost use Rattle.clock.specs.Clock.{rateOf};
 ghost use Rattle.clock.specs.Registers.{marked, shadowByte, offsetFor, commitSeconds};
 ghost use Rattle.clock.specs.Registers.{writeSeconds, commitAlarm, writeAlarm};
 ghost use Rattle.clock.specs.Registers.{writeAlarmEnable, acknowledge, statusWord};
@@ -43,7 +43,7 @@ impl Shadow {
 impl Clock {
     // From host time, the offset that makes the time this many seconds.
     fn offset_for(self, seconds: u64) -> Self
-        requires { ⌜ Timed clockRate self ⌝ }
+        requires { ⌜ Timed (rateOf self) self ⌝ }
         ensures { λ r. ⌜ r ≡ offsetFor seconds self ⌝ }
     {
         if from_host(self.control) {
@@ -57,8 +57,8 @@ impl Clock {
     }
 
     fn commit_seconds(self, shadow: Shadow) -> Self
-        requires { ⌜ Timed clockRate self ⌝ }
-        ensures { λ r. ⌜ r ≡ commitSeconds clockRate shadow self ⌝ }
+        requires { ⌜ Timed (rateOf self) self ⌝ }
+        ensures { λ r. ⌜ r ≡ commitSeconds (rateOf self) shadow self ⌝ }
     {
         let value = shadow.value;
         let k = self.offset_for(value).with_time(value, 0);
@@ -67,8 +67,8 @@ impl Clock {
 
     // Byte `byte` of the seconds, 0 the most significant.
     pub fn write_seconds(self, byte: usize, value: u8) -> Self
-        requires { ⌜ (byte < 8) × Timed clockRate self ⌝ }
-        ensures { λ r. ⌜ r ≡ writeSeconds clockRate byte value self ⌝ }
+        requires { ⌜ (byte < 8) × Timed (rateOf self) self ⌝ }
+        ensures { λ r. ⌜ r ≡ writeSeconds (rateOf self) byte value self ⌝ }
     {
         if has_bit(self.control, Self::SET_ENABLE) {
             let s = self.shadow.with_byte(byte, value);
@@ -81,8 +81,8 @@ impl Clock {
     }
 
     fn commit_alarm(self, shadow: Shadow) -> Self
-        requires { ⌜ Timed clockRate self ⌝ }
-        ensures { λ r. ⌜ r ≡ commitAlarm clockRate shadow self ⌝ }
+        requires { ⌜ Timed (rateOf self) self ⌝ }
+        ensures { λ r. ⌜ r ≡ commitAlarm (rateOf self) shadow self ⌝ }
     {
         let value = shadow.value;
         let enable = self.alarm.enable;
@@ -97,8 +97,8 @@ impl Clock {
 
     // Byte `byte` of the alarm, 0 the most significant.
     pub fn write_alarm(self, byte: usize, value: u8) -> Self
-        requires { ⌜ (byte < 8) × Timed clockRate self ⌝ }
-        ensures { λ r. ⌜ r ≡ writeAlarm clockRate byte value self ⌝ }
+        requires { ⌜ (byte < 8) × Timed (rateOf self) self ⌝ }
+        ensures { λ r. ⌜ r ≡ writeAlarm (rateOf self) byte value self ⌝ }
     {
         let s = self.alarm_shadow.with_byte(byte, value);
         if s.mask == Shadow::FULL {

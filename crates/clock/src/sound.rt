@@ -1,6 +1,6 @@
 // The clock's clauses of a sound board. Sound is document 01's term.
 ghost use mathlib.Core.Path.{_≡_};
-ghost use Rattle.clock.specs.Clock.{clockRate};
+ghost use Rattle.clock.specs.Clock.{rateOf};
 ghost use Rattle.clock.specs.Sound.{soundOffset, soundAlarm, soundParts, alarmAhead, soundClock};
 use crate::Alarm;
 use crate::Clock;
@@ -34,7 +34,7 @@ impl Alarm {
 
 impl Clock {
     fn sound_parts(self) -> bool
-        ensures { λ r. ⌜ r ≡ soundParts clockRate self ⌝ }
+        ensures { λ r. ⌜ r ≡ soundParts (rateOf self) self ⌝ }
     {
         let control = self.control;
         let subsecond = self.subsecond as u64;
@@ -45,7 +45,7 @@ impl Clock {
         let shadows = both(
             mask < Shadow::FULL,
             both(
-                poll < Self::POLL_LIMIT,
+                poll < self.poll_limit(),
                 both(
                     alarm_mask < Shadow::FULL,
                     nanoseconds < Self::NANOS_PER_SECOND,
@@ -55,7 +55,7 @@ impl Clock {
         both(
             control < 8,
             both(
-                subsecond < Self::RATE,
+                subsecond < self.rate(),
                 both(self.offset.sound(), both(self.alarm.sound(), shadows)),
             ),
         )
@@ -74,7 +74,7 @@ impl Clock {
     }
 
     pub fn sound(self) -> bool
-        ensures { λ r. ⌜ r ≡ soundClock clockRate self ⌝ }
+        ensures { λ r. ⌜ r ≡ soundClock (rateOf self) self ⌝ }
     {
         both(self.sound_parts(), self.alarm_ahead())
     }

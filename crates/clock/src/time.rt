@@ -2,7 +2,7 @@
 ghost use mathlib.Core.Path.{_≡_};
 ghost use Prim.Native.Nat.{_+_, _-_, _<_};
 ghost use lib.Dec.{ltb};
-ghost use Rattle.clock.specs.Clock.{clockRate, nanosPerSecond, hostNanoseconds, shifted};
+ghost use Rattle.clock.specs.Clock.{rateOf, nanosPerSecond, hostNanoseconds, shifted};
 ghost use Rattle.clock.specs.Clock.{ownNanoseconds, timeOf, timeSeconds};
 ghost use Rattle.clock.specs.Registers.{signedDifference, timeNanoseconds};
 ghost use Rattle.clock.specs.Sound.{Timed};
@@ -141,19 +141,19 @@ impl HostTime {
 impl Clock {
     // The time that seconds and subsecond say.
     pub(crate) fn own_duration(self) -> Duration
-        requires { ⌜ self .subsecond < clockRate ⌝ }
-        ensures { λ r. ⌜ DurationIs (ownNanoseconds clockRate self) r ⌝ }
+        requires { ⌜ self .subsecond < rateOf self ⌝ }
+        ensures { λ r. ⌜ DurationIs (ownNanoseconds (rateOf self) self) r ⌝ }
     {
         let cycles = self.subsecond as u64;
         Duration {
             seconds: self.seconds,
-            nanoseconds: (cycles * Clock::NANOS_PER_SECOND as u64 / Self::RATE) as u32,
+            nanoseconds: (cycles * Clock::NANOS_PER_SECOND as u64 / self.rate()) as u32,
         }
     }
 
     pub(crate) fn time(self) -> Time
-        requires { ⌜ Timed clockRate self ⌝ }
-        ensures { λ r. ⌜ TimeIs (timeOf clockRate self) r ⌝ }
+        requires { ⌜ Timed (rateOf self) self ⌝ }
+        ensures { λ r. ⌜ TimeIs (timeOf (rateOf self) self) r ⌝ }
     {
         if from_host(self.control) {
             return self.host.shifted(self.offset);
@@ -162,15 +162,15 @@ impl Clock {
     }
 
     pub fn time_seconds(self) -> u64
-        requires { ⌜ Timed clockRate self ⌝ }
-        ensures { λ r. ⌜ r ≡ timeSeconds clockRate self ⌝ }
+        requires { ⌜ Timed (rateOf self) self ⌝ }
+        ensures { λ r. ⌜ r ≡ timeSeconds (rateOf self) self ⌝ }
     {
         self.time().seconds.capped()
     }
 
     pub fn time_nanoseconds(self) -> u32
-        requires { ⌜ Timed clockRate self ⌝ }
-        ensures { λ r. ⌜ r ≡ timeNanoseconds clockRate self ⌝ }
+        requires { ⌜ Timed (rateOf self) self ⌝ }
+        ensures { λ r. ⌜ r ≡ timeNanoseconds (rateOf self) self ⌝ }
     {
         self.time().nanoseconds
     }

@@ -10,7 +10,7 @@ use Rattle.channel.specs.declared.HardwareTimer.{HardwareTimer}
 use Rattle.channel.specs.Channel.{freshTimer}
 use Rattle.channel.specs.Prescaler.{advanced}
 use Rattle.clock.specs.declared.Clock.{Clock}
-use Rattle.clock.specs.Clock.{clockRate, advanceClock}
+use Rattle.clock.specs.Clock.{rateOf, advanceClock}
 use Rattle.clock.specs.Sound.{Timed}
 use Rattle.board.specs.declared.Board.{Board}
 use Rattle.board.specs.Board.{withTimers, withClock, wired}
@@ -34,7 +34,7 @@ begins enable c b n s = record { below = omega arith; four = n; sound = s; now =
 
 module _ (enable c i : ℕ) (b₀ b : Board) (a : Advancing enable c i b₀ b) where
   -- the clock is as it was
-  pub still-timed : Timed clockRate (b₀ .clock) → Timed clockRate (b .clock)
+  pub still-timed : Timed (rateOf (b₀ .clock)) (b₀ .clock) → Timed (rateOf (b .clock)) (b .clock)
   still-timed t = rw (a .now) t
 
   timers-now : b .timers ≡ mapTo (λ k h. advanced (bit k enable) c h) i 0 (b₀ .timers)
@@ -62,16 +62,16 @@ module _ (enable c i : ℕ) (b₀ b : Board) (a : Advancing enable c i b₀ b) w
       }
 
   -- after the last turn, and with the clock advanced
-  pub all-advanced : 4 ≤ i → enable ≡ b₀ .«timer_enable» → (k : Clock) → k ≡ advanceClock clockRate c (b .clock) →
-      wired (withClock k b) ≡ advancedBoard c b₀
+  pub all-advanced : 4 ≤ i → enable ≡ b₀ .«timer_enable» → (k : Clock) →
+      k ≡ advanceClock (rateOf (b .clock)) c (b .clock) → wired (withClock k b) ≡ advancedBoard c b₀
   unfolding advancedBoard
   all-advanced h e k q =
       let n : i ≡ 4 = omega (arith, h, a .below) in
-      let s : k ≡ advanceClock clockRate c (b₀ .clock) =
-      q ∙ ap (λ (x : Board). advanceClock clockRate c (x .clock)) (a .now) in
+      let s : k ≡ advanceClock (rateOf (b₀ .clock)) c (b₀ .clock) =
+      q ∙ ap (λ (x : Board). advanceClock (rateOf (x .clock)) c (x .clock)) (a .now) in
       let t : b .timers ≡ advancedAll enable c (b₀ .timers) =
       timers-now ∙ rw n (map-ends (λ k t. advanced (bit k enable) c t) 4 0 (b₀ .timers) (a .four)) in
       ap wired
       (ap (λ (x : Clock). withClock x b) s
-      ∙ ap (λ (x : Board). withClock (advanceClock clockRate c (b₀ .clock)) x)
+      ∙ ap (λ (x : Board). withClock (advanceClock (rateOf (b₀ .clock)) c (b₀ .clock)) x)
       (a .now ∙ ap (λ (ts : List HardwareTimer). withTimers ts b₀) (sym timers-now ∙ t ∙ rw e refl)))

@@ -9,7 +9,7 @@ use Rattle.wide.specs.Words.{lowWord, highWord}
 use Rattle.channel.specs.declared.HardwareTimer.{HardwareTimer}
 use Rattle.channel.specs.Registers.{wordOf}
 use Rattle.clock.specs.declared.Clock.{Clock}
-use Rattle.clock.specs.Clock.{clockRate, timeSeconds}
+use Rattle.clock.specs.Clock.{rateOf, timeSeconds}
 use Rattle.clock.specs.Registers.{statusWord, timeNanoseconds}
 use Rattle.board.specs.declared.Board.{Board}
 use Rattle.board.specs.Loops.{foldFrom}
@@ -54,9 +54,9 @@ unfoldable pub clockWord : ℕ → Clock → ℕ
 clockWord register k =
     cond (eqb register clockControlAt) (k .control)
     (cond (eqb register clockStatusAt) (statusWord (k .alarm))
-    (cond (eqb register secondsLowAt) (lowWord (timeSeconds clockRate k))
-    (cond (eqb register secondsHighAt) (highWord (timeSeconds clockRate k))
-    (cond (eqb register subsecondAt) (timeNanoseconds clockRate k)
+    (cond (eqb register secondsLowAt) (lowWord (timeSeconds (rateOf k) k))
+    (cond (eqb register secondsHighAt) (highWord (timeSeconds (rateOf k) k))
+    (cond (eqb register subsecondAt) (timeNanoseconds (rateOf k) k)
     (cond (eqb register alarmLowAt) (lowWord (k .alarm .seconds))
     (cond (eqb register alarmHighAt) (highWord (k .alarm .seconds))
     (cond (eqb register alarmEnableAt) (k .alarm .enable)

@@ -9,7 +9,7 @@ use Rattle.channel.specs.declared.HardwareTimer.{HardwareTimer}
 use Rattle.channel.specs.Channel.{withFlags}
 use Rattle.channel.specs.Registers.{byteWritten}
 use Rattle.clock.specs.declared.Clock.{Clock}
-use Rattle.clock.specs.Clock.{clockRate}
+use Rattle.clock.specs.Clock.{rateOf}
 use Rattle.clock.specs.Registers.{mergeByte, writeControl, writeSeconds, writeAlarm, writeAlarmEnable, acknowledge}
 use Rattle.board.specs.declared.Board.{Board}
 use Rattle.board.specs.Loops.{mapFrom}
@@ -55,11 +55,11 @@ timerWritten register i v b =
 -- byte i of a register of the clock. Of the eight bytes of seconds and alarm the low word has the last four.
 unfoldable pub clockWritten : ℕ → ℕ → ℕ → Clock → Clock
 clockWritten register i v k =
-    cond (eqb register clockControlAt) (writeControl clockRate i v k)
-    (cond (eqb register secondsLowAt) (writeSeconds clockRate (i + 4) v k)
-    (cond (eqb register secondsHighAt) (writeSeconds clockRate i v k)
-    (cond (eqb register alarmLowAt) (writeAlarm clockRate (i + 4) v k)
-    (cond (eqb register alarmHighAt) (writeAlarm clockRate i v k)
+    cond (eqb register clockControlAt) (writeControl (rateOf k) i v k)
+    (cond (eqb register secondsLowAt) (writeSeconds (rateOf k) (i + 4) v k)
+    (cond (eqb register secondsHighAt) (writeSeconds (rateOf k) i v k)
+    (cond (eqb register alarmLowAt) (writeAlarm (rateOf k) (i + 4) v k)
+    (cond (eqb register alarmHighAt) (writeAlarm (rateOf k) i v k)
     (cond (eqb register alarmEnableAt) (writeAlarmEnable i v k)
     (cond (eqb register clockAckAt) (acknowledge i v k)
     k))))))

@@ -1,6 +1,6 @@
 // The words that the timers' and the clock's registers read as.
 ghost use mathlib.Core.Path.{_≡_};
-ghost use Rattle.clock.specs.Clock.{clockRate};
+ghost use Rattle.clock.specs.Clock.{rateOf};
 ghost use Rattle.clock.specs.Sound.{Timed};
 ghost use Rattle.offsets.specs.Words.{pendingWord, timerWord, clockWord};
 use crate::Registers;
@@ -40,7 +40,7 @@ pub fn timer_word(timers: [HardwareTimer; 4], timer_enable: u8, register: u32) -
 
 // The word of a register of the clock.
 pub fn clock_word(clock: Clock, register: u32) -> u32
-    requires { ⌜ Timed clockRate clock ⌝ }
+    requires { ⌜ Timed (rateOf clock) clock ⌝ }
     ensures { λ r. ⌜ r ≡ clockWord register clock ⌝ }
 {
     let alarm = clock.alarm;

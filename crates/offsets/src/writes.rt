@@ -1,7 +1,7 @@
 // What a byte written to a register does.
 ghost use mathlib.Core.Path.{_≡_};
 ghost use Prim.Native.Nat.{_<_};
-ghost use Rattle.clock.specs.Clock.{clockRate};
+ghost use Rattle.clock.specs.Clock.{rateOf};
 ghost use Rattle.clock.specs.Sound.{Timed};
 ghost use Rattle.offsets.specs.Writes.{clearedBy, acknowledged, clockWritten};
 use crate::Registers;
@@ -36,7 +36,7 @@ pub fn acknowledged(timers: [HardwareTimer; 4], value: u8) -> [HardwareTimer; 4]
 
 // Byte `byte` of a register of the clock, 0 the most significant.
 pub fn clock_written(clock: Clock, register: u32, byte: usize, value: u8) -> Clock
-    requires { ⌜ (byte < 4) × Timed clockRate clock ⌝ }
+    requires { ⌜ (byte < 4) × Timed (rateOf clock) clock ⌝ }
     ensures { λ r. ⌜ r ≡ clockWritten register byte value clock ⌝ }
 {
     let low = byte + 4;

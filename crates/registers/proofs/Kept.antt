@@ -10,19 +10,16 @@ use Rattle.wide.proofs.Choices.{choose}
 use Rattle.channel.specs.Channel.{freshTimer}
 use Rattle.channel.specs.Registers.{countLowAt, byteWritten}
 use Rattle.clock.specs.declared.Clock.{Clock}
-use Rattle.clock.specs.Clock.{clockRate}
+use Rattle.clock.specs.Clock.{rateOf}
 use Rattle.clock.specs.Registers.{mergeByte}
-use Rattle.clock.proofs.Soundness.{
-  Sound,
-  clock-rate,
-  facts-sound as clock-sound,
-  sound-fits,
-  check-sound,
-  control-sound,
-  seconds-sound,
-  alarm-bytes-sound,
-  enable-sound,
-  acknowledge-sound,
+use Rattle.clock.proofs.Soundness.{OwnSound, facts-sound as clock-sound, sound-fits}
+use Rattle.clock.proofs.Kept.{
+  check-kept,
+  control-kept,
+  seconds-kept,
+  alarm-kept,
+  enable-kept,
+  acknowledge-kept,
 }
 use Rattle.board.specs.declared.Latches.{Latches}
 use Rattle.board.specs.declared.Board.{Board}
@@ -84,7 +81,7 @@ use Rattle.registers.proofs.Channels.{
 record Parts (b : Board) : Type 0 where
   timers : All GoodTimer (b .timers)
   enable : b .«timer_enable» < 16
-  clock : Sound clockRate (b .clock)
+  clock : OwnSound (b .clock)
 
 good-parts : (b : Board) → Good b → Parts b
 good-parts b g =
@@ -98,11 +95,14 @@ wired-good : (b : Board) → Parts b → Good (wired b)
 unfolding wired
 wired-good b p =
     record {
-      fits = record { timers = good-fits (b .timers) (p .timers); clock = sound-fits clockRate (b .clock) (p .clock) };
+      fits = record {
+        timers = good-fits (b .timers) (p .timers);
+        clock = sound-fits (rateOf (b .clock)) (b .clock) (p .clock);
+      };
       facts = record {
         timers = good-sound 0 (b .timers) (p .timers);
         enable = p .enable;
-        clock = clock-sound clockRate (b .clock) (p .clock);
+        clock = clock-sound (rateOf (b .clock)) (b .clock) (p .clock);
         level = wired-level b;
       };
     }
@@ -121,7 +121,7 @@ module _ (offset : ℕ) where
   unfolding readLive
   live-good b p =
       wired-good (checked b)
-      (record { timers = p .timers; enable = p .enable; clock = check-sound clockRate (b .clock) (p .clock .parts) })
+      (record { timers = p .timers; enable = p .enable; clock = check-kept (b .clock) (p .clock) })
 
   -- by a latch, whatever it holds after, or live
   latch-good : (b : Board) (v : Bool) (ls : Latches) (byte : ℕ) → Parts b →
@@ -162,24 +162,17 @@ module _ (offset : ℕ) where
 
 -- ---- a write
 
-module _ (i v : ℕ) (four : i < 4) (byte : v < 256) (k : Clock) (s : Sound clockRate k) where
-  abbrev S : Clock → Type 0
-  S = Sound clockRate
-
-  clock-written-sound : (register : ℕ) → S (clockWritten register i v k)
+module _ (i v : ℕ) (four : i < 4) (byte : v < 256) (k : Clock) (s : OwnSound k) where
+  clock-written-sound : (register : ℕ) → OwnSound (clockWritten register i v k)
   unfolding clockWritten
   clock-written-sound register =
-      choose S (eqb register clockControlAt) (λ _. control-sound clockRate clock-rate i v k s)
-      (λ _. choose S (eqb register secondsLowAt)
-      (λ _. seconds-sound clockRate clock-rate (i + 4) v (omega arith) byte k s)
-      (λ _. choose S (eqb register secondsHighAt)
-      (λ _. seconds-sound clockRate clock-rate i v (omega arith) byte k s)
-      (λ _. choose S (eqb register alarmLowAt)
-      (λ _. alarm-bytes-sound clockRate clock-rate (i + 4) v (omega arith) byte k s)
-      (λ _. choose S (eqb register alarmHighAt)
-      (λ _. alarm-bytes-sound clockRate clock-rate i v (omega arith) byte k s)
-      (λ _. choose S (eqb register alarmEnableAt) (λ _. enable-sound clockRate i v k s)
-      (λ _. choose S (eqb register clockAckAt) (λ _. acknowledge-sound clockRate i v k s)
+      choose OwnSound (eqb register clockControlAt) (λ _. control-kept k s i v)
+      (λ _. choose OwnSound (eqb register secondsLowAt) (λ _. seconds-kept k s (i + 4) v (omega arith) byte)
+      (λ _. choose OwnSound (eqb register secondsHighAt) (λ _. seconds-kept k s i v (omega arith) byte)
+      (λ _. choose OwnSound (eqb register alarmLowAt) (λ _. alarm-kept k s (i + 4) v (omega arith) byte)
+      (λ _. choose OwnSound (eqb register alarmHighAt) (λ _. alarm-kept k s i v (omega arith) byte)
+      (λ _. choose OwnSound (eqb register alarmEnableAt) (λ _. enable-kept k s i v)
+      (λ _. choose OwnSound (eqb register clockAckAt) (λ _. acknowledge-kept k s i v)
       (λ _. s)))))))
 
 module _ (v : ℕ) (byte : v < 256) (b : Board) (p : Parts b) where

@@ -13,7 +13,7 @@ use Rattle.wide.proofs.Choices.{choose, and-parts}
 use Rattle.channel.specs.declared.HardwareTimer.{HardwareTimer}
 use Rattle.channel.specs.Registers.{countLowAt, countHighAt, wordOf}
 use Rattle.clock.specs.declared.Clock.{Clock}
-use Rattle.clock.specs.Clock.{clockRate, timeSeconds, checkAlarm}
+use Rattle.clock.specs.Clock.{rateOf, timeSeconds, checkAlarm}
 use Rattle.board.specs.declared.Latch.the-variants.{Empty, Held}
 use Rattle.board.specs.declared.Latches.{Latches}
 use Rattle.board.specs.declared.Board.{Board}
@@ -86,9 +86,9 @@ module _ (h : HardwareTimer) (shared : ℕ) (k : Clock) (ls : Latches) (o : ℕ)
   pub by-seconds : o ≡ secondsLowAt →
       readingOf h shared k ls o
       ≡ record {
-        byte = byteOfWord 0 (lowWord (timeSeconds clockRate k));
+        byte = byteOfWord 0 (lowWord (timeSeconds (rateOf k) k));
         latches =
-            withSeconds (Held (lowWord (timeSeconds clockRate k))) (Held (highWord (timeSeconds clockRate k))) ls;
+            withSeconds (Held (lowWord (timeSeconds (rateOf k) k))) (Held (highWord (timeSeconds (rateOf k) k))) ls;
         pending = k .alarm .pending;
         armed = k .alarm .armed;
         rose = false;
@@ -105,7 +105,7 @@ module _ (h : HardwareTimer) (shared : ℕ) (k : Clock) (ls : Latches) (o : ℕ)
     -- no latch serves
     pub by-register : serving o ls ≡ Empty →
         readingOf h shared k ls o
-        ≡ liveReading h shared (checkAlarm clockRate k) (k .alarm .pending) (countFilled o (h .counter) ls) o
+        ≡ liveReading h shared (checkAlarm (rateOf k) k) (k .alarm .pending) (countFilled o (h .counter) ls) o
     unfolding readingOf readingBy filled
     by-register s = rw (n, filled-serves o (h .counter) ls, s)
 
@@ -146,9 +146,9 @@ module _ (o : ℕ) (p : plainAt o ≡ true) where
       ≡ record {
         byte = byteOfWord (byteOf o) (wordOf (registerOf (placeOf o)) (channelAt (channelIndex o) b));
         latches = b .latches;
-        pending = checkAlarm clockRate (b .clock) .alarm .pending;
-        armed = checkAlarm clockRate (b .clock) .alarm .armed;
-        rose = checkAlarm clockRate (b .clock) .alarm .pending && not (b .clock .alarm .pending);
+        pending = checkAlarm (rateOf (b .clock)) (b .clock) .alarm .pending;
+        armed = checkAlarm (rateOf (b .clock)) (b .clock) .alarm .armed;
+        rose = checkAlarm (rateOf (b .clock)) (b .clock) .alarm .pending && not (b .clock .alarm .pending);
       }
   unfolding wordAt
   plain-reading b =

@@ -22,7 +22,7 @@ use Rattle.channel.specs.Registers.{
   byteWritten,
 }
 use Rattle.clock.specs.declared.Clock.{Clock}
-use Rattle.clock.specs.Clock.{clockRate, alarmReached, checkAlarm}
+use Rattle.clock.specs.Clock.{rateOf, alarmReached, checkAlarm}
 use Rattle.clock.specs.Deadline.{clockLine}
 use Rattle.controller.specs.declared.IrqController.{IrqController}
 use Rattle.controller.proofs.Laws.{steady}
@@ -86,13 +86,13 @@ write-still Channel o v b n =
 -- ---- a read
 
 -- an alarm check that does not set pending leaves it
-check-still : (k : Clock) → (checkAlarm clockRate k .alarm .pending && not (k .alarm .pending)) ≡ false →
-    checkAlarm clockRate k .alarm .pending ≡ k .alarm .pending
+check-still : (k : Clock) → (checkAlarm (rateOf k) k .alarm .pending && not (k .alarm .pending)) ≡ false →
+    checkAlarm (rateOf k) k .alarm .pending ≡ k .alarm .pending
 unfolding checkAlarm
 check-still k =
     choose
     (λ (r : Clock). (r .alarm .pending && not (k .alarm .pending)) ≡ false → r .alarm .pending ≡ k .alarm .pending)
-    (alarmReached clockRate k) (λ _ n. sym (not-false (k .alarm .pending) n)) (λ _ _. refl)
+    (alarmReached (rateOf k) k) (λ _ n. sym (not-false (k .alarm .pending) n)) (λ _ _. refl)
 
 reading-still : (h : HardwareTimer) (shared : ℕ) (k : Clock) (ls : Latches) (o : ℕ) →
     readingOf h shared k ls o .rose ≡ false → readingOf h shared k ls o .pending ≡ k .alarm .pending

@@ -13,7 +13,7 @@ use Rattle.channel.specs.Channel.{freshTimer}
 use Rattle.channel.specs.Registers.{countLowAt}
 use Rattle.clock.specs.declared.Clock.{Clock}
 use Rattle.clock.specs.Fields.{withAlarm}
-use Rattle.clock.specs.Clock.{clockRate, alarmReached, checkAlarm}
+use Rattle.clock.specs.Clock.{rateOf, alarmReached, checkAlarm}
 use Rattle.board.specs.declared.Latch.{Latch}
 use Rattle.board.specs.declared.Latch.the-variants.{Empty}
 use Rattle.board.specs.declared.Latches.{Latches}
@@ -88,11 +88,11 @@ check-flags : (k : Clock) →
     (record {
       enable = k .alarm .enable;
       seconds = k .alarm .seconds;
-      pending = checkAlarm clockRate k .alarm .pending;
-      armed = checkAlarm clockRate k .alarm .armed;
+      pending = checkAlarm (rateOf k) k .alarm .pending;
+      armed = checkAlarm (rateOf k) k .alarm .armed;
     })
     k
-    ≡ checkAlarm clockRate k
+    ≡ checkAlarm (rateOf k) k
 unfolding checkAlarm
 check-flags k =
     choose
@@ -106,7 +106,7 @@ check-flags k =
     })
     k
     ≡ r)
-    (alarmReached clockRate k) (λ _. refl) (λ _. refl)
+    (alarmReached (rateOf k) k) (λ _. refl) (λ _. refl)
 
 -- ---- a read at an offset
 
@@ -131,7 +131,7 @@ module _ (o : ℕ) (b : Board) where
   by ls = readingBy timer shared (b .clock) ls o
 
   abbrev live : Latches → Reading
-  live ls = liveReading timer shared (checkAlarm clockRate (b .clock)) (b .clock .alarm .pending) ls o
+  live ls = liveReading timer shared (checkAlarm (rateOf (b .clock)) (b .clock)) (b .clock .alarm .pending) ls o
 
   abbrev full : Latches
   full = filled o (timer .counter) (b .clock) (b .latches)
@@ -144,7 +144,7 @@ module _ (o : ℕ) (b : Board) where
       readLive o (withLatches ls b) ≡ answer b (live ls)
   unfolding readLive
   live-parts ls =
-      let k = checkAlarm clockRate (b .clock) in
+      let k = checkAlarm (rateOf (b .clock)) (b .clock) in
       ap (λ (w : ℕ). answered o w (checked (withLatches ls b))) (word-parts k ls)
       ∙ ap (λ (h : Clock). answered o (wordAt timer k shared o) (withClock h (withLatches ls b)))
       (sym (check-flags (b .clock)))

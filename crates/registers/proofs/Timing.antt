@@ -3,9 +3,10 @@ use Prim.Native.Nat.{ℕ}
 use mathlib.Core.Path.{_≡_, refl}
 use mathlib.Core.Bool.{Bool, true, false, cond}
 use native.Mathlib.Omega.{arith}
-use Rattle.clock.specs.Clock.{clockRate, checkAlarm, alarmReached}
+use Rattle.clock.specs.Clock.{rateOf, checkAlarm, alarmReached}
 use Rattle.clock.specs.declared.Clock.{Clock}
 use Rattle.clock.specs.Sound.{ClockFits, Timed}
+use Rattle.clock.proofs.Rate.{check-rate, at-rate}
 use Rattle.clock.proofs.Soundness.{sound-timed}
 use Rattle.wide.proofs.Choices.{choose}
 use Rattle.board.specs.declared.Board.{Board}
@@ -13,16 +14,17 @@ use Rattle.board.specs.Board.{sound}
 use Rattle.board.specs.Calls.{refusalOf}
 use Rattle.board.proofs.Soundness.{clock-facts}
 
-pub sound-times : (b : Board) → ClockFits (b .clock) → sound b ≡ true → Timed clockRate (b .clock)
-sound-times b f s = sound-timed clockRate (b .clock) (clock-facts b f s)
+pub sound-times : (b : Board) → ClockFits (b .clock) → sound b ≡ true → Timed (rateOf (b .clock)) (b .clock)
+sound-times b f s = sound-timed (rateOf (b .clock)) (b .clock) (clock-facts b f s)
 
 -- the alarm check leaves what the time is made of
-pub check-timed : (k : Clock) → Timed clockRate k → Timed clockRate (checkAlarm clockRate k)
+pub check-timed : (k : Clock) → Timed (rateOf k) k → Timed (rateOf (checkAlarm (rateOf k) k)) (checkAlarm (rateOf k) k)
 unfolding checkAlarm
 check-timed k t =
-    choose (Timed clockRate) (alarmReached clockRate k)
+    at-rate Timed (checkAlarm (rateOf k) k) k (check-rate (rateOf k) k)
+    (choose (Timed (rateOf k)) (alarmReached (rateOf k) k)
     (λ _. record { subsecond = t .subsecond; offset = t .offset; host = t .host })
-    (λ _. t)
+    (λ _. t))
 
 -- no refusal: the board is sound
 pub accepted-sound : (b : Board) (own : ℕ) → refusalOf b own ≡ 0 → sound b ≡ true

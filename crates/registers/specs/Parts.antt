@@ -10,7 +10,7 @@ use Rattle.channel.specs.declared.HardwareTimer.{HardwareTimer}
 use Rattle.channel.specs.Registers.{countLowAt, countHighAt, wordOf}
 use Rattle.clock.specs.declared.Clock.{Clock}
 use Rattle.clock.specs.Fields.{withAlarm}
-use Rattle.clock.specs.Clock.{clockRate, timeSeconds, checkAlarm}
+use Rattle.clock.specs.Clock.{rateOf, timeSeconds, checkAlarm}
 use Rattle.board.specs.declared.Latch.{Latch}
 use Rattle.board.specs.declared.Latch.the-variants.{Empty, Held}
 use Rattle.board.specs.declared.Latches.{Latches}
@@ -66,7 +66,7 @@ countFilled offset counter ls =
 unfoldable pub filled : ℕ → ℕ → Clock → Latches → Latches
 filled offset counter k ls =
     cond (eqb offset secondsLowAt)
-    (withSeconds (Held (lowWord (timeSeconds clockRate k))) (Held (highWord (timeSeconds clockRate k))) ls)
+    (withSeconds (Held (lowWord (timeSeconds (rateOf k) k))) (Held (highWord (timeSeconds (rateOf k) k))) ls)
     (countFilled offset counter ls)
 
 -- the latch of a count that serves the offset
@@ -132,7 +132,7 @@ latchReading word k ls offset =
 unfoldable pub readingBy : HardwareTimer → ℕ → Clock → Latches → ℕ → Reading
 readingBy h shared k ls offset =
     cond (heldOf (serving offset ls)) (latchReading (heldValue (serving offset ls)) k ls offset)
-    (liveReading h shared (checkAlarm clockRate k) (k .alarm .pending) ls offset)
+    (liveReading h shared (checkAlarm (rateOf k) k) (k .alarm .pending) ls offset)
 
 -- a read at an offset: h is the channel of its index, shared the word of the register that all channels share
 unfoldable pub readingOf : HardwareTimer → ℕ → Clock → Latches → ℕ → Reading

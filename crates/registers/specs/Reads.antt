@@ -5,7 +5,7 @@ use mathlib.Core.Bool.{cond}
 use lib.Dec.{eqb}
 use Rattle.wide.specs.Words.{lowWord, highWord}
 use Rattle.channel.specs.Registers.{countLowAt}
-use Rattle.clock.specs.Clock.{clockRate, timeSeconds, checkAlarm}
+use Rattle.clock.specs.Clock.{rateOf, timeSeconds, checkAlarm}
 use Rattle.board.specs.declared.Latch.{Latch}
 use Rattle.board.specs.declared.Latch.the-variants.{Empty, Held}
 use Rattle.board.specs.declared.Board.{Board}
@@ -34,7 +34,7 @@ answered offset word b = record { board = wired b; refusal = 0; byte = byteOfWor
 
 -- the alarm check is made
 abbrev pub checked : Board → Board
-checked b = withClock (checkAlarm clockRate (b .clock)) b
+checked b = withClock (checkAlarm (rateOf (b .clock)) (b .clock)) b
 
 -- 'The alarm check precedes a read that no latch serves.'
 unfoldable pub readLive : ℕ → Board → ByteAnswer
@@ -71,8 +71,8 @@ readChannel offset b =
 unfoldable pub secondsLatched : ℕ → Board → Board
 secondsLatched offset b =
     cond (eqb offset secondsLowAt)
-    (withClockLatches (Held (lowWord (timeSeconds clockRate (b .clock))))
-    (Held (highWord (timeSeconds clockRate (b .clock)))) b)
+    (withClockLatches (Held (lowWord (timeSeconds (rateOf (b .clock)) (b .clock))))
+    (Held (highWord (timeSeconds (rateOf (b .clock)) (b .clock)))) b)
     b
 
 -- 'each freed after its own byte 3'

@@ -2,7 +2,7 @@
 ghost use mathlib.Core.Path.{_≡_};
 ghost use mathlib.Core.Bool.{true};
 ghost use Prim.Native.Nat.{_<_};
-ghost use Rattle.clock.specs.Clock.{clockRate};
+ghost use Rattle.clock.specs.Clock.{rateOf};
 ghost use Rattle.clock.specs.Sound.{Timed};
 ghost use Rattle.offsets.specs.Registers.{inChannels, registerOf, channelAt};
 ghost use Rattle.offsets.specs.Words.{timerWord};
@@ -172,7 +172,7 @@ fn freed_at(latches: Latches, offset: u32) -> Latches
 
 // The word of the register at an offset.
 fn word_of(timer: HardwareTimer, clock: Clock, shared: u32, offset: u32) -> u32
-    requires { ⌜ Timed clockRate clock ⌝ }
+    requires { ⌜ Timed (rateOf clock) clock ⌝ }
     ensures { λ r. ⌜ r ≡ wordAt timer clock shared offset ⌝ }
 {
     match offset {
@@ -201,7 +201,7 @@ fn reading_of(
     latches: Latches,
     offset: u32,
 ) -> Reading
-    requires { ⌜ Timed clockRate clock ⌝ }
+    requires { ⌜ Timed (rateOf clock) clock ⌝ }
     ensures { λ r. ⌜ r ≡ readingOf timer shared clock latches offset ⌝ }
 {
     if offset == Registers::RTC_SECONDS_LO {
@@ -250,7 +250,7 @@ fn reading_of(
 
 // A read at an offset; `timer` is the channel of its index.
 pub fn reading_at(board: Board, timer: HardwareTimer, offset: u32) -> Reading
-    requires { ⌜ Timed clockRate (board .clock) × (timer ≡ channelAt (channelIndex offset) board) ⌝ }
+    requires { ⌜ Timed (rateOf (board .clock)) (board .clock) × (timer ≡ channelAt (channelIndex offset) board) ⌝ }
     ensures { λ r. ⌜ r ≡ offsetReading offset board ⌝ }
 {
     let timers = board.timers;
@@ -278,7 +278,7 @@ pub fn plain(offset: u32) -> bool
 
 // A read there; `timer` is the channel of the offset's index.
 pub fn plain_at(board: Board, timer: HardwareTimer, offset: u32) -> PlainReading
-    requires { ⌜ (plainAt offset ≡ true) × Timed clockRate (board .clock)
+    requires { ⌜ (plainAt offset ≡ true) × Timed (rateOf (board .clock)) (board .clock)
         × (timer ≡ channelAt (channelIndex offset) board) ⌝ }
     ensures { λ r. ⌜ r ≡ plainOf (offsetReading offset board) ⌝ }
 {

@@ -2,7 +2,7 @@
 ghost use mathlib.Core.Path.{_≡_};
 ghost use Prim.Native.Nat.{_≤_, _%_};
 ghost use Rattle.channel.specs.Registers.{byteWritten};
-ghost use Rattle.clock.specs.Clock.{clockRate};
+ghost use Rattle.clock.specs.Clock.{rateOf};
 ghost use Rattle.clock.specs.Registers.{mergeByte};
 ghost use Rattle.clock.specs.Sound.{Timed};
 ghost use Rattle.offsets.specs.Registers.{registerOf, byteOf, placeOf};
@@ -63,7 +63,7 @@ pub fn enable_after(timer_enable: u8, offset: u32, value: u8) -> u8
 }
 
 pub fn clock_after(clock: Clock, offset: u32, value: u8) -> Clock
-    requires { ⌜ Timed clockRate clock ⌝ }
+    requires { ⌜ Timed (rateOf clock) clock ⌝ }
     ensures { λ r. ⌜ r ≡ clockWritten (registerOf offset) (byteOf offset) value clock ⌝ }
 {
     clock_written(clock, offset / 4 * 4, (offset % 4) as usize, value)
@@ -80,7 +80,7 @@ pub fn timer_after(timer: HardwareTimer, offset: u32, value: u8) -> HardwareTime
 
 // A byte written at an offset.
 pub(crate) fn written_at(board: Board, offset: u32, value: u8) -> Board
-    requires { ⌜ Timed clockRate (board .clock) ⌝ }
+    requires { ⌜ Timed (rateOf (board .clock)) (board .clock) ⌝ }
     ensures { λ r. ⌜ r ≡ writtenAt offset value board ⌝ }
 {
     let timers = board.timers;

@@ -1,7 +1,7 @@
 -- `Board::advanced` meets its contract. Assumes nothing.
 use native.Mathlib.Omega.{arith}
 use Rattle.board.specs.Calls.{advancedBoard}
-use Rattle.clock.specs.Clock.{clockRate}
+use Rattle.clock.specs.Clock.{rateOf}
 use Rattle.clock.proofs.Soundness.{sound-timed}
 use Rattle.board.proofs.Soundness.{sound-facts, clock-facts}
 use borrow.Author.Needs.{needs}
@@ -14,7 +14,7 @@ advance-all-requires c κs = sound-facts (c .before .args .self) (c .before .pre
 advance-requires : tie.Need-advance-requires
 advance-requires c κs =
     let s = c .before .before .before in
-    sound-timed clockRate (s .args .self .clock)
+    sound-timed (rateOf (s .args .self .clock)) (s .args .self .clock)
     (clock-facts (s .args .self)
     (record {
       seconds = omega (arith, s .good);

@@ -1,8 +1,10 @@
 -- `Clock::advance` meets its contract. Assumes nothing.
-use mathlib.Core.Path.{ap, _∙_, subst⁻¹}
+use Prim.Native.Nat.{ℕ}
+use mathlib.Core.Path.{ap, _∙_}
 use Rattle.clock.specs.declared.Clock.{Clock}
-use Rattle.clock.proofs.Ranges.{moved-timed}
-use Rattle.clock.specs.Clock.{clockRate, endAdvance, advanceClock}
+use Rattle.clock.proofs.Ranges.{timed-same, moved-timed}
+use Rattle.clock.proofs.Rate.{moved-rate, at-rate}
+use Rattle.clock.specs.Clock.{rateOf, movedTime, endAdvance, advanceClock}
 use Rattle.clock.specs.Sound.{Timed}
 use borrow.Author.Needs.{needs}
 use Rattle.clock.proofs.Clock.advance.Statement.{statement}
@@ -14,8 +16,11 @@ moved-time-requires c κs = search needs
 end-advance-requires : tie.Need-end-advance-requires
 end-advance-requires c κs =
     let a = c .before .args in
-    subst⁻¹ (Timed clockRate) (c .moved-time .ensures)
-    (moved-timed clockRate (a .self) (c .before .pre) (a .cycles .0))
+    let n = a .cycles .0 in
+    let k = a .self in
+    timed-same (c .moved-time .ensures)
+    (at-rate Timed (movedTime (rateOf k) n k) k (moved-rate (rateOf k) k n)
+    (moved-timed (rateOf k) k (c .before .pre) n))
 
 rebuilt-requires : tie.Need-rebuilt-requires
 rebuilt-requires c κs = search needs
@@ -24,8 +29,10 @@ returns : tie.Need-returns
 unfolding advanceClock
 returns c =
     let n = c .before .before .before .args .cycles .0 in
+    let k = c .before .before .before .args .self in
     c .rebuilt .ensures ∙ c .before .end-advance .ensures
-    ∙ ap (λ (k : Clock). endAdvance clockRate n k) (c .before .before .moved-time .ensures)
+    ∙ ap (λ (j : Clock). endAdvance (rateOf j) n j) (c .before .before .moved-time .ensures)
+    ∙ ap (λ (rate : ℕ). endAdvance rate n (movedTime (rateOf k) n k)) (moved-rate (rateOf k) k n)
 
 pub advance-spec : {M : Type 1} → statement M
 advance-spec =

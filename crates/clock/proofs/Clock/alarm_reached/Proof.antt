@@ -2,7 +2,7 @@
 use mathlib.Core.Bool.{not}
 use lib.Dec.{leb}
 use Rattle.clock.proofs.Tests.{both-told, and-last, and-early}
-use Rattle.clock.specs.Clock.{clockRate, enabled, timeSeconds, alarmReached}
+use Rattle.clock.specs.Clock.{rateOf, enabled, timeSeconds, alarmReached}
 use borrow.Author.Needs.{needs}
 use Rattle.clock.proofs.Clock.alarm_reached.Statement.{statement}
 use Rattle.clock.proofs.Clock.alarm_reached.Tie as tie
@@ -26,7 +26,7 @@ returns c =
     let k = s .before .before .before .args .self in
     rw (c .time-seconds .ensures)
     (and-last (enabled (k .control)) (k .alarm .armed) (not (k .alarm .pending))
-    (leb (k .alarm .seconds) (timeSeconds clockRate k))
+    (leb (k .alarm .seconds) (timeSeconds (rateOf k) k))
     (both-told (s .both2 .ensures) (s .before .has-bit .ensures) (s .before .before .both .ensures)
     (c .before .if1 .taken)))
 
@@ -36,7 +36,7 @@ returns-2 c =
     let s = c .before in
     let k = s .before .before .before .args .self in
     and-early (enabled (k .control)) (k .alarm .armed) (not (k .alarm .pending))
-    (leb (k .alarm .seconds) (timeSeconds clockRate k))
+    (leb (k .alarm .seconds) (timeSeconds (rateOf k) k))
     (both-told (s .both2 .ensures) (s .before .has-bit .ensures) (s .before .before .both .ensures) (c .if1 .left))
 
 pub alarm-reached-spec : {M : Type 1} → statement M

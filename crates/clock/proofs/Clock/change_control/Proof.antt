@@ -1,10 +1,12 @@
 -- `Clock::change_control` meets its contract. Assumes nothing.
-use mathlib.Core.Path.{ap, _∙_, subst⁻¹}
+use Prim.Native.Nat.{ℕ}
+use mathlib.Core.Path.{ap, _∙_}
 use Rattle.clock.specs.declared.Clock.{Clock}
-use Rattle.clock.proofs.Ranges.{kept-timed, control-timed}
-use Rattle.clock.specs.Clock.{clockRate, checkAlarm}
+use Rattle.clock.proofs.Ranges.{timed-same, kept-timed, control-timed}
+use Rattle.clock.proofs.Rate.{kept-rate, at-rate}
+use Rattle.clock.specs.Clock.{rateOf, checkAlarm}
 use Rattle.clock.specs.Fields.{withControl}
-use Rattle.clock.specs.Registers.{changeControl}
+use Rattle.clock.specs.Registers.{timeKept, changeControl}
 use Rattle.clock.specs.Sound.{Timed}
 use borrow.Author.Needs.{needs}
 use Rattle.clock.proofs.Clock.change_control.Statement.{statement}
@@ -20,17 +22,22 @@ check-alarm-requires : tie.Need-check-alarm-requires
 check-alarm-requires c κs =
     let a = c .before .before .args in
     let x = c .before .time-kept in
-    let t = kept-timed clockRate (a .self) (c .before .before .pre) (a .new) in
-    subst⁻¹ (Timed clockRate) (c .with-control .ensures)
-    (control-timed clockRate (x .result) (subst⁻¹ (Timed clockRate) (x .ensures) t) (a .new))
+    let n = a .new in
+    let k = a .self in
+    let t = kept-timed (rateOf k) k (c .before .before .pre) n in
+    timed-same (c .with-control .ensures)
+    (control-timed (rateOf (x .result)) (x .result)
+    (timed-same (x .ensures) (at-rate Timed (timeKept (rateOf k) n k) k (kept-rate (rateOf k) k n) t)) n)
 
 returns : tie.Need-returns
 unfolding changeControl
 returns c =
     let n = c .before .before .before .args .new in
+    let k = c .before .before .before .args .self in
     c .check-alarm .ensures
-    ∙ ap (λ (k : Clock). checkAlarm clockRate k) (c .before .with-control .ensures)
-    ∙ ap (λ (k : Clock). checkAlarm clockRate (withControl n k)) (c .before .before .time-kept .ensures)
+    ∙ ap (λ (j : Clock). checkAlarm (rateOf j) j) (c .before .with-control .ensures)
+    ∙ ap (λ (j : Clock). checkAlarm (rateOf j) (withControl n j)) (c .before .before .time-kept .ensures)
+    ∙ ap (λ (rate : ℕ). checkAlarm rate (withControl n (timeKept (rateOf k) n k))) (kept-rate (rateOf k) k n)
 
 pub change-control-spec : {M : Type 1} → statement M
 change-control-spec =

@@ -1,11 +1,10 @@
 -- `Clock::commit_alarm` meets its contract. Assumes nothing.
-use mathlib.Core.Path.{ap, _∙_, subst⁻¹}
+use mathlib.Core.Path.{ap, _∙_}
 use Rattle.clock.specs.declared.Clock.{Clock}
-use Rattle.clock.proofs.Ranges.{alarm-timed, alarm-shadow-timed}
+use Rattle.clock.proofs.Ranges.{timed-same, alarm-timed, alarm-shadow-timed}
 use Rattle.clock.specs.Fields.{withAlarmShadow}
-use Rattle.clock.specs.Clock.{clockRate, checkAlarm}
+use Rattle.clock.specs.Clock.{rateOf, checkAlarm}
 use Rattle.clock.specs.Registers.{emptied, armedAt, commitAlarm}
-use Rattle.clock.specs.Sound.{Timed}
 use borrow.Author.Needs.{needs}
 use Rattle.clock.proofs.Clock.commit_alarm.Statement.{statement}
 use Rattle.clock.proofs.Clock.commit_alarm.Tie as tie
@@ -20,10 +19,10 @@ check-alarm-requires : tie.Need-check-alarm-requires
 check-alarm-requires c κs =
     let a = c .before .before .args in
     let x = c .before .with-alarm in
-    subst⁻¹ (Timed clockRate) (c .with-alarm-shadow .ensures)
-    (alarm-shadow-timed clockRate (x .result)
-    (subst⁻¹ (Timed clockRate) (x .ensures)
-    (alarm-timed clockRate (a .self) (c .before .before .pre) (armedAt (a .shadow .value) (a .self .alarm))))
+    timed-same (c .with-alarm-shadow .ensures)
+    (alarm-shadow-timed (rateOf (x .result)) (x .result)
+    (timed-same (x .ensures)
+    (alarm-timed (rateOf (a .self)) (a .self) (c .before .before .pre) (armedAt (a .shadow .value) (a .self .alarm))))
     (emptied (a .shadow)))
 
 returns : tie.Need-returns
@@ -31,7 +30,7 @@ unfolding commitAlarm
 returns c =
     let a = c .before .before .before .args in
     c .check-alarm .ensures
-    ∙ ap (λ (k : Clock). checkAlarm clockRate k)
+    ∙ ap (λ (k : Clock). checkAlarm (rateOf k) k)
     (c .before .with-alarm-shadow .ensures
     ∙ ap (λ (k : Clock). withAlarmShadow (emptied (a .shadow)) k) (c .before .before .with-alarm .ensures))
 

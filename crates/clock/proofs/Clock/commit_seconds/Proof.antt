@@ -1,11 +1,12 @@
 -- `Clock::commit_seconds` meets its contract. Assumes nothing.
-use mathlib.Core.Path.{ap, _∙_, subst⁻¹}
-use native.Mathlib.Omega.{arith}
+use Prim.Native.Nat.{ℕ}
+use mathlib.Core.Path.{ap, _∙_}
 use Rattle.clock.specs.declared.Clock.{Clock}
-use Rattle.clock.proofs.Ranges.{offset-for-timed, time-timed, shadow-timed}
+use Rattle.clock.proofs.Ranges.{timed-same, offset-for-timed, time-timed, shadow-timed}
+use Rattle.clock.proofs.Rate.{rate-above, offset-for-rate, at-rate}
 use Rattle.clock.specs.Fields.{withTime, withShadow}
-use Rattle.clock.specs.Clock.{clockRate, checkAlarm}
-use Rattle.clock.specs.Registers.{emptied, commitSeconds}
+use Rattle.clock.specs.Clock.{rateOf, checkAlarm}
+use Rattle.clock.specs.Registers.{emptied, offsetFor, commitSeconds}
 use Rattle.clock.specs.Sound.{Timed}
 use borrow.Author.Needs.{needs}
 use Rattle.clock.proofs.Clock.commit_seconds.Statement.{statement}
@@ -25,25 +26,29 @@ check-alarm-requires c κs =
     let a = c .before .before .before .args in
     let x = c .before .before .offset-for in
     let y = c .before .with-time in
-    subst⁻¹ (Timed clockRate) (c .with-shadow .ensures)
-    (shadow-timed clockRate (y .result)
-    (subst⁻¹ (Timed clockRate) (y .ensures)
-    (time-timed clockRate (x .result)
-    (subst⁻¹ (Timed clockRate) (x .ensures)
-    (offset-for-timed clockRate (a .self) (c .before .before .before .pre) (a .shadow .value))) (a .shadow .value) 0
-    (omega arith)))
+    let k = a .self in
+    let s = a .shadow .value in
+    let t = offset-for-timed (rateOf k) k (c .before .before .before .pre) s in
+    timed-same (c .with-shadow .ensures)
+    (shadow-timed (rateOf (y .result)) (y .result)
+    (timed-same (y .ensures)
+    (time-timed (rateOf (x .result)) (x .result)
+    (timed-same (x .ensures) (at-rate Timed (offsetFor s k) k (offset-for-rate k s) t)) s 0 (rate-above (x .result))))
     (emptied (a .shadow)))
 
 returns : tie.Need-returns
 unfolding commitSeconds
 returns c =
     let a = c .before .before .before .before .args in
+    let s = a .shadow .value in
     c .check-alarm .ensures
-    ∙ ap (λ (k : Clock). checkAlarm clockRate k)
+    ∙ ap (λ (k : Clock). checkAlarm (rateOf k) k)
     (c .before .with-shadow .ensures
     ∙ ap (λ (k : Clock). withShadow (emptied (a .shadow)) k)
     (c .before .before .with-time .ensures
-    ∙ ap (λ (k : Clock). withTime (a .shadow .value) 0 k) (c .before .before .before .offset-for .ensures)))
+    ∙ ap (λ (k : Clock). withTime s 0 k) (c .before .before .before .offset-for .ensures)))
+    ∙ ap (λ (rate : ℕ). checkAlarm rate (withShadow (emptied (a .shadow)) (withTime s 0 (offsetFor s (a .self)))))
+    (offset-for-rate (a .self) s)
 
 pub commit-seconds-spec : {M : Type 1} → statement M
 commit-seconds-spec =

@@ -1,11 +1,10 @@
 -- `Clock::end_advance` meets its contract. Assumes nothing.
-use mathlib.Core.Path.{ap, _∙_, subst⁻¹}
+use mathlib.Core.Path.{ap, _∙_}
 use Rattle.clock.specs.declared.Clock.{Clock}
 use Rattle.clock.proofs.Tests.{both-told, and-after}
-use Rattle.clock.proofs.Ranges.{poll-timed}
+use Rattle.clock.proofs.Ranges.{timed-same, poll-timed}
 use Rattle.clock.proofs.Branches.{end-polled, end-checked}
-use Rattle.clock.specs.Clock.{clockRate, checkAlarm}
-use Rattle.clock.specs.Sound.{Timed}
+use Rattle.clock.specs.Clock.{rateOf, checkAlarm}
 use borrow.Author.Needs.{needs}
 use Rattle.clock.proofs.Clock.end_advance.Statement.{statement}
 use Rattle.clock.proofs.Clock.end_advance.Tie as tie
@@ -29,7 +28,7 @@ returns : tie.Need-returns
 returns c =
     let a = c .before .before .before .before .before .before .before .args in
     c .polled .ensures
-    ∙ end-polled clockRate (a .cycles .0) (a .self)
+    ∙ end-polled (rateOf (a .self)) (a .cycles .0) (a .self)
     (both-told (c .before .before .both3 .ensures) (c .before .before .before .from-host .ensures)
     (and-after (a .self .alarm .armed) (c .before .before .before .before .both2 .ensures)
     (c .before .before .before .before .before .both .ensures))
@@ -41,14 +40,15 @@ with-poll-requires c κs = search needs
 check-alarm-requires : tie.Need-check-alarm-requires
 check-alarm-requires c κs =
     let start = c .before .before .before .before .before .before .before in
-    subst⁻¹ (Timed clockRate) (c .with-poll .ensures) (poll-timed clockRate (start .args .self) (start .pre) _)
+    let k = start .args .self in
+    timed-same (c .with-poll .ensures) (poll-timed (rateOf k) k (start .pre) 0)
 
 returns-2 : tie.Need-returns-2
 returns-2 c =
     let a = c .before .before .before .before .before .before .before .before .args in
     c .check-alarm .ensures
-    ∙ ap (λ (k : Clock). checkAlarm clockRate k) (c .before .with-poll .ensures)
-    ∙ end-checked clockRate (a .cycles .0) (a .self)
+    ∙ ap (λ (k : Clock). checkAlarm (rateOf k) k) (c .before .with-poll .ensures)
+    ∙ end-checked (rateOf (a .self)) (a .cycles .0) (a .self)
     (both-told (c .before .before .before .both3 .ensures) (c .before .before .before .before .from-host .ensures)
     (and-after (a .self .alarm .armed) (c .before .before .before .before .before .both2 .ensures)
     (c .before .before .before .before .before .before .both .ensures))

@@ -4,7 +4,7 @@ use mathlib.Core.Path.{sym, ap, _∙_}
 use mathlib.Core.Bool.{not}
 use Rattle.clock.proofs.Tests.{both-told}
 use Rattle.clock.proofs.Branches.{host-taken, own-taken, time-left}
-use Rattle.clock.specs.Clock.{clockRate}
+use Rattle.clock.specs.Clock.{rateOf}
 use Rattle.clock.specs.Registers.{setTime}
 use Rattle.clock.specs.Time.{durationOf}
 use borrow.Author.Needs.{needs}
@@ -35,7 +35,7 @@ returns c =
     let a = tests .before .before .before .before .args in
     let d = c .before .before .own-duration in
     c .with-offset .ensures
-    ∙ host-taken clockRate (a .new) (a .self) (c .before .since .result) (durationOf (d .result))
+    ∙ host-taken (rateOf (a .self)) (a .new) (a .self) (c .before .since .result) (durationOf (d .result))
     (both-told (tests .before .both .ensures) (tests .before .before .from-host2 .ensures)
     (ap not (tests .before .before .before .from-host .ensures)) (tests .if1 .taken))
     (d .ensures .total) (c .before .since .ensures)
@@ -54,8 +54,8 @@ returns-2 c =
     let tests = c .before .before .before .before in
     let a = tests .before .before .before .before .args in
     c .set-time .ensures
-    ∙ ap (λ (n : ℕ). setTime clockRate n (a .self)) (c .before .time .ensures .total)
-    ∙ own-taken clockRate (a .new) (a .self)
+    ∙ ap (λ (n : ℕ). setTime (rateOf (a .self)) n (a .self)) (c .before .time .ensures .total)
+    ∙ own-taken (rateOf (a .self)) (a .new) (a .self)
     (both-told (tests .before .both .ensures) (tests .before .before .from-host2 .ensures)
     (ap not (tests .before .before .before .from-host .ensures)) (tests .if1 .left))
     (sym (c .before .before .before .takes-own .ensures) ∙ c .before .before .if2 .taken)
@@ -64,7 +64,7 @@ returns-3 : tie.Need-returns-3
 returns-3 c =
     let tests = c .before .before in
     let a = tests .before .before .before .before .args in
-    time-left clockRate (a .new) (a .self)
+    time-left (rateOf (a .self)) (a .new) (a .self)
     (both-told (tests .before .both .ensures) (tests .before .before .from-host2 .ensures)
     (ap not (tests .before .before .before .from-host .ensures)) (tests .if1 .left))
     (sym (c .before .takes-own .ensures) ∙ c .if2 .left)

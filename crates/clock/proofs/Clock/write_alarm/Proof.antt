@@ -1,7 +1,7 @@
 -- `Clock::write_alarm` meets its contract. Assumes nothing.
 use mathlib.Core.Path.{_∙_}
 use Rattle.clock.proofs.Branches.{alarm-committed, alarm-waiting}
-use Rattle.clock.specs.Clock.{clockRate}
+use Rattle.clock.specs.Clock.{rateOf}
 use borrow.Author.Needs.{needs}
 use Rattle.clock.proofs.Clock.write_alarm.Statement.{statement}
 use Rattle.clock.proofs.Clock.write_alarm.Tie as tie
@@ -17,7 +17,8 @@ returns c =
     let a = c .before .before .before .before .args in
     let s = c .before .before .before .with-byte in
     c .commit-alarm .ensures
-    ∙ alarm-committed clockRate (a .byte) (a .value) (a .self) (s .result) (s .ensures) (c .before .if1 .taken)
+    ∙ alarm-committed (rateOf (a .self)) (a .byte) (a .value) (a .self)
+    (s .result) (s .ensures) (c .before .if1 .taken)
 
 with-alarm-shadow-requires : tie.Need-with-alarm-shadow-requires
 with-alarm-shadow-requires c κs = search needs
@@ -27,7 +28,8 @@ returns-2 c =
     let a = c .before .before .before .before .args in
     let s = c .before .before .before .with-byte in
     c .with-alarm-shadow .ensures
-    ∙ alarm-waiting clockRate (a .byte) (a .value) (a .self) (s .result) (s .ensures) (c .before .if1 .left)
+    ∙ alarm-waiting (rateOf (a .self)) (a .byte) (a .value) (a .self)
+    (s .result) (s .ensures) (c .before .if1 .left)
 
 pub write-alarm-spec : {M : Type 1} → statement M
 write-alarm-spec =

@@ -1,7 +1,7 @@
 -- `Clock::write_control` meets its contract. Assumes nothing.
 use Prim.Native.Nat.{ℕ, _%_}
 use mathlib.Core.Path.{ap, _∙_}
-use Rattle.clock.specs.Clock.{clockRate}
+use Rattle.clock.specs.Clock.{rateOf}
 use Rattle.clock.specs.Registers.{changeControl, writeControl}
 use borrow.Author.Needs.{needs}
 use Rattle.clock.proofs.Clock.write_control.Statement.{statement}
@@ -26,7 +26,7 @@ returns : tie.Need-returns
 unfolding writeControl
 returns c =
     let k = c .before .before .before .args .self in
-    c .change-control .ensures ∙ ap (λ (n : ℕ). changeControl clockRate (n % 8) k) (c .before .with-byte .ensures)
+    c .change-control .ensures ∙ ap (λ (n : ℕ). changeControl (rateOf k) (n % 8) k) (c .before .with-byte .ensures)
 
 pub write-control-spec : {M : Type 1} → statement M
 write-control-spec =

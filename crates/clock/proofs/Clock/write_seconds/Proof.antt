@@ -1,7 +1,7 @@
 -- `Clock::write_seconds` meets its contract. Assumes nothing.
 use mathlib.Core.Path.{sym, _∙_}
 use Rattle.clock.proofs.Branches.{seconds-committed, seconds-waiting}
-use Rattle.clock.specs.Clock.{clockRate}
+use Rattle.clock.specs.Clock.{rateOf}
 use Rattle.clock.specs.Registers.{writeSeconds}
 use borrow.Author.Needs.{needs}
 use Rattle.clock.proofs.Clock.write_seconds.Statement.{statement}
@@ -21,7 +21,7 @@ returns c =
     let a = c .before .before .before .before .before .before .args in
     let s = c .before .before .before .with-byte in
     c .commit-seconds .ensures
-    ∙ seconds-committed clockRate (a .byte) (a .value) (a .self) (s .result) (s .ensures)
+    ∙ seconds-committed (rateOf (a .self)) (a .byte) (a .value) (a .self) (s .result) (s .ensures)
     (sym (c .before .before .before .before .before .has-bit .ensures) ∙ c .before .before .before .before .if1 .taken)
     (c .before .if2 .taken)
 
@@ -33,7 +33,7 @@ returns-2 c =
     let a = c .before .before .before .before .before .before .args in
     let s = c .before .before .before .with-byte in
     c .with-shadow .ensures
-    ∙ seconds-waiting clockRate (a .byte) (a .value) (a .self) (s .result) (s .ensures)
+    ∙ seconds-waiting (rateOf (a .self)) (a .byte) (a .value) (a .self) (s .result) (s .ensures)
     (sym (c .before .before .before .before .before .has-bit .ensures) ∙ c .before .before .before .before .if1 .taken)
     (c .before .if2 .left)
 
