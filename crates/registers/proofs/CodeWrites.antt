@@ -13,7 +13,7 @@ use Rattle.offsets.specs.Writes.{timerWritten, writtenAt}
 use Rattle.offsets.proofs.Ranges.{inside, below, above, bounds}
 use Rattle.registers.specs.declared.writes.WritePart.{WritePart}
 use Rattle.registers.specs.declared.writes.WritePart.the-variants.{Nothing, Enable, Acknowledge, Clock, Channel}
-use Rattle.registers.specs.Parts.{channelIndex}
+use Rattle.registers.specs.CodeReads.{channelIndex}
 use Rattle.registers.specs.CodeWrites.{partOf, writtenBy}
 
 module _ (o : ℕ) where

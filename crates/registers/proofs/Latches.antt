@@ -30,7 +30,7 @@ use Rattle.offsets.specs.Registers.{
 use Rattle.offsets.specs.Words.{timerWord}
 use Rattle.offsets.proofs.Ranges.{above, bounds}
 use Rattle.registers.specs.declared.reads.Reading.{Reading}
-use Rattle.registers.specs.Parts.{
+use Rattle.registers.specs.CodeReads.{
   channelIndex,
   atCountLow,
   atCountHigh,

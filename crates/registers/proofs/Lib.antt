@@ -2,7 +2,7 @@ pub mod Timing
 pub mod Latches
 mod Channels
 pub mod Kept
-pub mod Parts
+pub mod CodeReads
 mod Settings
 pub mod CodeWrites
 pub mod Line

@@ -36,7 +36,7 @@ use Rattle.offsets.specs.Words.{timerWord}
 use Rattle.registers.specs.declared.reads.Reading.{Reading}
 use Rattle.registers.specs.declared.writes.WritePart.{WritePart}
 use Rattle.registers.specs.declared.writes.WritePart.the-variants.{Nothing, Enable, Acknowledge, Channel, Clock as ofClock}
-use Rattle.registers.specs.Parts.{
+use Rattle.registers.specs.CodeReads.{
   channelIndex,
   filled,
   serving,

@@ -1,7 +1,7 @@
--- What the code computes of a write: the part of the board that a byte written at an offset changes, and the board with
--- that part changed. These are not document 01's sentences. The rule is `writtenAt` of the writes at offsets, and
--- `written-is` of proofs/CodeWrites.antt shows that the board here is the rule's.
-use Prim.Native.Nat.{ℕ, _%_}
+-- Not document 01's sentences: what the code computes of a write, the part of the board that a byte written at an offset
+-- changes and the board with that part changed. The rule is `writtenAt` of crates/offsets, and `written-is` of
+-- proofs/CodeWrites.antt shows that the board here is the rule's.
+use Prim.Native.Nat.{ℕ, _+_, _%_}
 use mathlib.Core.Bool.{Bool, true, false, cond}
 use lib.Dec.{ltb, eqb}
 use Rattle.channel.specs.Registers.{byteWritten}
@@ -9,7 +9,9 @@ use Rattle.clock.specs.Registers.{mergeByte}
 use Rattle.board.specs.declared.Board.{Board}
 use Rattle.board.specs.Board.{withTimers, withClock}
 use Rattle.offsets.specs.Registers.{
-  within,
+  timerEnableAt,
+  timerAckAt,
+  inRegister,
   inClock,
   inChannels,
   registerOf,
@@ -22,14 +24,14 @@ use Rattle.offsets.specs.Registers.{
 use Rattle.offsets.specs.Writes.{acknowledged, clockWritten}
 use Rattle.registers.specs.declared.writes.WritePart.{WritePart}
 use Rattle.registers.specs.declared.writes.WritePart.the-variants.{Nothing, Enable, Acknowledge, Clock, Channel}
-use Rattle.registers.specs.Parts.{channelIndex}
+use Rattle.registers.specs.CodeReads.{channelIndex}
 
 -- the part that a byte written at an offset changes: TIMER_ENABLE, the byte of TIMER_ACK that has the channels' bits, a
 -- register of the clock, or a channel's
 unfoldable pub partOf : ℕ → WritePart
 partOf offset =
-    cond (within 0x184 0x187 offset) Enable
-    (cond (eqb offset 0x18F) Acknowledge
+    cond (inRegister timerEnableAt offset) Enable
+    (cond (eqb offset (timerAckAt + 3)) Acknowledge
     (cond (inClock offset) Clock
     (cond (inChannels offset) Channel
     Nothing)))

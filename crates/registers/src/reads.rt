@@ -6,9 +6,9 @@ ghost use Rattle.clock.specs.Clock.{rateOf};
 ghost use Rattle.clock.specs.Sound.{Timed};
 ghost use Rattle.offsets.specs.Registers.{inChannels, registerOf, channelAt};
 ghost use Rattle.offsets.specs.Words.{timerWord};
-ghost use Rattle.registers.specs.Parts.{channelIndex, atCountLow, atCountHigh, withCount, countFilled};
-ghost use Rattle.registers.specs.Parts.{countServing, serving, countEmptied, emptied, freedAt};
-ghost use Rattle.registers.specs.Parts.{wordAt, readingOf, offsetReading, plainAt, plainOf};
+ghost use Rattle.registers.specs.CodeReads.{channelIndex, atCountLow, atCountHigh, withCount, countFilled};
+ghost use Rattle.registers.specs.CodeReads.{countServing, serving, countFreed, latchFreed, freedAt};
+ghost use Rattle.registers.specs.CodeReads.{wordAt, readingOf, offsetReading, plainAt, plainOf};
 use board::Board;
 use board::CountLatch;
 use board::Latch;
@@ -132,8 +132,8 @@ fn serving(latches: Latches, offset: u32) -> Latch
 }
 
 // The latch of a count that serves an offset is empty.
-fn count_emptied(latches: Latches, offset: u32) -> Latches
-    ensures { λ r. ⌜ r ≡ countEmptied offset latches ⌝ }
+fn count_freed(latches: Latches, offset: u32) -> Latches
+    ensures { λ r. ⌜ r ≡ countFreed offset latches ⌝ }
 {
     if at_count_high(offset) {
         return with_count(latches, channel_index(offset), Latch::Empty);
@@ -142,8 +142,8 @@ fn count_emptied(latches: Latches, offset: u32) -> Latches
 }
 
 // The latch that serves an offset is empty.
-fn emptied(latches: Latches, offset: u32) -> Latches
-    ensures { λ r. ⌜ r ≡ emptied offset latches ⌝ }
+fn latch_freed(latches: Latches, offset: u32) -> Latches
+    ensures { λ r. ⌜ r ≡ latchFreed offset latches ⌝ }
 {
     match offset {
         Registers::RTC_SECONDS_LO..=Registers::RTC_SECONDS_LO_LAST => Latches {
@@ -154,7 +154,7 @@ fn emptied(latches: Latches, offset: u32) -> Latches
             high: Latch::Empty,
             ..latches
         },
-        _ => count_emptied(latches, offset),
+        _ => count_freed(latches, offset),
     }
 }
 
@@ -163,7 +163,7 @@ fn freed_at(latches: Latches, offset: u32) -> Latches
     ensures { λ r. ⌜ r ≡ freedAt offset latches ⌝ }
 {
     if offset % 4 == 3 {
-        return emptied(latches, offset);
+        return latch_freed(latches, offset);
     }
     latches
 }
@@ -171,13 +171,13 @@ fn freed_at(latches: Latches, offset: u32) -> Latches
 // ---- the reading
 
 // The word of the register at an offset.
-fn word_of(timer: HardwareTimer, clock: Clock, shared: u32, offset: u32) -> u32
+fn word_at(timer: HardwareTimer, clock: Clock, shared: u32, offset: u32) -> u32
     requires { ⌜ Timed (rateOf clock) clock ⌝ }
     ensures { λ r. ⌜ r ≡ wordAt timer clock shared offset ⌝ }
 {
     match offset {
-        Registers::TIMER_ID..=Registers::TIMER_LAST => shared,
-        Registers::RTC_CTRL..=Registers::RTC_LAST => clock_word(clock, offset / 4 * 4),
+        Registers::TIMER_ID..=Registers::TIMER_ACK_LAST => shared,
+        Registers::RTC_CTRL..=Registers::RTC_ACK_LAST => clock_word(clock, offset / 4 * 4),
         Registers::TIMER_CHANNEL_BASE..=Registers::TIMER_CHANNEL_LAST => {
             timer.read_word(place_of(offset) / 4 * 4)
         }
@@ -225,7 +225,7 @@ fn reading_of(
     let latch = serving(latches, offset);
     let Latch::Held(word) = latch else {
         let checked = clock.check_alarm();
-        let word = word_of(timer, checked, shared, offset);
+        let word = word_at(timer, checked, shared, offset);
         let before = clock.alarm.pending;
         let pending = checked.alarm.pending;
         let armed = checked.alarm.armed;

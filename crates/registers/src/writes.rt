@@ -37,8 +37,8 @@ pub fn part_at(offset: u32) -> WritePart
 {
     match offset {
         Registers::TIMER_ENABLE..=Registers::TIMER_ENABLE_LAST => WritePart::Enable,
-        Registers::TIMER_LAST => WritePart::Acknowledge,
-        Registers::RTC_CTRL..=Registers::RTC_LAST => WritePart::Clock,
+        Registers::TIMER_ACK_LAST => WritePart::Acknowledge,
+        Registers::RTC_CTRL..=Registers::RTC_ACK_LAST => WritePart::Clock,
         Registers::TIMER_CHANNEL_BASE..=Registers::TIMER_CHANNEL_LAST => WritePart::Channel,
         _ => WritePart::Nothing,
     }

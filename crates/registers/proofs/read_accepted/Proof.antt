@@ -3,7 +3,7 @@ use Prim.Native.Nat.{ℕ}
 use native.Mathlib.Omega.{arith}
 use mathlib.Core.Path.{ap}
 use Rattle.offsets.specs.Registers.{channelAt}
-use Rattle.registers.proofs.Parts.{read-parts}
+use Rattle.registers.proofs.CodeReads.{read-parts}
 use Rattle.registers.proofs.Timing.{sound-times}
 use borrow.Author.Needs.{needs}
 use Rattle.registers.proofs.read_accepted.Statement.{statement}

@@ -1,6 +1,6 @@
 -- `reads::channel_index` meets its contract. Assumes nothing.
 use mathlib.Core.Path.{sym, _∙_}
-use Rattle.registers.specs.Parts.{channelIndex}
+use Rattle.registers.specs.CodeReads.{channelIndex}
 use Rattle.offsets.proofs.Ranges.{bounds}
 use borrow.Author.Needs.{needs}
 use Rattle.registers.proofs.reads.channel_index.Statement.{statement}

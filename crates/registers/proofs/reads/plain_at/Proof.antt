@@ -1,6 +1,6 @@
 -- `reads::plain_at` meets its contract. Assumes nothing.
 use mathlib.Core.Path.{sym, ap}
-use Rattle.registers.specs.Parts.{plainOf}
+use Rattle.registers.specs.CodeReads.{plainOf}
 use Rattle.registers.proofs.Latches.{plain-range, plain-reading}
 use borrow.Author.Needs.{needs}
 use Rattle.registers.proofs.reads.plain_at.Statement.{statement}

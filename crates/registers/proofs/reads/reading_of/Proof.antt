@@ -45,8 +45,8 @@ enum-told c = search needs
 check-alarm-requires : tie.Need-check-alarm-requires
 check-alarm-requires c κs = search needs
 
-word-of-requires : tie.Need-word-of-requires
-word-of-requires c κs =
+word-at-requires : tie.Need-word-at-requires
+word-at-requires c κs =
     let s = c .before .before .before .before .before in
     rw (c .check-alarm .ensures) (check-timed (s .args .clock) (s .pre))
 
@@ -68,7 +68,7 @@ returns-2 c =
       c .both .ensures,
       c .before .count-filled .ensures,
       c .before .before .byte-of-word2 .ensures,
-      w .word-of .ensures,
+      w .word-at .ensures,
       w .before .check-alarm .ensures,
     )
     (sym
@@ -106,7 +106,7 @@ reading-of-spec =
     enum-known-latch
     enum-told
     check-alarm-requires
-    word-of-requires
+    word-at-requires
     byte-of-word-requires-2
     count-filled-requires
     both-requires

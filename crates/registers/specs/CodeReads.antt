@@ -1,7 +1,7 @@
--- What the code computes of a read, from one channel, the clock, the latches and timer enable. These are not document
--- 01's sentences. The rules are those of Reads, and `read-parts` of proofs/Parts.antt shows that what is computed here
--- is them.
-use Prim.Native.Nat.{ℕ, _+_}
+-- Not document 01's sentences: what the code computes of a read, from one channel, the clock, the latches and the word
+-- that all channels share. The rule is `readAt` of Reads.antt, and `read-parts` of proofs/CodeReads.antt shows that the
+-- read here is the rule's.
+use Prim.Native.Nat.{ℕ}
 use mathlib.Core.Bool.{Bool, false, not, cond, _&&_}
 use lib.ListN.{getD, set}
 use lib.Dec.{eqb}
@@ -17,9 +17,9 @@ use Rattle.board.specs.declared.Latches.{Latches}
 use Rattle.board.specs.declared.Board.{Board}
 use Rattle.board.specs.Board.{heldOf, heldValue}
 use Rattle.offsets.specs.Registers.{
-  base,
   secondsLowAt,
-  within,
+  secondsHighAt,
+  inRegister,
   inTimers,
   inClock,
   inChannels,
@@ -77,24 +77,24 @@ countServing offset ls =
 -- the latch that serves the offset; elsewhere an empty one
 unfoldable pub serving : ℕ → Latches → Latch
 serving offset ls =
-    cond (within 0x208 0x20B offset) (ls .low)
-    (cond (within 0x20C 0x20F offset) (ls .high)
+    cond (inRegister secondsLowAt offset) (ls .low)
+    (cond (inRegister secondsHighAt offset) (ls .high)
     (countServing offset ls))
 
 -- that latch of a count is empty
-unfoldable pub countEmptied : ℕ → Latches → Latches
-countEmptied offset ls = cond (atCountHigh offset) (withCount (channelIndex offset) Empty ls) ls
+unfoldable pub countFreed : ℕ → Latches → Latches
+countFreed offset ls = cond (atCountHigh offset) (withCount (channelIndex offset) Empty ls) ls
 
 -- the latch that serves the offset is empty
-unfoldable pub emptied : ℕ → Latches → Latches
-emptied offset ls =
-    cond (within 0x208 0x20B offset) (withSeconds Empty (ls .high) ls)
-    (cond (within 0x20C 0x20F offset) (withSeconds (ls .low) Empty ls)
-    (countEmptied offset ls))
+unfoldable pub latchFreed : ℕ → Latches → Latches
+latchFreed offset ls =
+    cond (inRegister secondsLowAt offset) (withSeconds Empty (ls .high) ls)
+    (cond (inRegister secondsHighAt offset) (withSeconds (ls .low) Empty ls)
+    (countFreed offset ls))
 
 -- the same after byte 3 alone
 unfoldable pub freedAt : ℕ → Latches → Latches
-freedAt offset ls = cond (eqb (byteOf offset) 3) (emptied offset ls) ls
+freedAt offset ls = cond (eqb (byteOf offset) 3) (latchFreed offset ls) ls
 
 -- ---- the reading
 
@@ -145,10 +145,6 @@ abbrev pub offsetReading : ℕ → Board → Reading
 offsetReading offset b =
     readingOf (channelAt (channelIndex offset) b) (timerWord (registerOf offset) (b .«timer_enable») (b .timers))
     (b .clock) (b .latches) offset
-
--- the reading at an address
-abbrev pub readingAt : ℕ → Board → Reading
-readingAt address = offsetReading (address + base)
 
 -- the board with a reading's latches and flags
 abbrev pub afterReading : Reading → Board → Board

@@ -49,7 +49,7 @@ use Rattle.registers.specs.Reads.{
   readAt,
 }
 use Rattle.registers.specs.Calls.{readAccepted}
-use Rattle.registers.specs.Parts.{
+use Rattle.registers.specs.CodeReads.{
   channelIndex,
   atCountLow,
   atCountHigh,
@@ -59,8 +59,8 @@ use Rattle.registers.specs.Parts.{
   filled,
   countServing,
   serving,
-  countEmptied,
-  emptied,
+  countFreed,
+  latchFreed,
   freedAt,
   wordAt,
   liveReading,
@@ -68,7 +68,6 @@ use Rattle.registers.specs.Parts.{
   readingBy,
   readingOf,
   offsetReading,
-  readingAt,
   afterReading,
 }
 
@@ -167,7 +166,7 @@ module _ (o : ℕ) (b : Board) where
 
   low-freed : (ls : Latches) → within 0x208 0x20B o ≡ true →
       withSeconds (freed o (ls .low)) (ls .high) ls ≡ freedAt o ls
-  unfolding freedAt emptied
+  unfolding freedAt latchFreed
   low-freed ls e = either (eqb (byteOf o) 3) (λ t. rw (t, e)) (λ t. rw t)
 
   low-parts : (ls : Latches) → within 0x208 0x20B o ≡ true → readLow o (withLatches ls b) ≡ answer b (by ls)
@@ -182,7 +181,7 @@ module _ (o : ℕ) (b : Board) where
 
   high-freed : (ls : Latches) → within 0x208 0x20B o ≡ false → within 0x20C 0x20F o ≡ true →
       withSeconds (ls .low) (freed o (ls .high)) ls ≡ freedAt o ls
-  unfolding freedAt emptied
+  unfolding freedAt latchFreed
   high-freed ls d e = either (eqb (byteOf o) 3) (λ t. rw (t, d, e)) (λ t. rw t)
 
   high-parts : within 0x208 0x20B o ≡ false → within 0x20C 0x20F o ≡ true →
@@ -226,7 +225,7 @@ module _ (o : ℕ) (b : Board) where
 
         count-freed : within 0x0C 0x0F (placeOf o) ≡ true →
             withCount (channelOf o) (freed o (countLatch (channelOf o) b)) (b .latches) ≡ freedAt o (b .latches)
-        unfolding freedAt emptied countEmptied
+        unfolding freedAt latchFreed countFreed
         count-freed q =
             either (eqb (byteOf o) 3) (λ t. rw (t, d, e, high-at, q, index))
             (λ t. rw t
@@ -289,9 +288,9 @@ module _ (o : ℕ) (b : Board) where
 pub read-parts : (address : ℕ) (b : Board) →
     readAccepted address b
     ≡ record {
-      board = wired (afterReading (readingAt address b) b);
+      board = wired (afterReading (offsetReading (address + base) b) b);
       refusal = 0;
-      byte = readingAt address b .byte;
+      byte = offsetReading (address + base) b .byte;
     }
 unfolding readAccepted
 read-parts address b = read-at-parts (address + base) b
