@@ -51,11 +51,11 @@ impl HardwareTimer {
         let compare = self.compare;
         let control = self.control;
         let armed = self.armed;
-        let mode = control % 4;
+        let mode = control % Self::MODES;
         match mode {
-            0 => ticks_up(counter, compare),
-            1 => ticks_up(counter, compare),
-            2 => ticks_round(counter, compare, armed),
+            Self::ONE_SHOT => ticks_up(counter, compare),
+            Self::PERIODIC => ticks_up(counter, compare),
+            Self::FREE_RUNNING => ticks_round(counter, compare, armed),
             _ => ToGo::Never,
         }
     }
