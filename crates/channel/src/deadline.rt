@@ -76,10 +76,7 @@ impl HardwareTimer {
     fn waits(self, selected: bool) -> bool
         ensures { λ r. ⌜ r ≡ waiting selected self ⌝ }
     {
-        both(
-            both(both(self.enabled(), selected), self.irq_enabled()),
-            !self.pending,
-        )
+        both(both(self.runs(selected), self.irq_enabled()), !self.pending)
     }
 
     // The exact deadline of the channel, whose bit in timer enable is `selected`.
