@@ -160,4 +160,4 @@ outputCall b =
       valid = outputOf (b .controller) .valid;
       number = outputOf (b .controller) .number;
     })
-    (record { board = b; refusal = notSound; valid = false; number = 0 })
+    (record { board = b; refusal = notSound; valid = false; number = record { 0 = 0 } })

@@ -55,7 +55,7 @@ pub struct OutputAnswer {
     pub board: Board,
     pub refusal: u8,
     pub valid: bool,
-    pub number: u8,
+    pub number: SourceNumber,
 }
 
 impl Board {
@@ -277,18 +277,19 @@ impl Board {
         let controller = self.controller;
         if self.sound() {
             let o = controller::output_of(controller);
+            let number = o.number;
             return OutputAnswer {
                 board: self,
                 refusal: 0,
                 valid: o.valid,
-                number: o.number,
+                number,
             };
         }
         OutputAnswer {
             board: self,
             refusal: Self::NOT_SOUND,
             valid: false,
-            number: 0,
+            number: SourceNumber(0),
         }
     }
 }
@@ -312,7 +313,7 @@ pub fn source_refusal(number: SourceNumber, level: u8) -> u8
     if 15 < n {
         return Board::SOURCE_TOO_LARGE;
     }
-    if n == Board::LINE_SOURCE {
+    if n == Board::LINE_SOURCE.0 {
         return Board::SOURCE_OF_LINE;
     }
     if 1 < level {

@@ -6,6 +6,7 @@ use crate::channels::count_of;
 use channel::HardwareTimer;
 use clock::Clock;
 use controller::IrqController;
+use controller::SourceNumber;
 
 pub mod calls;
 mod channels;
@@ -47,7 +48,7 @@ impl Board {
     pub const TIMER_ENABLE_VALUES: u8 = 16;
 
     // The controller's source that is set to the line.
-    pub const LINE_SOURCE: u8 = 3;
+    pub const LINE_SOURCE: SourceNumber = SourceNumber(3);
 
     // Everything zero except clock control 1.
     pub fn fresh() -> Self

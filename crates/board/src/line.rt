@@ -3,7 +3,6 @@ ghost use mathlib.Core.Path.{_≡_};
 ghost use Rattle.board.specs.Board.{line, wired};
 use crate::Board;
 use crate::channels::any_asserted;
-use controller::SourceNumber;
 use wide::flags::either;
 
 impl Board {
@@ -21,7 +20,7 @@ impl Board {
         ensures { λ r. ⌜ r ≡ wired self ⌝ }
     {
         let controller = self.controller;
-        let set = controller::with_source(controller, SourceNumber(Self::LINE_SOURCE), self.line());
+        let set = controller::with_source(controller, Self::LINE_SOURCE, self.line());
         self.with_controller(set)
     }
 }

@@ -23,7 +23,8 @@ impl Board {
     pub fn sound(self) -> bool
         ensures { λ r. ⌜ (r ≡ sound self) × BoardFits self ⌝ }
     {
-        let levels = self.controller.levels;
-        both(self.sound_parts(), same(levels / 8 % 2 == 1, self.line()))
+        let controller = self.controller;
+        let level = controller::level_of(controller, Self::LINE_SOURCE);
+        both(self.sound_parts(), same(level, self.line()))
     }
 }

@@ -2,7 +2,6 @@
 use Prim.Native.Nat.{ℕ, zero, suc, _+_, _-_, _*_, _/_, _%_, _^_, _≤_, _<_}
 use mathlib.Core.Path.{_≡_, refl, sym, ap, _∙_}
 use mathlib.Core.Logic.{_↔_}
-use mathlib.Core.Bool.{false}
 use mathlib.Core.Option.{Option, none, some}
 use native.Mathlib.Nat.{
   add-div-right,
@@ -11,7 +10,6 @@ use native.Mathlib.Nat.{
   mod-eq-of-lt,
   mod-lt,
   div-le-self,
-  pow-le-pow-right,
   lt-of-lt-of-le,
   mul-le-mul,
   le-of-lt,
@@ -24,15 +22,10 @@ use native.Mathlib.Numerals.{sub-one}
 use native.Mathlib.Omega.{arith}
 use lib.Dec.{leb, ltb, lit≤}
 use borrow.Author.Tests.{leb-true, leb-false, lt-ltb, le-ltb}
-use Rattle.wide.specs.Bits.{bit}
 use Rattle.wide.proofs.Choices.{either, leb-same}
 use Rattle.wide.specs.Deadline.{due}
 use Rattle.wide.proofs.Deadlines.{Positive}
 use Rattle.channel.specs.Deadline.{inCycles}
-
--- a byte has no bit 8 or above
-pub no-bit : (k n : ℕ) → 8 ≤ k → n < 256 → false ≡ bit k n
-no-bit k n h p = rw (div-eq-of-lt (lt-of-lt-of-le p (pow-le-pow-right {n = 2} (omega arith) {i = 8} {j = k} h)))
 
 -- phase ≤ prescaler is phase < V
 pub at-most-is : (a b : ℕ) → leb a b ≡ ltb a (b + 1)

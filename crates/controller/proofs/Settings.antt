@@ -11,9 +11,9 @@ abbrev words : ℕ → ℕ → ℕ → IrqController
 words p e l = record { pending = p; enable = e; levels = l }
 
 -- H: pending bits 5 and 9, with enable 0x0200, 0x0220 and none
-setting-h : (outputOf (words 0x0220 0x0200 0) ≡ record { valid = true; number = 9 })
-    × (outputOf (words 0x0220 0x0220 0) ≡ record { valid = true; number = 5 })
-    × (outputOf (words 0x0220 0 0) ≡ record { valid = false; number = 0 })
+setting-h : (outputOf (words 0x0220 0x0200 0) ≡ record { valid = true; number = record { 0 = 9 } })
+    × (outputOf (words 0x0220 0x0220 0) ≡ record { valid = true; number = record { 0 = 5 } })
+    × (outputOf (words 0x0220 0 0) ≡ record { valid = false; number = record { 0 = 0 } })
 unfolding outputOf lowestFrom
 setting-h = (refl, refl, refl)
 

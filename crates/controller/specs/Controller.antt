@@ -60,9 +60,11 @@ pendingCleared c mask =
 
 -- the lowest enabled pending source of the n sources from k on; "none gives (0, 0)", here false and 0
 unfoldable pub lowestFrom : ℕ → ℕ → IrqController → IrqOutput
-lowestFrom zero k c = record { valid = false; number = 0 }
+lowestFrom zero k c = record { valid = false; number = record { 0 = 0 } }
 lowestFrom (suc n) k c =
-    cond (bit k (c .pending) && bit k (c .enable)) (record { valid = true; number = k }) (lowestFrom n (suc k) c)
+    cond (bit k (c .pending) && bit k (c .enable))
+    (record { valid = true; number = record { 0 = k } })
+    (lowestFrom n (suc k) c)
 
 -- `irq_output`: "The lowest enabled pending source"
 unfoldable pub outputOf : IrqController → IrqOutput

@@ -20,7 +20,7 @@ pub struct SourceNumber(pub u8);
 // Whether a source is presented to the CPU, and which.
 pub struct IrqOutput {
     pub valid: bool,
-    pub number: u8,
+    pub number: SourceNumber,
 }
 
 // One bit for each source: the requests that are latched, those that are enabled, and the levels last set.
@@ -193,6 +193,18 @@ pub fn without_pending(controller: IrqController, mask: u16) -> IrqController
     }
 }
 
+// The level that a source was last set to; false for a number that no source has.
+pub fn level_of(controller: IrqController, number: SourceNumber) -> bool
+    ensures { λ r. ⌜ r ≡ bit (number .0) (controller .levels) ⌝ }
+{
+    let source = number.0;
+    let levels = controller.levels;
+    if IrqController::SOURCE_COUNT <= source {
+        return false;
+    }
+    bit_is_set(levels, source)
+}
+
 // `irq_output`: the lowest source that is pending and enabled.
 pub fn output_of(controller: IrqController) -> IrqOutput
     ensures { λ r. ⌜ r ≡ outputOf controller ⌝ }
@@ -203,11 +215,11 @@ pub fn output_of(controller: IrqController) -> IrqOutput
     match lowest {
         0..=15 => IrqOutput {
             valid: true,
-            number: lowest as u8,
+            number: SourceNumber(lowest as u8),
         },
         _ => IrqOutput {
             valid: false,
-            number: 0,
+            number: SourceNumber(0),
         },
     }
 }

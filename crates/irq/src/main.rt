@@ -26,7 +26,7 @@ fn print_output(output: IrqOutput) {
     } else {
         io::write_all(1, b"0 ");
     }
-    io::print_decimal(1, output.number as u64);
+    io::print_decimal(1, output.number.0 as u64);
     io::write_all(1, b"\n");
 }
 

@@ -180,9 +180,9 @@ settings =
     && eqb (advancedBoard 48_000_000 settingG .clock .subsecond) 0
     -- H pending bits 5 and 9, enable 0x0200: 9; 0x0220: 5
     && settingH 0x0200 .valid
-    && eqb (settingH 0x0200 .number) 9
+    && eqb (settingH 0x0200 .number .0) 9
     && settingH 0x0220 .valid
-    && eqb (settingH 0x0220 .number) 5
+    && eqb (settingH 0x0220 .number .0) 5
     -- I set enable on, seven distinct seconds bytes: no commit
     && eqb (settingI .clock .seconds) 0
     && eqb (seconds (0 ∷ []) settingI .clock .seconds) 0x0102_0304_0506_0708

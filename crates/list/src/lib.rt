@@ -8,7 +8,6 @@ ghost use Rattle.list.specs.Refusals.{refusalAt, Sized};
 use board::Board;
 use channel::ChannelNumber;
 use channel::Cycles;
-use controller::SourceNumber;
 use controller::with_source;
 use format::Answer;
 use offsets::Registers;
@@ -191,7 +190,7 @@ pub fn run(board: Board, list: &[u8], answers: &mut [u8]) -> Outcome
         // source 3 is set to the line
         let line = b.line();
         let controller = b.controller;
-        let set = with_source(controller, SourceNumber(Board::LINE_SOURCE), line);
+        let set = with_source(controller, Board::LINE_SOURCE, line);
         b.controller = set;
         let told = perform::answered(tag, cycles, line, answer);
         format::put_record(answers, written, tag, front.size, told);

@@ -7,11 +7,11 @@ use Rattle.controller.specs.declared.IrqController.{IrqController}
 use Rattle.controller.specs.declared.IrqOutput.{IrqOutput}
 use Rattle.pec.specs.Packed.{controllerOf, packed, packedOutput}
 
-pub valid-output : (o : IrqOutput) → o .valid ≡ true → 256 + o .number ≡ packedOutput o
+pub valid-output : (o : IrqOutput) → o .valid ≡ true → 256 + o .number .0 ≡ packedOutput o
 unfolding packedOutput
 valid-output o e = rw e refl
 
-pub no-output : (o : IrqOutput) → o .valid ≡ false → o .number ≡ packedOutput o
+pub no-output : (o : IrqOutput) → o .valid ≡ false → o .number .0 ≡ packedOutput o
 unfolding packedOutput
 no-output o e = rw e (omega arith)
 

@@ -16,4 +16,4 @@ packed c = (c .pending * 65536 + c .enable) * 65536 + c .levels
 
 -- the number of an output: valid from bit 8 on, the source's number below
 unfoldable pub packedOutput : IrqOutput → ℕ
-packedOutput o = flagOf (o .valid) * 256 + o .number
+packedOutput o = flagOf (o .valid) * 256 + o .number .0

@@ -97,9 +97,9 @@ pub extern "C" fn pec_irqc_output(word: u64) -> u16
 {
     let output = controller::output_of(unpack(word));
     if output.valid {
-        return 0x100 + output.number as u16;
+        return 0x100 + output.number.0 as u16;
     }
-    output.number as u16
+    output.number.0 as u16
 }
 
 // `read`

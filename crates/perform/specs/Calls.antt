@@ -65,7 +65,7 @@ skipTold r = record { board = r .board; refusal = r .refusal; value = be 8 (r .p
 -- '→ valid, number'
 abbrev pub outputTold : OutputAnswer → Told
 outputTold r =
-    record { board = r .board; refusal = r .refusal; value = be 1 (flagOf (r .valid)) ++ be 1 (r .number) }
+    record { board = r .board; refusal = r .refusal; value = be 1 (flagOf (r .valid)) ++ be 1 (r .number .0) }
 
 -- the host time of call 01
 abbrev pub hostAt : List ℕ → HostTime

@@ -69,4 +69,4 @@ partsAt tag l h q =
     (cond (eqb tag 8) (record { host = h; controller = q; value = be 1 (byteRead q (beAt l 3 4)) })
     (cond (eqb tag 9)
     (record { host = h; controller = byteWritten q (beAt l 3 4) (beAt l 7 1); value = [] })
-    (record { host = h; controller = q; value = be 1 (flagOf (outputOf q .valid)) ++ be 1 (outputOf q .number) }))))
+    (record { host = h; controller = q; value = be 1 (flagOf (outputOf q .valid)) ++ be 1 (outputOf q .number .0) }))))

@@ -212,7 +212,7 @@ pub fn effect_of(host: HostTime, controller: IrqController, tag: u8, rest: &[u8]
             Effect {
                 host,
                 controller,
-                answer: Answer::Pair(flag(o.valid), o.number),
+                answer: Answer::Pair(flag(o.valid), o.number.0),
             }
         }
     }

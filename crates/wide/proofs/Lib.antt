@@ -1,6 +1,7 @@
 pub mod Choices
 pub mod Deadlines
 pub mod BigEndian
+pub mod Bits
 pub mod Quotients
 pub mod TwoWords
 mod Products

@@ -15,9 +15,9 @@ output-of-requires c κs = search needs
 returns : tie.Need-returns
 unfolding outputCall
 returns c =
-    let b = c .before .before .before .before .args .self in
-    let s = sym (c .before .before .sound .ensures .0) ∙ c .before .if1 .taken in
-    rw (s, wired-sound b s, c .output-of .ensures)
+    let b = c .before .before .before .before .before .args .self in
+    let s = sym (c .before .before .before .sound .ensures .0) ∙ c .before .before .if1 .taken in
+    rw (s, wired-sound b s, c .before .output-of .ensures)
 
 returns-2 : tie.Need-returns-2
 unfolding outputCall

@@ -4,6 +4,9 @@ use borrow.Author.Needs.{needs}
 use Rattle.board.proofs.Board.sound.Statement.{statement}
 use Rattle.board.proofs.Board.sound.Tie as tie
 
+level-of-requires : tie.Need-level-of-requires
+level-of-requires c κs = search needs
+
 sound-parts-requires : tie.Need-sound-parts-requires
 sound-parts-requires c κs = search needs
 
@@ -24,10 +27,11 @@ returns c = (
     c .before .same .ensures,
     c .before .before .line .ensures,
     c .before .before .before .sound-parts .ensures .0,
+    c .before .before .before .before .level-of .ensures,
   ),
   c .before .before .before .sound-parts .ensures .1,
 )
 
 pub sound-spec : {M : Type 1} → statement M
 sound-spec =
-    tie.close (tie.spec sound-parts-requires line-requires same-requires both-requires returns)
+    tie.close (tie.spec level-of-requires sound-parts-requires line-requires same-requires both-requires returns)

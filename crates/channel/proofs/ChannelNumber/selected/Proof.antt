@@ -1,11 +1,11 @@
 -- `ChannelNumber::selected` meets its contract. Assumes nothing.
-use Rattle.channel.proofs.Prescaling.{no-bit}
+use Rattle.wide.proofs.Bits.{no-bit}
 use borrow.Author.Needs.{needs}
 use Rattle.channel.proofs.ChannelNumber.selected.Statement.{statement}
 use Rattle.channel.proofs.ChannelNumber.selected.Tie as tie
 
 returns : tie.Need-returns
-returns c = no-bit (c .before .args .self .0) (c .before .args .timer-enable) (c .if1 .taken) (search needs)
+returns c = no-bit 8 (c .before .args .self .0) (c .before .args .timer-enable) (c .if1 .taken) (search needs)
 
 shr-result : tie.Need-shr-result
 shr-result c = search needs
