@@ -1,11 +1,12 @@
--- What ticks leave of a channel. Assumes nothing.
+-- What ticks leave of a channel, and the cases of a byte written to it. Assumes nothing.
 use Prim.Native.Nat.{ℕ, zero, suc, _+_, _-_, _*_, _/_, _%_, _^_, _<_, min, suc-le-suc}
 use native.Mathlib.Omega.{arith}
 use mathlib.Core.Path.{_≡_, refl, ap}
 use mathlib.Core.Bool.{Bool, true, false, _&&_}
 use lib.Dec.{leb, ltb, eqb}
-use borrow.Author.Tests.{leb-false, ltb-false}
+use borrow.Author.Tests.{leb-false, ltb-false, eqb-true}
 use Rattle.wide.specs.Number.{largest}
+use Rattle.wide.specs.Fields.{withByte}
 use Rattle.wide.proofs.Choices.{choose}
 use Rattle.channel.specs.declared.HardwareTimer.{HardwareTimer}
 use Rattle.channel.specs.Channel.{
@@ -15,6 +16,7 @@ use Rattle.channel.specs.Channel.{
   disabled,
   withCounter,
   withCompare,
+  withReload,
   withFlags,
   setPending,
   clearEnable,
@@ -30,6 +32,42 @@ use Rattle.channel.specs.Modes.{
   tickedIn,
   ticked,
 }
+use Rattle.channel.specs.Registers.{
+  controlAt,
+  countLowAt,
+  countHighAt,
+  compareLowAt,
+  compareHighAt,
+  reloadLowAt,
+  reloadHighAt,
+  prescalerAt,
+  controlWritten,
+  compareWritten,
+  prescalerWritten,
+  byteWritten,
+}
+
+-- ---- a byte written
+
+-- a property of the channel after it, by the field that the register has
+pub written-cases : (P : HardwareTimer → Type 0) (register i v : ℕ) (h : HardwareTimer) →
+    (register ≡ controlAt → (w : ℕ) → P (controlWritten w h)) → ((n : ℕ) → P (withCounter n h)) →
+    ((n : ℕ) → P (compareWritten n h)) → ((n : ℕ) → P (withReload n h)) → ((n : ℕ) → P (prescalerWritten n h)) → P h →
+    P (byteWritten register i v h)
+unfolding byteWritten
+written-cases P register i v h control counter compare reload prescaler none =
+    choose P (eqb register controlAt)
+    (λ e. control (eqb-true register controlAt e) (withByte (3 - i) v (h .control)))
+    (λ _. choose P (eqb register countLowAt) (λ _. counter (withByte (3 - i) v (h .counter)))
+    (λ _. choose P (eqb register countHighAt) (λ _. counter (withByte (7 - i) v (h .counter)))
+    (λ _. choose P (eqb register compareLowAt) (λ _. compare (withByte (3 - i) v (h .compare)))
+    (λ _. choose P (eqb register compareHighAt) (λ _. compare (withByte (7 - i) v (h .compare)))
+    (λ _. choose P (eqb register reloadLowAt) (λ _. reload (withByte (3 - i) v (h .reload)))
+    (λ _. choose P (eqb register reloadHighAt) (λ _. reload (withByte (7 - i) v (h .reload)))
+    (λ _. choose P (eqb register prescalerAt) (λ _. prescaler (withByte (3 - i) v (h .prescaler)))
+    (λ _. none))))))))
+
+-- ---- ticks
 
 irq-kept : (n : ℕ) → irqEnabledOf (disabled n) ≡ irqEnabledOf n
 unfolding irqEnabledOf disabled

@@ -1,5 +1,6 @@
 -- The channel's law for the deadline: what is due after c cycles at t is what was due at c + t, for every mode,
--- prescaler and phase; and what an advance leaves of pending and interrupt enable. Assumes nothing.
+-- prescaler and phase; what an advance leaves of pending and interrupt enable; and where a channel, or its part of the
+-- line, stays as it was. Assumes nothing.
 use Prim.Native.Nat.{ℕ, zero, suc, _+_, _-_, _/_, _%_, _^_, _≤_, _<_, min}
 use native.Mathlib.Nat.{div-eq-of-lt, add-zero, zero-add}
 use native.Mathlib.Omega.{arith}
@@ -29,7 +30,8 @@ use Rattle.channel.specs.Modes.{
   ticked,
 }
 use Rattle.channel.specs.Deadline.{ticksToGo, deadlineOf}
-use Rattle.channel.proofs.Keeping.{Kept}
+use Rattle.channel.specs.Registers.{byteWritten}
+use Rattle.channel.proofs.Keeping.{Kept, written-cases}
 use Rattle.channel.proofs.Distances.{distance-positive, distance-after}
 use Rattle.channel.proofs.Prescaling.{due-in-cycles}
 use Rattle.channel.proofs.Sound.{
@@ -280,3 +282,19 @@ module _ (selected : Bool) (c : ℕ) (h : HardwareTimer) (f : TimerFits h) (s : 
       ∙ due-after t
       ∙ ap (λ o. due o (c + t)) e
       ∙ leb-same d (c + t) (d - c) t (λ p. omega arith) (λ p. omega arith))
+
+-- ---- what stays as it was
+
+-- 'A channel that does not run is untouched by an advance, phase included.'
+pub advanced-still : (selected : Bool) (c : ℕ) (h : HardwareTimer) → runs selected h ≡ false →
+    advanced selected c h ≡ h
+unfolding advanced
+advanced-still selected c h e = rw e
+
+-- a byte written to a register other than control keeps what the channel gives to the line
+pub written-line : (register i v : ℕ) (h : HardwareTimer) → (register ≡ 0 → ⊥) →
+    lineOf (byteWritten register i v h) ≡ lineOf h
+unfolding lineOf
+written-line register i v h other =
+    written-cases (λ r. lineOf r ≡ lineOf h) register i v h (λ e. absurd (other e)) (λ _. refl) (λ _. refl) (λ _. refl)
+    (λ _. refl) refl

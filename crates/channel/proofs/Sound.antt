@@ -1,32 +1,19 @@
 -- Soundness of a channel, and that every operation keeps it. Assumes nothing.
-use Prim.Native.Nat.{ℕ, _+_, _-_, _<_}
+use Prim.Native.Nat.{ℕ, _+_, _<_}
 use native.Mathlib.Nat.{mod-lt}
 use native.Mathlib.Omega.{arith}
 use mathlib.Core.Path.{_≡_, refl}
 use mathlib.Core.Bool.{Bool, true}
-use lib.Dec.{ltb, eqb}
+use lib.Dec.{ltb}
 use borrow.Author.Tests.{ltb-true, lt-ltb}
 use Rattle.wide.specs.Bits.{bit}
-use Rattle.wide.specs.Fields.{withByte}
 use Rattle.wide.proofs.Choices.{choose, and-parts, and-join}
 use Rattle.channel.specs.declared.HardwareTimer.{HardwareTimer}
 use Rattle.channel.specs.Channel.{TimerFits, freshTimer, divisor, soundTimer, withPhase, withFlags}
 use Rattle.channel.specs.Prescaler.{runs, ticksOf, phaseAfter, advanced}
 use Rattle.channel.specs.Modes.{ticked}
-use Rattle.channel.specs.Registers.{
-  controlAt,
-  countLowAt,
-  countHighAt,
-  compareLowAt,
-  compareHighAt,
-  reloadLowAt,
-  reloadHighAt,
-  prescalerAt,
-  controlWritten,
-  prescalerWritten,
-  byteWritten,
-}
-use Rattle.channel.proofs.Keeping.{Kept, ticked-keeps}
+use Rattle.channel.specs.Registers.{controlWritten, prescalerWritten, byteWritten}
+use Rattle.channel.proofs.Keeping.{Kept, ticked-keeps, written-cases}
 
 -- the clauses, taken apart and joined
 pub sound-control : (h : HardwareTimer) → soundTimer h ≡ true → h .control < 16
@@ -90,15 +77,7 @@ module _ (h : HardwareTimer) (e : soundTimer h ≡ true) where
       (λ _. sound-timer _ (omega arith) (sound-phase h e))
 
   pub byte-written-sound : (register i v : ℕ) → soundTimer (byteWritten register i v h) ≡ true
-  unfolding byteWritten soundTimer
+  unfolding soundTimer
   byte-written-sound register i v =
-      choose Sound (eqb register controlAt) (λ _. control-written-sound (withByte (3 - i) v (h .control)))
-      (λ _. choose Sound (eqb register countLowAt) (λ _. e)
-      (λ _. choose Sound (eqb register countHighAt) (λ _. e)
-      (λ _. choose Sound (eqb register compareLowAt) (λ _. e)
-      (λ _. choose Sound (eqb register compareHighAt) (λ _. e)
-      (λ _. choose Sound (eqb register reloadLowAt) (λ _. e)
-      (λ _. choose Sound (eqb register reloadHighAt) (λ _. e)
-      (λ _. choose Sound (eqb register prescalerAt)
-      (λ _. sound-timer (prescalerWritten (withByte (3 - i) v (h .prescaler)) h) (sound-control h e) (omega arith))
-      (λ _. e))))))))
+      written-cases Sound register i v h (λ _. control-written-sound) (λ _. e) (λ _. e) (λ _. e)
+      (λ n. sound-timer (prescalerWritten n h) (sound-control h e) (omega arith)) e

@@ -51,11 +51,11 @@ impl HardwareTimer {
         let compare = self.compare;
         let control = self.control;
         let armed = self.armed;
-        let mode = control % 4;
+        let mode = control % Self::MODES;
         match mode {
-            0 => ticks_up(counter, compare),
-            1 => ticks_up(counter, compare),
-            2 => ticks_round(counter, compare, armed),
+            Self::ONE_SHOT => ticks_up(counter, compare),
+            Self::PERIODIC => ticks_up(counter, compare),
+            Self::FREE_RUNNING => ticks_round(counter, compare, armed),
             _ => ToGo::Never,
         }
     }
@@ -76,10 +76,7 @@ impl HardwareTimer {
     fn waits(self, selected: bool) -> bool
         ensures { λ r. ⌜ r ≡ waiting selected self ⌝ }
     {
-        both(
-            both(both(self.enabled(), selected), self.irq_enabled()),
-            !self.pending,
-        )
+        both(both(self.runs(selected), self.irq_enabled()), !self.pending)
     }
 
     // The exact deadline of the channel, whose bit in timer enable is `selected`.

@@ -18,12 +18,15 @@ pub struct Ticks(pub u64);
 pub struct ChannelNumber(pub u8);
 
 impl ChannelNumber {
+    // Timer enable is a byte: no channel from this number on has a bit in it.
+    const TIMER_ENABLE_BITS: u8 = 8;
+
     // The channel's bit in timer enable.
     pub fn selected(self, timer_enable: u8) -> bool
         ensures { λ r. ⌜ r ≡ bit (self .0) «timer_enable» ⌝ }
     {
         let n = self.0;
-        if 8 <= n {
+        if Self::TIMER_ENABLE_BITS <= n {
             return false;
         }
         (timer_enable >> n) % 2 == 1
@@ -32,7 +35,6 @@ impl ChannelNumber {
 
 // The small fields stand first, which leaves the fewest bytes between fields.
 pub struct HardwareTimer {
-    // Bits 0 and 1 the mode, 2 enable, 3 interrupt enable.
     pub control: u8,
     pub pending: bool,
     pub armed: bool,
@@ -45,6 +47,26 @@ pub struct HardwareTimer {
 }
 
 impl HardwareTimer {
+    // Control has the mode in bits 0 and 1, enable in bit 2 and interrupt enable in bit 3. The remainder by MODES is the
+    // mode; ENABLE and IRQ_ENABLE are what their bits count for.
+    const MODES: u8 = 4;
+
+    const ENABLE: u8 = 4;
+
+    const IRQ_ENABLE: u8 = 8;
+
+    const CONTROL_VALUES: u8 = 16;
+
+    // The bit of a written control word that resets the channel. The bits below it are control.
+    const RESET: u64 = 16;
+
+    // The modes. The fourth does nothing.
+    const ONE_SHOT: u8 = 0;
+
+    const PERIODIC: u8 = 1;
+
+    const FREE_RUNNING: u8 = 2;
+
     // A channel of the fresh board.
     pub fn fresh() -> Self
         ensures { λ r. ⌜ r ≡ freshTimer ⌝ }
@@ -80,13 +102,13 @@ impl HardwareTimer {
     pub fn enabled(self) -> bool
         ensures { λ r. ⌜ r ≡ enabledOf (self .control) ⌝ }
     {
-        self.control / 4 % 2 == 1
+        self.control / Self::ENABLE % 2 == 1
     }
 
     pub fn irq_enabled(self) -> bool
         ensures { λ r. ⌜ r ≡ irqEnabledOf (self .control) ⌝ }
     {
-        self.control / 8 % 2 == 1
+        self.control / Self::IRQ_ENABLE % 2 == 1
     }
 
     // What the channel gives to the line.
@@ -104,7 +126,7 @@ impl HardwareTimer {
     pub fn sound(self) -> bool
         ensures { λ r. ⌜ (r ≡ soundTimer self) × TimerFits self ⌝ }
     {
-        if self.control < 16 {
+        if self.control < Self::CONTROL_VALUES {
             self.phase <= self.prescaler
         } else {
             false

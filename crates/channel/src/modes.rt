@@ -16,21 +16,22 @@ fn saturating_add(a: u64, b: u64) -> u64
 }
 
 impl HardwareTimer {
-    // Pending set and enable cleared.
+    // Pending set and enable cleared, which stands between the mode and interrupt enable.
     fn fired(mut self) -> Self
         ensures { λ r. ⌜ r ≡ clearEnable (setPending self) ⌝ }
     {
         let control = self.control;
         self.pending = true;
-        self.control = control / 8 * 8 + control % 4;
+        self.control = control / Self::IRQ_ENABLE * Self::IRQ_ENABLE + control % Self::MODES;
         self
     }
 
-    fn advance_one_shot(mut self, t: u64) -> Self
-        ensures { λ r. ⌜ r ≡ oneShot t self ⌝ }
+    fn advance_one_shot(mut self, ticks: Ticks) -> Self
+        ensures { λ r. ⌜ r ≡ oneShot (ticks .0) self ⌝ }
     {
         let counter = self.counter;
         let compare = self.compare;
+        let t = ticks.0;
         if compare <= counter {
             return self.fired();
         }
@@ -75,20 +76,21 @@ impl HardwareTimer {
         }
     }
 
-    fn advance_periodic(mut self, t: u64) -> Self
-        ensures { λ r. ⌜ r ≡ periodic t self ⌝ }
+    fn advance_periodic(mut self, ticks: Ticks) -> Self
+        ensures { λ r. ⌜ r ≡ periodic (ticks .0) self ⌝ }
     {
         let counter = self.counter;
-        self.counter = saturating_add(counter, t);
+        self.counter = saturating_add(counter, ticks.0);
         self.matched()
     }
 
-    // Whether t ticks reach the compare point. A distance of 0 means 2^64, which no t reaches.
-    fn reaches(self, t: u64) -> bool
-        ensures { λ r. ⌜ r ≡ leb (distance (self .counter) (self .compare)) t ⌝ }
+    // Whether the ticks reach the compare point. A distance of 0 means 2^64, which no number of ticks reaches.
+    fn reaches(self, ticks: Ticks) -> bool
+        ensures { λ r. ⌜ r ≡ leb (distance (self .counter) (self .compare)) (ticks .0) ⌝ }
     {
         let counter = self.counter;
         let compare = self.compare;
+        let t = ticks.0;
         let distance = std::num::wrapping_sub_u64(compare, counter);
         if distance == 0 {
             return false;
@@ -96,12 +98,12 @@ impl HardwareTimer {
         distance <= t
     }
 
-    fn advance_free_running(mut self, t: u64) -> Self
-        ensures { λ r. ⌜ r ≡ freeRunning t self ⌝ }
+    fn advance_free_running(mut self, ticks: Ticks) -> Self
+        ensures { λ r. ⌜ r ≡ freeRunning (ticks .0) self ⌝ }
     {
         let counter = self.counter;
-        let hit = self.reaches(t);
-        self.counter = std::num::wrapping_add_u64(counter, t);
+        let hit = self.reaches(ticks);
+        self.counter = std::num::wrapping_add_u64(counter, ticks.0);
         if self.armed {
             if hit {
                 self.pending = true;
@@ -119,11 +121,11 @@ impl HardwareTimer {
         if t == 0 {
             return self;
         }
-        let mode = control % 4;
+        let mode = control % Self::MODES;
         match mode {
-            0 => self.advance_one_shot(t),
-            1 => self.advance_periodic(t),
-            2 => self.advance_free_running(t),
+            Self::ONE_SHOT => self.advance_one_shot(ticks),
+            Self::PERIODIC => self.advance_periodic(ticks),
+            Self::FREE_RUNNING => self.advance_free_running(ticks),
             _ => self,
         }
     }

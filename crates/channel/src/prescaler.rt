@@ -1,10 +1,11 @@
 // The prescaler: the only place where cycles become ticks.
 ghost use mathlib.Core.Path.{_≡_};
 ghost use Prim.Native.Nat.{_≤_};
-ghost use Rattle.channel.specs.Prescaler.{ticksOf, phaseAfter, advanced};
+ghost use Rattle.channel.specs.Prescaler.{ticksOf, phaseAfter, runs, advanced};
 use crate::Cycles;
 use crate::HardwareTimer;
 use crate::Ticks;
+use wide::flags::both;
 
 // What the prescaler makes of a number of cycles.
 struct Scaled {
@@ -41,6 +42,13 @@ impl HardwareTimer {
             ticks: Ticks(rest / v + 1),
             phase: (rest % v) as u32,
         }
+    }
+
+    // Whether cycles move the channel, whose bit in timer enable is `selected`.
+    pub fn runs(self, selected: bool) -> bool
+        ensures { λ r. ⌜ r ≡ runs selected self ⌝ }
+    {
+        both(self.enabled(), selected)
     }
 
     // The channel after the cycles, as its mode leaves it; `advance_cycles` makes it anew of its fields.

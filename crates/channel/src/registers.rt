@@ -57,8 +57,8 @@ impl HardwareTimer {
     fn write_control(mut self, word: u64) -> Self
         ensures { λ r. ⌜ r ≡ controlWritten word self ⌝ }
     {
-        self.control = (word % 16) as u8;
-        if word / 16 % 2 == 1 {
+        self.control = (word % Self::RESET) as u8;
+        if word / Self::RESET % 2 == 1 {
             self.counter = 0;
             self.phase = 0;
             self.pending = false;

@@ -3,7 +3,9 @@ use Prim.Native.Nat.{ℕ, _≤_, _<_}
 use native.Mathlib.Omega.{arith}
 use mathlib.Core.Path.{_≡_}
 use mathlib.Core.Bool.{Bool, true, false, and-false}
-use borrow.Author.Tests.{le-leb, lt-leb}
+use lib.Dec.{leb}
+use borrow.Author.Tests.{leb-true, le-leb, lt-leb}
+use Rattle.wide.proofs.Choices.{and-parts}
 use Rattle.offsets.specs.Registers.{within, inTimers, inClock, inChannels}
 
 -- ---- one range
@@ -17,6 +19,11 @@ module _ (first last n : ℕ) where
 
   pub above : last < n → within first last n ≡ false
   above p = simp (lt-leb n last p, and-false)
+
+  pub bounds : within first last n ≡ true → (first ≤ n) × (n ≤ last)
+  bounds e =
+      let p = and-parts (leb first n) (leb n last) e in
+      (leb-true first n (p .0), leb-true n last (p .1))
 
 -- ---- the three blocks
 

@@ -36,7 +36,7 @@ pub fn place_of(offset: u32) -> u32
 
 // ---- one field of the board
 
-pub(crate) fn channel_at(board: Board, number: ChannelNumber) -> HardwareTimer
+pub fn channel_at(board: Board, number: ChannelNumber) -> HardwareTimer
     requires { ⌜ number .0 < 4 ⌝ }
     ensures { λ r. ⌜ r ≡ channelAt (number .0) board ⌝ }
 {
@@ -44,7 +44,7 @@ pub(crate) fn channel_at(board: Board, number: ChannelNumber) -> HardwareTimer
     board.timers[i]
 }
 
-pub(crate) fn with_channel(mut board: Board, number: ChannelNumber, timer: HardwareTimer) -> Board
+pub fn with_channel(mut board: Board, number: ChannelNumber, timer: HardwareTimer) -> Board
     requires { ⌜ number .0 < 4 ⌝ }
     ensures { λ r. ⌜ r ≡ withChannel (number .0) timer board ⌝ }
 {
@@ -53,7 +53,7 @@ pub(crate) fn with_channel(mut board: Board, number: ChannelNumber, timer: Hardw
     board
 }
 
-pub(crate) fn with_timer_enable(mut board: Board, timer_enable: u8) -> Board
+pub fn with_timer_enable(mut board: Board, timer_enable: u8) -> Board
     ensures { λ r. ⌜ r ≡ withTimerEnable «timer_enable» board ⌝ }
 {
     board.timer_enable = timer_enable;

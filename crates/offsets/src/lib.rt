@@ -5,7 +5,7 @@ pub mod words;
 pub mod writes;
 
 // Offsets of the registers that no channel has, and of the channels' blocks. A name that ends in LAST is of the last
-// byte of a register or a block.
+// byte of a register, or of those blocks.
 pub struct Registers;
 
 impl Registers {
@@ -19,13 +19,13 @@ impl Registers {
 
     pub const TIMER_ENABLE: u32 = 0x184;
 
-    pub const TIMER_ENABLE_LAST: u32 = 0x187;
+    pub const TIMER_ENABLE_LAST: u32 = Self::TIMER_ENABLE + 3;
 
     pub const TIMER_PENDING: u32 = 0x188;
 
     pub const TIMER_ACK: u32 = 0x18C;
 
-    pub const TIMER_LAST: u32 = 0x18F;
+    pub const TIMER_ACK_LAST: u32 = Self::TIMER_ACK + 3;
 
     pub const RTC_CTRL: u32 = 0x200;
 
@@ -33,11 +33,11 @@ impl Registers {
 
     pub const RTC_SECONDS_LO: u32 = 0x208;
 
-    pub const RTC_SECONDS_LO_LAST: u32 = 0x20B;
+    pub const RTC_SECONDS_LO_LAST: u32 = Self::RTC_SECONDS_LO + 3;
 
     pub const RTC_SECONDS_HI: u32 = 0x20C;
 
-    pub const RTC_SECONDS_HI_LAST: u32 = 0x20F;
+    pub const RTC_SECONDS_HI_LAST: u32 = Self::RTC_SECONDS_HI + 3;
 
     pub const RTC_SUBSEC: u32 = 0x210;
 
@@ -49,7 +49,7 @@ impl Registers {
 
     pub const RTC_ACK: u32 = 0x220;
 
-    pub const RTC_LAST: u32 = 0x223;
+    pub const RTC_ACK_LAST: u32 = Self::RTC_ACK + 3;
 
     pub const TIMER_CHANNEL_BASE: u32 = 0x400;
 

@@ -1,5 +1,5 @@
--- A property of every channel is kept where each is changed by its number, and where one is changed; and a byte
--- written to a channel keeps its words words. Assumes nothing.
+-- A property of every channel is kept where each is changed by its number, and where one is changed, and so is what the
+-- channels give together; and a byte written to a channel keeps its words words. Assumes nothing.
 use Prim.Native.Nat.{ℕ, zero, suc, _-_, _^_, _<_}
 use native.Mathlib.Omega.{arith}
 use mathlib.Core.Path.{_≡_, refl}
@@ -44,6 +44,15 @@ module _ {A : Type 0} (P : A → Type 0) where
   set-all f keeps d n [] h = h
   set-all f keeps d zero (x ∷ xs) h = (keeps x (h .0), h .1)
   set-all f keeps d (suc n) (x ∷ xs) h = (h .0, set-all f keeps d n xs (h .1))
+
+-- what the elements give is the same where one is changed that gives the same
+pub set-fold : {A B : Type 0} (g : A → B) (join : B → B → B) (z : B) (f : A → A) → ((x : A) → g (f x) ≡ g x) →
+    (d : A) (n k : ℕ) (xs : List A) →
+    foldFrom (λ _ x. g x) join z k (set xs n (f (getD xs n d))) ≡ foldFrom (λ _ x. g x) join z k xs
+unfolding foldFrom
+set-fold g join z f same d n k [] = refl
+set-fold g join z f same d zero k (x ∷ xs) = rw (same x)
+set-fold g join z f same d (suc n) k (x ∷ xs) = rw (set-fold g join z f same d n (suc k) xs)
 
 -- ---- a sound machine channel
 

@@ -1,24 +1,37 @@
 -- A read by the latches as they are before it. Byte 0 of the clock's low seconds is read from the word that it
 -- latches. At every other offset the latch that serves is the one before the read: byte 0 of a count's low word fills
--- the latch of its high word, which serves other offsets. Assumes nothing.
-use Prim.Native.Nat.{ℕ}
+-- the latch of its high word, which serves other offsets. At a channel's register other than its count no latch has a
+-- part. Assumes nothing.
+use Prim.Native.Nat.{ℕ, _≤_}
 use native.Mathlib.Omega.{arith}
 use mathlib.Core.Path.{_≡_, refl, sym, ap, _∙_}
-use mathlib.Core.Bool.{true, false, false≢true}
+use mathlib.Core.Bool.{true, false, not, _&&_, false≢true}
 use lib.Dec.{eqb}
-use borrow.Author.Tests.{eqb-true}
+use borrow.Author.Tests.{eqb-true, eqb-false, ne-eqb, not-true}
 use Rattle.wide.specs.Words.{lowWord, highWord}
 use Rattle.wide.proofs.Choices.{choose, and-parts}
 use Rattle.channel.specs.declared.HardwareTimer.{HardwareTimer}
-use Rattle.channel.specs.Registers.{countLowAt}
+use Rattle.channel.specs.Registers.{countLowAt, countHighAt, wordOf}
 use Rattle.clock.specs.declared.Clock.{Clock}
 use Rattle.clock.specs.Clock.{rateOf, timeSeconds, checkAlarm}
 use Rattle.board.specs.declared.Latch.the-variants.{Empty, Held}
 use Rattle.board.specs.declared.Latches.{Latches}
+use Rattle.board.specs.declared.Board.{Board}
 use Rattle.board.specs.Board.{heldOf}
-use Rattle.offsets.specs.Registers.{secondsLowAt, inChannels, placeOf, byteOfWord}
-use Rattle.offsets.proofs.Ranges.{above}
-use Rattle.registers.specs.Parts.{
+use Rattle.offsets.specs.Registers.{
+  secondsLowAt,
+  inChannels,
+  registerOf,
+  byteOf,
+  placeOf,
+  byteOfWord,
+  channelAt,
+}
+use Rattle.offsets.specs.Words.{timerWord}
+use Rattle.offsets.proofs.Ranges.{above, bounds}
+use Rattle.registers.specs.declared.reads.Reading.{Reading}
+use Rattle.registers.specs.CodeReads.{
+  channelIndex,
   atCountLow,
   atCountHigh,
   withSeconds,
@@ -27,12 +40,14 @@ use Rattle.registers.specs.Parts.{
   countServing,
   serving,
   freedAt,
+  wordAt,
   liveReading,
   latchReading,
   readingBy,
   readingOf,
+  offsetReading,
+  plainAt,
 }
-use Rattle.registers.proofs.Parts.{bounds}
 
 -- ---- a count's low word and its high word are different places
 
@@ -76,6 +91,7 @@ module _ (h : HardwareTimer) (shared : ℕ) (k : Clock) (ls : Latches) (o : ℕ)
             withSeconds (Held (lowWord (timeSeconds (rateOf k) k))) (Held (highWord (timeSeconds (rateOf k) k))) ls;
         pending = k .alarm .pending;
         armed = k .alarm .armed;
+        rose = false;
       }
   unfolding readingOf readingBy filled serving freedAt
   by-seconds e = rw e
@@ -89,6 +105,63 @@ module _ (h : HardwareTimer) (shared : ℕ) (k : Clock) (ls : Latches) (o : ℕ)
     -- no latch serves
     pub by-register : serving o ls ≡ Empty →
         readingOf h shared k ls o
-        ≡ liveReading h shared (checkAlarm (rateOf k) k) (countFilled o (h .counter) ls) o
+        ≡ liveReading h shared (checkAlarm (rateOf k) k) (k .alarm .pending) (countFilled o (h .counter) ls) o
     unfolding readingOf readingBy filled
     by-register s = rw (n, filled-serves o (h .counter) ls, s)
+
+-- ---- a channel's register that no latch has to do with
+
+module _ (o : ℕ) (p : plainAt o ≡ true) where
+  plain-in : inChannels o ≡ true
+  unfolding plainAt
+  plain-in = and-parts (inChannels o) _ p .0
+
+  pub plain-range : (0x400 ≤ o) × (o ≤ 0x4FF)
+  plain-range = bounds 0x400 0x4FF o plain-in
+
+  -- neither word of a count
+  plain-not : (eqb (registerOf (placeOf o)) countLowAt ≡ false) × (eqb (registerOf (placeOf o)) countHighAt ≡ false)
+  unfolding plainAt
+  plain-not =
+      let low = eqb (registerOf (placeOf o)) countLowAt in
+      let high = eqb (registerOf (placeOf o)) countHighAt in
+      let t = and-parts (not low) (not high) (and-parts (inChannels o) (not low && not high) p .1) in
+      (not-true low (t .0), not-true high (t .1))
+
+  plain-unserved : (ls : Latches) → serving o ls ≡ Empty
+  unfolding serving countServing atCountHigh
+  plain-unserved ls =
+      let first = plain-range .0 in
+      rw (above 0x208 0x20B o (omega (arith, first)), above 0x20C 0x20F o (omega (arith, first)), plain-in, plain-not .1)
+
+  plain-unfilled : (counter : ℕ) (ls : Latches) → countFilled o counter ls ≡ ls
+  unfolding countFilled atCountLow
+  plain-unfilled counter ls =
+      let n = eqb-false (registerOf (placeOf o)) countLowAt (plain-not .0) in
+      rw (plain-in, ne-eqb (placeOf o) countLowAt (λ h. n (omega (arith, h))))
+
+  -- the register is read live, of the channel alone, and the latches stay
+  pub plain-reading : (b : Board) →
+      offsetReading o b
+      ≡ record {
+        byte = byteOfWord (byteOf o) (wordOf (registerOf (placeOf o)) (channelAt (channelIndex o) b));
+        latches = b .latches;
+        pending = checkAlarm (rateOf (b .clock)) (b .clock) .alarm .pending;
+        armed = checkAlarm (rateOf (b .clock)) (b .clock) .alarm .armed;
+        rose = checkAlarm (rateOf (b .clock)) (b .clock) .alarm .pending && not (b .clock .alarm .pending);
+      }
+  unfolding wordAt
+  plain-reading b =
+      let first = plain-range .0 in
+      let h = channelAt (channelIndex o) b in
+      by-register h (timerWord (registerOf o) (b .«timer_enable») (b .timers)) (b .clock) (b .latches) o
+      (ne-eqb o secondsLowAt (λ e. omega (arith, first, e))) (plain-unserved (b .latches))
+      ∙ rw (
+        plain-unfilled (h .counter) (b .latches),
+        above 0x180 0x18F o (omega (arith, first)),
+        above 0x200 0x223 o (omega (arith, first)),
+        plain-in,
+      )
+
+  pub plain-latches : (b : Board) → offsetReading o b .latches ≡ b .latches
+  plain-latches b = ap (λ (r : Reading). r .latches) (plain-reading b)

@@ -1,6 +1,8 @@
 pub mod Timing
-mod Latches
+pub mod Latches
 mod Channels
 pub mod Kept
-pub mod Parts
+pub mod CodeReads
 mod Settings
+pub mod CodeWrites
+pub mod Line

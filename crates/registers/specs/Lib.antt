@@ -1,3 +1,4 @@
 pub mod Reads
 pub mod Calls
-pub mod Parts
+pub mod CodeReads
+pub mod CodeWrites

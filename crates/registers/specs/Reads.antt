@@ -4,7 +4,7 @@ use Prim.Native.Nat.{ℕ}
 use mathlib.Core.Bool.{cond}
 use lib.Dec.{eqb}
 use Rattle.wide.specs.Words.{lowWord, highWord}
-use Rattle.channel.specs.Registers.{countLowAt}
+use Rattle.channel.specs.Registers.{countLowAt, countHighAt}
 use Rattle.clock.specs.Clock.{rateOf, timeSeconds, checkAlarm}
 use Rattle.board.specs.declared.Latch.{Latch}
 use Rattle.board.specs.declared.Latch.the-variants.{Empty, Held}
@@ -13,8 +13,9 @@ use Rattle.board.specs.declared.calls.ByteAnswer.{ByteAnswer}
 use Rattle.board.specs.Board.{withClock, heldOf, heldValue, wired}
 use Rattle.offsets.specs.Registers.{
   secondsLowAt,
+  secondsHighAt,
+  inRegister,
   inChannels,
-  within,
   byteOf,
   channelOf,
   placeOf,
@@ -62,7 +63,7 @@ readCountHigh offset b =
 unfoldable pub readChannel : ℕ → Board → ByteAnswer
 readChannel offset b =
     cond (eqb (placeOf offset) countLowAt) (readLive offset (countHeld (channelOf offset) b))
-    (cond (within 0x0C 0x0F (placeOf offset)) (readCountHigh offset b)
+    (cond (inRegister countHighAt (placeOf offset)) (readCountHigh offset b)
     (readLive offset b))
 
 -- ---- the clock's seconds
@@ -96,7 +97,7 @@ readHigh offset b =
 -- the read at an offset
 unfoldable pub readAt : ℕ → Board → ByteAnswer
 readAt offset b =
-    cond (within 0x208 0x20B offset) (readLow offset (secondsLatched offset b))
-    (cond (within 0x20C 0x20F offset) (readHigh offset b)
+    cond (inRegister secondsLowAt offset) (readLow offset (secondsLatched offset b))
+    (cond (inRegister secondsHighAt offset) (readHigh offset b)
     (cond (inChannels offset) (readChannel offset b)
     (readLive offset b)))

@@ -5,13 +5,12 @@ ghost use mathlib.Core.Bool.{true};
 ghost use Rattle.board.specs.Board.{sound};
 ghost use Rattle.registers.specs.Calls.{addressRefusal, readAccepted, writtenBoard, readCall, writeCall};
 use crate::reads::channel_index;
-use crate::reads::reading_of;
-use crate::reads::shared_at;
+use crate::reads::reading_at;
+use crate::writes::written_at;
 use board::Board;
 use board::calls::ByteAnswer;
 use board::calls::EmptyAnswer;
 use offsets::Registers;
-use offsets::writes::written_at;
 
 pub mod reads;
 pub mod writes;
@@ -33,13 +32,9 @@ fn read_accepted(board: Board, address: u16) -> ByteAnswer
 {
     let offset = address as u32 + Registers::BASE;
     let mut b = board;
-    let timers = b.timers;
-    let shared = shared_at(timers, b.timer_enable, offset);
     let i = channel_index(offset);
     let timer = b.timers[i];
-    let clock = b.clock;
-    let latches = b.latches;
-    let r = reading_of(timer, shared, clock, latches, offset);
+    let r = reading_at(b, timer, offset);
     let after = r.latches;
     b.latches = after;
     b.clock.alarm.pending = r.pending;

@@ -1,13 +1,15 @@
-// Reads of a byte, with the latches, as functions of the parts of a board that a read takes.
+// Reads of a byte, with the latches: what a read answers and what it stores.
 ghost use mathlib.Core.Path.{_≡_};
+ghost use mathlib.Core.Bool.{true};
 ghost use Prim.Native.Nat.{_<_};
 ghost use Rattle.clock.specs.Clock.{rateOf};
 ghost use Rattle.clock.specs.Sound.{Timed};
-ghost use Rattle.offsets.specs.Registers.{inChannels, registerOf};
+ghost use Rattle.offsets.specs.Registers.{inChannels, registerOf, channelAt};
 ghost use Rattle.offsets.specs.Words.{timerWord};
-ghost use Rattle.registers.specs.Parts.{channelIndex, atCountLow, atCountHigh, withCount, countFilled};
-ghost use Rattle.registers.specs.Parts.{countServing, serving, countEmptied, emptied, freedAt};
-ghost use Rattle.registers.specs.Parts.{wordAt, readingOf};
+ghost use Rattle.registers.specs.CodeReads.{channelIndex, atCountLow, atCountHigh, withCount, countFilled};
+ghost use Rattle.registers.specs.CodeReads.{countServing, serving, countFreed, latchFreed, freedAt};
+ghost use Rattle.registers.specs.CodeReads.{wordAt, readingOf, offsetReading, plainAt, plainOf};
+use board::Board;
 use board::CountLatch;
 use board::Latch;
 use board::Latches;
@@ -23,13 +25,22 @@ use wide::flags::both;
 use wide::words::high;
 use wide::words::low;
 
-// After a read the latches, what it answers, and the alarm's two flags. The latches stand first, so that no bytes
-// between fields are copied with them.
+// After a read the latches, what it answers, the alarm's two flags, and whether its alarm check set pending. The latches
+// stand first, so that no bytes between fields are copied with them.
 pub struct Reading {
     pub latches: Latches,
     pub byte: u8,
     pub pending: bool,
     pub armed: bool,
+    pub rose: bool,
+}
+
+// The same of a read that leaves the latches alone.
+pub struct PlainReading {
+    pub byte: u8,
+    pub pending: bool,
+    pub armed: bool,
+    pub rose: bool,
 }
 
 // ---- where the offset is
@@ -121,8 +132,8 @@ fn serving(latches: Latches, offset: u32) -> Latch
 }
 
 // The latch of a count that serves an offset is empty.
-fn count_emptied(latches: Latches, offset: u32) -> Latches
-    ensures { λ r. ⌜ r ≡ countEmptied offset latches ⌝ }
+fn count_freed(latches: Latches, offset: u32) -> Latches
+    ensures { λ r. ⌜ r ≡ countFreed offset latches ⌝ }
 {
     if at_count_high(offset) {
         return with_count(latches, channel_index(offset), Latch::Empty);
@@ -131,8 +142,8 @@ fn count_emptied(latches: Latches, offset: u32) -> Latches
 }
 
 // The latch that serves an offset is empty.
-fn emptied(latches: Latches, offset: u32) -> Latches
-    ensures { λ r. ⌜ r ≡ emptied offset latches ⌝ }
+fn latch_freed(latches: Latches, offset: u32) -> Latches
+    ensures { λ r. ⌜ r ≡ latchFreed offset latches ⌝ }
 {
     match offset {
         Registers::RTC_SECONDS_LO..=Registers::RTC_SECONDS_LO_LAST => Latches {
@@ -143,7 +154,7 @@ fn emptied(latches: Latches, offset: u32) -> Latches
             high: Latch::Empty,
             ..latches
         },
-        _ => count_emptied(latches, offset),
+        _ => count_freed(latches, offset),
     }
 }
 
@@ -152,7 +163,7 @@ fn freed_at(latches: Latches, offset: u32) -> Latches
     ensures { λ r. ⌜ r ≡ freedAt offset latches ⌝ }
 {
     if offset % 4 == 3 {
-        return emptied(latches, offset);
+        return latch_freed(latches, offset);
     }
     latches
 }
@@ -160,13 +171,13 @@ fn freed_at(latches: Latches, offset: u32) -> Latches
 // ---- the reading
 
 // The word of the register at an offset.
-fn word_of(timer: HardwareTimer, clock: Clock, shared: u32, offset: u32) -> u32
+fn word_at(timer: HardwareTimer, clock: Clock, shared: u32, offset: u32) -> u32
     requires { ⌜ Timed (rateOf clock) clock ⌝ }
     ensures { λ r. ⌜ r ≡ wordAt timer clock shared offset ⌝ }
 {
     match offset {
-        Registers::TIMER_ID..=Registers::TIMER_LAST => shared,
-        Registers::RTC_CTRL..=Registers::RTC_LAST => clock_word(clock, offset / 4 * 4),
+        Registers::TIMER_ID..=Registers::TIMER_ACK_LAST => shared,
+        Registers::RTC_CTRL..=Registers::RTC_ACK_LAST => clock_word(clock, offset / 4 * 4),
         Registers::TIMER_CHANNEL_BASE..=Registers::TIMER_CHANNEL_LAST => {
             timer.read_word(place_of(offset) / 4 * 4)
         }
@@ -175,7 +186,7 @@ fn word_of(timer: HardwareTimer, clock: Clock, shared: u32, offset: u32) -> u32
 }
 
 // The word of the register at an offset that all channels share, 0 where it is no such register.
-pub fn shared_at(timers: [HardwareTimer; 4], timer_enable: u8, offset: u32) -> u32
+fn shared_at(timers: [HardwareTimer; 4], timer_enable: u8, offset: u32) -> u32
     ensures { λ r. ⌜ r ≡ timerWord (registerOf offset) «timer_enable» timers ⌝ }
 {
     timer_word(timers, timer_enable, offset / 4 * 4)
@@ -183,7 +194,7 @@ pub fn shared_at(timers: [HardwareTimer; 4], timer_enable: u8, offset: u32) -> u
 
 // A read at an offset. `timer` is the channel of its index, `shared` the word of the register that all channels share.
 // The alarm check comes ahead of a read that no latch serves.
-pub fn reading_of(
+fn reading_of(
     timer: HardwareTimer,
     shared: u32,
     clock: Clock,
@@ -208,12 +219,14 @@ pub fn reading_of(
             },
             pending,
             armed,
+            rose: false,
         };
     }
     let latch = serving(latches, offset);
     let Latch::Held(word) = latch else {
         let checked = clock.check_alarm();
-        let word = word_of(timer, checked, shared, offset);
+        let word = word_at(timer, checked, shared, offset);
+        let before = clock.alarm.pending;
         let pending = checked.alarm.pending;
         let armed = checked.alarm.armed;
         return Reading {
@@ -221,6 +234,7 @@ pub fn reading_of(
             latches: count_filled(latches, timer.counter, offset),
             pending,
             armed,
+            rose: both(pending, !before),
         };
     };
     let pending = clock.alarm.pending;
@@ -230,5 +244,54 @@ pub fn reading_of(
         latches: freed_at(latches, offset),
         pending,
         armed,
+        rose: false,
+    }
+}
+
+// A read at an offset; `timer` is the channel of its index.
+pub fn reading_at(board: Board, timer: HardwareTimer, offset: u32) -> Reading
+    requires { ⌜ Timed (rateOf (board .clock)) (board .clock) × (timer ≡ channelAt (channelIndex offset) board) ⌝ }
+    ensures { λ r. ⌜ r ≡ offsetReading offset board ⌝ }
+{
+    let timers = board.timers;
+    let shared = shared_at(timers, board.timer_enable, offset);
+    let clock = board.clock;
+    let latches = board.latches;
+    reading_of(timer, shared, clock, latches, offset)
+}
+
+// ---- without the latches
+
+// A channel's register that no latch has to do with.
+pub fn plain(offset: u32) -> bool
+    ensures { λ r. ⌜ r ≡ plainAt offset ⌝ }
+{
+    if in_channels(offset) {
+        let register = place_of(offset) / 4 * 4;
+        return both(
+            register != HardwareTimer::COUNT_LO,
+            register != HardwareTimer::COUNT_HI,
+        );
+    }
+    false
+}
+
+// A read there; `timer` is the channel of the offset's index.
+pub fn plain_at(board: Board, timer: HardwareTimer, offset: u32) -> PlainReading
+    requires { ⌜ (plainAt offset ≡ true) × Timed (rateOf (board .clock)) (board .clock)
+        × (timer ≡ channelAt (channelIndex offset) board) ⌝ }
+    ensures { λ r. ⌜ r ≡ plainOf (offsetReading offset board) ⌝ }
+{
+    let clock = board.clock;
+    let before = clock.alarm.pending;
+    let checked = clock.check_alarm();
+    let word = timer.read_word(place_of(offset) / 4 * 4);
+    let pending = checked.alarm.pending;
+    let armed = checked.alarm.armed;
+    PlainReading {
+        byte: byte_of_word(word, offset % 4),
+        pending,
+        armed,
+        rose: both(pending, !before),
     }
 }

@@ -1,45 +1,102 @@
-// What a byte written at an offset leaves of the parts of a board, each of which a register changes by itself.
+// What a byte written at an offset leaves of the part of a board that it changes.
 ghost use mathlib.Core.Path.{_≡_};
+ghost use Prim.Native.Nat.{_≤_, _%_};
+ghost use Rattle.channel.specs.Registers.{byteWritten};
 ghost use Rattle.clock.specs.Clock.{rateOf};
+ghost use Rattle.clock.specs.Registers.{mergeByte};
 ghost use Rattle.clock.specs.Sound.{Timed};
-ghost use Rattle.registers.specs.Parts.{enableAfter, clockAfter, timerAfter};
+ghost use Rattle.offsets.specs.Registers.{registerOf, byteOf, placeOf};
+ghost use Rattle.offsets.specs.Writes.{clockWritten, writtenAt};
+ghost use Rattle.registers.specs.CodeWrites.{partOf, atControl};
+use board::Board;
 use channel::HardwareTimer;
 use clock::Clock;
 use offsets::Registers;
+use offsets::fields::channel_at;
+use offsets::fields::channel_of;
 use offsets::fields::place_of;
+use offsets::fields::with_channel;
+use offsets::fields::with_timer_enable;
+use offsets::writes::acknowledged;
 use offsets::writes::clock_written;
-use offsets::writes::enable_written;
 
-pub fn enable_after(timer_enable: u8, offset: u32, value: u8) -> u8
-    ensures { λ r. ⌜ r ≡ enableAfter offset value «timer_enable» ⌝ }
+// The part of a board that a byte written at an offset changes.
+pub enum WritePart {
+    Nothing,
+    // timer enable
+    Enable,
+    // the channels' pending
+    Acknowledge,
+    Clock,
+    // one channel
+    Channel,
+}
+
+pub fn part_at(offset: u32) -> WritePart
+    ensures { λ r. ⌜ r ≡ partOf offset ⌝ }
 {
     match offset {
-        Registers::TIMER_ENABLE..=Registers::TIMER_ENABLE_LAST => {
-            enable_written(timer_enable, (offset % 4) as usize, value)
-        }
-        _ => timer_enable,
+        Registers::TIMER_ENABLE..=Registers::TIMER_ENABLE_LAST => WritePart::Enable,
+        Registers::TIMER_ACK_LAST => WritePart::Acknowledge,
+        Registers::RTC_CTRL..=Registers::RTC_ACK_LAST => WritePart::Clock,
+        Registers::TIMER_CHANNEL_BASE..=Registers::TIMER_CHANNEL_LAST => WritePart::Channel,
+        _ => WritePart::Nothing,
     }
+}
+
+// A channel's control register, which alone of its registers moves the line.
+pub fn at_control(offset: u32) -> bool
+    requires { ⌜ (0x400 ≤ offset) × (offset ≤ 0x4FF) ⌝ }
+    ensures { λ r. ⌜ r ≡ atControl offset ⌝ }
+{
+    place_of(offset) < 4
+}
+
+// ---- the parts
+
+pub fn enable_after(timer_enable: u8, offset: u32, value: u8) -> u8
+    ensures { λ r. ⌜ r ≡ mergeByte (byteOf offset) value «timer_enable» % 16 ⌝ }
+{
+    let byte = (offset % 4) as usize;
+    let merged = wide::fields::with_byte(timer_enable as u64, 3 - byte, value);
+    (merged % Board::TIMER_ENABLE_VALUES as u64) as u8
 }
 
 pub fn clock_after(clock: Clock, offset: u32, value: u8) -> Clock
     requires { ⌜ Timed (rateOf clock) clock ⌝ }
-    ensures { λ r. ⌜ r ≡ clockAfter offset value clock ⌝ }
+    ensures { λ r. ⌜ r ≡ clockWritten (registerOf offset) (byteOf offset) value clock ⌝ }
 {
-    match offset {
-        Registers::RTC_CTRL..=Registers::RTC_LAST => {
-            clock_written(clock, offset / 4 * 4, (offset % 4) as usize, value)
-        }
-        _ => clock,
-    }
+    clock_written(clock, offset / 4 * 4, (offset % 4) as usize, value)
 }
 
 pub fn timer_after(timer: HardwareTimer, offset: u32, value: u8) -> HardwareTimer
-    ensures { λ r. ⌜ r ≡ timerAfter offset value timer ⌝ }
+    requires { ⌜ (0x400 ≤ offset) × (offset ≤ 0x4FF) ⌝ }
+    ensures { λ r. ⌜ r ≡ byteWritten (registerOf (placeOf offset)) (byteOf offset) value timer ⌝ }
 {
-    match offset {
-        Registers::TIMER_CHANNEL_BASE..=Registers::TIMER_CHANNEL_LAST => {
-            timer.write_byte(place_of(offset) / 4 * 4, (offset % 4) as usize, value)
+    timer.write_byte(place_of(offset) / 4 * 4, (offset % 4) as usize, value)
+}
+
+// ---- the board
+
+// A byte written at an offset.
+pub(crate) fn written_at(board: Board, offset: u32, value: u8) -> Board
+    requires { ⌜ Timed (rateOf (board .clock)) (board .clock) ⌝ }
+    ensures { λ r. ⌜ r ≡ writtenAt offset value board ⌝ }
+{
+    let timers = board.timers;
+    let clock = board.clock;
+    let part = part_at(offset);
+    match part {
+        WritePart::Nothing => board,
+        WritePart::Enable => {
+            with_timer_enable(board, enable_after(board.timer_enable, offset, value))
         }
-        _ => timer,
+        WritePart::Acknowledge => board.with_timers(acknowledged(timers, value)),
+        WritePart::Clock => board.with_clock(clock_after(clock, offset, value)),
+        WritePart::Channel => {
+            let number = channel_of(offset);
+            let timer = channel_at(board, number);
+            with_channel(board, number, timer_after(timer, offset, value))
+        }
     }
 }

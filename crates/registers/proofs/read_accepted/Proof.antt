@@ -1,6 +1,9 @@
 -- `read_accepted` meets its contract. Assumes nothing.
+use Prim.Native.Nat.{ℕ}
 use native.Mathlib.Omega.{arith}
-use Rattle.registers.proofs.Parts.{read-parts}
+use mathlib.Core.Path.{ap}
+use Rattle.offsets.specs.Registers.{channelAt}
+use Rattle.registers.proofs.CodeReads.{read-parts}
 use Rattle.registers.proofs.Timing.{sound-times}
 use borrow.Author.Needs.{needs}
 use Rattle.registers.proofs.read_accepted.Statement.{statement}
@@ -8,9 +11,6 @@ use Rattle.registers.proofs.read_accepted.Tie as tie
 
 add-offset : tie.Need-add-offset
 add-offset c = search needs
-
-shared-at-requires : tie.Need-shared-at-requires
-shared-at-requires c κs = search needs
 
 channel-index-requires : tie.Need-channel-index-requires
 channel-index-requires c κs = search needs
@@ -21,17 +21,19 @@ mul-timer c = search needs
 element-copy-out-timer : tie.Need-element-copy-out-timer
 element-copy-out-timer c = search needs
 
-reading-of-requires : tie.Need-reading-of-requires
-reading-of-requires c κs =
-    let s = c .before .before .before .before .before .before in
-    sound-times (s .args .board)
-    (record {
-      seconds = omega (arith, s .good);
-      alarm = omega (arith, s .good);
-      shadow = omega (arith, s .good);
-      alarmShadow = omega (arith, s .good);
-    })
-    (s .pre)
+reading-at-requires : tie.Need-reading-at-requires
+reading-at-requires c κs =
+    let s = c .before .before in (
+      sound-times (s .args .board)
+          (record {
+            seconds = omega (arith, s .good);
+            alarm = omega (arith, s .good);
+            shadow = omega (arith, s .good);
+            alarmShadow = omega (arith, s .good);
+          })
+          (s .pre),
+      ap (λ (n : ℕ). channelAt n (s .args .board)) (c .before .channel-index .ensures .0),
+    )
 
 wired-requires : tie.Need-wired-requires
 wired-requires c κs = search needs
@@ -39,25 +41,17 @@ wired-requires c κs = search needs
 returns : tie.Need-returns
 returns c =
     let r = c .before .before .before .before in
-    let i = r .before .before .before .before in
-    let a = i .before .before .before .args in
-    rw (
-      read-parts (a .address) (a .board),
-      c .wired .ensures,
-      r .reading-of .ensures,
-      i .before .shared-at .ensures,
-      i .channel-index .ensures .0,
-    )
+    let a = r .before .before .before .args in
+    rw (read-parts (a .address) (a .board), c .wired .ensures, r .reading-at .ensures)
 
 pub read-accepted-spec : {M : Type 1} → statement M
 read-accepted-spec =
     tie.close
     (tie.spec
     add-offset
-    shared-at-requires
     channel-index-requires
     mul-timer
     element-copy-out-timer
-    reading-of-requires
+    reading-at-requires
     wired-requires
     returns)

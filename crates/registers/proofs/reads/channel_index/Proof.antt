@@ -1,7 +1,7 @@
 -- `reads::channel_index` meets its contract. Assumes nothing.
 use mathlib.Core.Path.{sym, _∙_}
-use Rattle.registers.specs.Parts.{channelIndex}
-use Rattle.registers.proofs.Parts.{bounds}
+use Rattle.registers.specs.CodeReads.{channelIndex}
+use Rattle.offsets.proofs.Ranges.{bounds}
 use borrow.Author.Needs.{needs}
 use Rattle.registers.proofs.reads.channel_index.Statement.{statement}
 use Rattle.registers.proofs.reads.channel_index.Tie as tie

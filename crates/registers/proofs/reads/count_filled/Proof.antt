@@ -1,5 +1,5 @@
 -- `reads::count_filled` meets its contract. Assumes nothing.
-use Rattle.registers.specs.Parts.{countFilled}
+use Rattle.registers.specs.CodeReads.{countFilled}
 use borrow.Author.Needs.{needs}
 use Rattle.registers.proofs.reads.count_filled.Statement.{statement}
 use Rattle.registers.proofs.reads.count_filled.Tie as tie

@@ -1,5 +1,5 @@
 -- `reads::count_serving` meets its contract. Assumes nothing.
-use Rattle.registers.specs.Parts.{countServing}
+use Rattle.registers.specs.CodeReads.{countServing}
 use borrow.Author.Needs.{needs}
 use Rattle.registers.proofs.reads.count_serving.Statement.{statement}
 use Rattle.registers.proofs.reads.count_serving.Tie as tie

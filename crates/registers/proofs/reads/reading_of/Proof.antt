@@ -45,8 +45,8 @@ enum-told c = search needs
 check-alarm-requires : tie.Need-check-alarm-requires
 check-alarm-requires c κs = search needs
 
-word-of-requires : tie.Need-word-of-requires
-word-of-requires c κs =
+word-at-requires : tie.Need-word-at-requires
+word-at-requires c κs =
     let s = c .before .before .before .before .before in
     rw (c .check-alarm .ensures) (check-timed (s .args .clock) (s .pre))
 
@@ -56,15 +56,19 @@ byte-of-word-requires-2 c κs = search needs
 count-filled-requires : tie.Need-count-filled-requires
 count-filled-requires c κs = search needs
 
+both-requires : tie.Need-both-requires
+both-requires c κs = search needs
+
 returns-2 : tie.Need-returns-2
 returns-2 c =
-    let w = c .before .before in
+    let w = c .before .before .before in
     let s = w .before .before .before .before in
     let a = s .before .before .args in
     rw (
-      c .count-filled .ensures,
-      c .before .byte-of-word2 .ensures,
-      w .word-of .ensures,
+      c .both .ensures,
+      c .before .count-filled .ensures,
+      c .before .before .byte-of-word2 .ensures,
+      w .word-at .ensures,
       w .before .check-alarm .ensures,
     )
     (sym
@@ -102,9 +106,10 @@ reading-of-spec =
     enum-known-latch
     enum-told
     check-alarm-requires
-    word-of-requires
+    word-at-requires
     byte-of-word-requires-2
     count-filled-requires
+    both-requires
     returns-2
     byte-of-word-requires-3
     freed-at-requires

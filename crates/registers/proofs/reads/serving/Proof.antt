@@ -1,7 +1,7 @@
 -- `reads::serving` meets its contract. Assumes nothing.
 use mathlib.Core.Logic.{⊎-elim}
 use native.Mathlib.Omega.{arith}
-use Rattle.registers.specs.Parts.{serving}
+use Rattle.registers.specs.CodeReads.{serving}
 use Rattle.offsets.proofs.Ranges.{inside, below, above}
 use borrow.Author.Needs.{needs}
 use Rattle.registers.proofs.reads.serving.Statement.{statement}

@@ -1,4 +1,4 @@
--- `reads::word_of` meets its contract. Assumes nothing.
+-- `reads::word_at` meets its contract. Assumes nothing.
 use Rattle.offsets.proofs.Ranges.{
   in-timers,
   in-clock,
@@ -8,10 +8,10 @@ use Rattle.offsets.proofs.Ranges.{
   before-channels,
   after-channels,
 }
-use Rattle.registers.specs.Parts.{wordAt}
+use Rattle.registers.specs.CodeReads.{wordAt}
 use borrow.Author.Needs.{needs}
-use Rattle.registers.proofs.reads.word_of.Statement.{statement}
-use Rattle.registers.proofs.reads.word_of.Tie as tie
+use Rattle.registers.proofs.reads.word_at.Statement.{statement}
+use Rattle.registers.proofs.reads.word_at.Tie as tie
 
 mul-clock-word : tie.Need-mul-clock-word
 mul-clock-word c = search needs
@@ -76,8 +76,8 @@ returns-7 c =
     let t = after-channels x (c .if6 .left) in
     rw (t .0, t .1, t .2)
 
-pub word-of-spec : {M : Type 1} → statement M
-word-of-spec =
+pub word-at-spec : {M : Type 1} → statement M
+word-at-spec =
     tie.close
     (tie.spec
     mul-clock-word

@@ -1,27 +1,25 @@
--- A read and a write in the parts that the code computes, of one channel, the clock, the latches and timer enable.
--- These are not document 01's sentences: the rules are those of Reads and of the writes at offsets, and the proofs show
--- that these parts are them.
-use Prim.Native.Nat.{ℕ, _+_, _%_}
-use mathlib.Core.Bool.{Bool, cond, _&&_}
+-- Not document 01's sentences: what the code computes of a read, from one channel, the clock, the latches and the word
+-- that all channels share. The rule is `readAt` of Reads.antt, and `read-parts` of proofs/CodeReads.antt shows that the
+-- read here is the rule's.
+use Prim.Native.Nat.{ℕ}
+use mathlib.Core.Bool.{Bool, false, not, cond, _&&_}
 use lib.ListN.{getD, set}
 use lib.Dec.{eqb}
 use Rattle.wide.specs.Words.{lowWord, highWord}
 use Rattle.channel.specs.declared.HardwareTimer.{HardwareTimer}
-use Rattle.channel.specs.Channel.{freshTimer}
-use Rattle.channel.specs.Registers.{countLowAt, countHighAt, wordOf, byteWritten}
+use Rattle.channel.specs.Registers.{countLowAt, countHighAt, wordOf}
 use Rattle.clock.specs.declared.Clock.{Clock}
 use Rattle.clock.specs.Fields.{withAlarm}
 use Rattle.clock.specs.Clock.{rateOf, timeSeconds, checkAlarm}
-use Rattle.clock.specs.Registers.{mergeByte}
 use Rattle.board.specs.declared.Latch.{Latch}
 use Rattle.board.specs.declared.Latch.the-variants.{Empty, Held}
 use Rattle.board.specs.declared.Latches.{Latches}
 use Rattle.board.specs.declared.Board.{Board}
 use Rattle.board.specs.Board.{heldOf, heldValue}
 use Rattle.offsets.specs.Registers.{
-  base,
   secondsLowAt,
-  within,
+  secondsHighAt,
+  inRegister,
   inTimers,
   inClock,
   inChannels,
@@ -30,10 +28,11 @@ use Rattle.offsets.specs.Registers.{
   channelOf,
   placeOf,
   byteOfWord,
+  channelAt,
 }
 use Rattle.offsets.specs.Words.{timerWord, clockWord}
-use Rattle.offsets.specs.Writes.{clockWritten}
 use Rattle.registers.specs.declared.reads.Reading.{Reading}
+use Rattle.registers.specs.declared.reads.PlainReading.{PlainReading}
 
 -- ---- where the offset is
 
@@ -78,24 +77,24 @@ countServing offset ls =
 -- the latch that serves the offset; elsewhere an empty one
 unfoldable pub serving : ℕ → Latches → Latch
 serving offset ls =
-    cond (within 0x208 0x20B offset) (ls .low)
-    (cond (within 0x20C 0x20F offset) (ls .high)
+    cond (inRegister secondsLowAt offset) (ls .low)
+    (cond (inRegister secondsHighAt offset) (ls .high)
     (countServing offset ls))
 
 -- that latch of a count is empty
-unfoldable pub countEmptied : ℕ → Latches → Latches
-countEmptied offset ls = cond (atCountHigh offset) (withCount (channelIndex offset) Empty ls) ls
+unfoldable pub countFreed : ℕ → Latches → Latches
+countFreed offset ls = cond (atCountHigh offset) (withCount (channelIndex offset) Empty ls) ls
 
 -- the latch that serves the offset is empty
-unfoldable pub emptied : ℕ → Latches → Latches
-emptied offset ls =
-    cond (within 0x208 0x20B offset) (withSeconds Empty (ls .high) ls)
-    (cond (within 0x20C 0x20F offset) (withSeconds (ls .low) Empty ls)
-    (countEmptied offset ls))
+unfoldable pub latchFreed : ℕ → Latches → Latches
+latchFreed offset ls =
+    cond (inRegister secondsLowAt offset) (withSeconds Empty (ls .high) ls)
+    (cond (inRegister secondsHighAt offset) (withSeconds (ls .low) Empty ls)
+    (countFreed offset ls))
 
 -- the same after byte 3 alone
 unfoldable pub freedAt : ℕ → Latches → Latches
-freedAt offset ls = cond (eqb (byteOf offset) 3) (emptied offset ls) ls
+freedAt offset ls = cond (eqb (byteOf offset) 3) (latchFreed offset ls) ls
 
 -- ---- the reading
 
@@ -107,14 +106,15 @@ wordAt h k shared offset =
     (cond (inChannels offset) (wordOf (registerOf (placeOf offset)) h)
     0))
 
--- no latch serves: k is the clock after the alarm check
-abbrev pub liveReading : HardwareTimer → ℕ → Clock → Latches → ℕ → Reading
-liveReading h shared k ls offset =
+-- no latch serves: k is the clock after the alarm check, `before` whether its alarm was pending before
+abbrev pub liveReading : HardwareTimer → ℕ → Clock → Bool → Latches → ℕ → Reading
+liveReading h shared k before ls offset =
     record {
       byte = byteOfWord (byteOf offset) (wordAt h k shared offset);
       latches = ls;
       pending = k .alarm .pending;
       armed = k .alarm .armed;
+      rose = k .alarm .pending && not before;
     }
 
 -- a latch serves, which holds a word
@@ -125,13 +125,14 @@ latchReading word k ls offset =
       latches = freedAt offset ls;
       pending = k .alarm .pending;
       armed = k .alarm .armed;
+      rose = false;
     }
 
 -- by the latches, filled where the offset is byte 0 of a low word
 unfoldable pub readingBy : HardwareTimer → ℕ → Clock → Latches → ℕ → Reading
 readingBy h shared k ls offset =
     cond (heldOf (serving offset ls)) (latchReading (heldValue (serving offset ls)) k ls offset)
-    (liveReading h shared (checkAlarm (rateOf k) k) ls offset)
+    (liveReading h shared (checkAlarm (rateOf k) k) (k .alarm .pending) ls offset)
 
 -- a read at an offset: h is the channel of its index, shared the word of the register that all channels share
 unfoldable pub readingOf : HardwareTimer → ℕ → Clock → Latches → ℕ → Reading
@@ -142,12 +143,8 @@ readingOf h shared k ls offset = readingBy h shared k (filled offset (h .counter
 -- the reading at an offset
 abbrev pub offsetReading : ℕ → Board → Reading
 offsetReading offset b =
-    readingOf (getD (b .timers) (channelIndex offset) freshTimer)
-    (timerWord (registerOf offset) (b .«timer_enable») (b .timers)) (b .clock) (b .latches) offset
-
--- the reading at an address
-abbrev pub readingAt : ℕ → Board → Reading
-readingAt address = offsetReading (address + base)
+    readingOf (channelAt (channelIndex offset) b) (timerWord (registerOf offset) (b .«timer_enable») (b .timers))
+    (b .clock) (b .latches) offset
 
 -- the board with a reading's latches and flags
 abbrev pub afterReading : Reading → Board → Board
@@ -168,17 +165,14 @@ afterReading r b =
       controller = b .controller;
     }
 
--- ---- a write
+-- ---- without the latches
 
--- timer enable after a byte written at an offset
-unfoldable pub enableAfter : ℕ → ℕ → ℕ → ℕ
-enableAfter offset v n = cond (within 0x184 0x187 offset) (mergeByte (byteOf offset) v n % 16) n
+-- a channel's register that no latch has to do with
+unfoldable pub plainAt : ℕ → Bool
+plainAt offset =
+    inChannels offset
+    && (not (eqb (registerOf (placeOf offset)) countLowAt) && not (eqb (registerOf (placeOf offset)) countHighAt))
 
--- the clock after it
-unfoldable pub clockAfter : ℕ → ℕ → Clock → Clock
-clockAfter offset v k = cond (inClock offset) (clockWritten (registerOf offset) (byteOf offset) v k) k
-
--- the channel of the offset's index after it
-unfoldable pub timerAfter : ℕ → ℕ → HardwareTimer → HardwareTimer
-timerAfter offset v h =
-    cond (inChannels offset) (byteWritten (registerOf (placeOf offset)) (byteOf offset) v h) h
+-- a reading but for the latches
+abbrev pub plainOf : Reading → PlainReading
+plainOf r = record { byte = r .byte; pending = r .pending; armed = r .armed; rose = r .rose }

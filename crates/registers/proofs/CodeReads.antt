@@ -3,11 +3,11 @@ use Prim.Native.Nat.{ℕ, _+_, _*_, _/_, _≤_}
 use native.Mathlib.Omega.{arith}
 use mathlib.Core.Path.{_≡_, refl, sym, ap, _∙_}
 use mathlib.Core.Bool.{Bool, true, false, cond, false≢true}
-use lib.Dec.{leb, eqb}
+use lib.Dec.{eqb}
 use lib.ListN.{getD, set}
 use lib.Seq.{set-getD}
-use borrow.Author.Tests.{leb-true, eqb-true, eq-eqb, ne-eqb}
-use Rattle.wide.proofs.Choices.{choose, either, and-parts}
+use borrow.Author.Tests.{eqb-true, eq-eqb, ne-eqb}
+use Rattle.wide.proofs.Choices.{choose, either}
 use Rattle.channel.specs.declared.HardwareTimer.{HardwareTimer}
 use Rattle.channel.specs.Channel.{freshTimer}
 use Rattle.channel.specs.Registers.{countLowAt}
@@ -33,7 +33,7 @@ use Rattle.offsets.specs.Registers.{
   withLatches,
 }
 use Rattle.offsets.specs.Words.{timerWord, liveWord}
-use Rattle.offsets.proofs.Ranges.{inside, below}
+use Rattle.offsets.proofs.Ranges.{inside, below, bounds}
 use Rattle.registers.specs.declared.reads.Reading.{Reading}
 use Rattle.registers.specs.Reads.{
   answered,
@@ -49,7 +49,7 @@ use Rattle.registers.specs.Reads.{
   readAt,
 }
 use Rattle.registers.specs.Calls.{readAccepted}
-use Rattle.registers.specs.Parts.{
+use Rattle.registers.specs.CodeReads.{
   channelIndex,
   atCountLow,
   atCountHigh,
@@ -59,8 +59,8 @@ use Rattle.registers.specs.Parts.{
   filled,
   countServing,
   serving,
-  countEmptied,
-  emptied,
+  countFreed,
+  latchFreed,
   freedAt,
   wordAt,
   liveReading,
@@ -68,16 +68,10 @@ use Rattle.registers.specs.Parts.{
   readingBy,
   readingOf,
   offsetReading,
-  readingAt,
   afterReading,
 }
 
 -- ---- ranges
-
-pub bounds : (first last n : ℕ) → within first last n ≡ true → (first ≤ n) × (n ≤ last)
-bounds first last n e =
-    let p = and-parts (leb first n) (leb n last) e in
-    (leb-true first n (p .0), leb-true n last (p .1))
 
 -- the bytes of a count's high word
 high-place : (p : ℕ) → eqb (p / 4 * 4) 0x0C ≡ within 0x0C 0x0F p
@@ -135,6 +129,9 @@ module _ (o : ℕ) (b : Board) where
   abbrev by : Latches → Reading
   by ls = readingBy timer shared (b .clock) ls o
 
+  abbrev live : Latches → Reading
+  live ls = liveReading timer shared (checkAlarm (rateOf (b .clock)) (b .clock)) (b .clock .alarm .pending) ls o
+
   abbrev full : Latches
   full = filled o (timer .counter) (b .clock) (b .latches)
 
@@ -143,7 +140,7 @@ module _ (o : ℕ) (b : Board) where
   word-parts k ls = either (inChannels o) (λ e. rw e) (λ e. rw e)
 
   live-parts : (ls : Latches) →
-      readLive o (withLatches ls b) ≡ answer b (liveReading timer shared (checkAlarm (rateOf (b .clock)) (b .clock)) ls o)
+      readLive o (withLatches ls b) ≡ answer b (live ls)
   unfolding readLive
   live-parts ls =
       let k = checkAlarm (rateOf (b .clock)) (b .clock) in
@@ -163,14 +160,13 @@ module _ (o : ℕ) (b : Board) where
   unfolding readingBy
   read-by ls after l e f =
       rw (e, f)
-      (cond-answer b (heldOf l) (latchReading (heldValue l) (b .clock) ls o)
-      (liveReading timer shared (checkAlarm (rateOf (b .clock)) (b .clock)) ls o) refl (live-parts ls))
+      (cond-answer b (heldOf l) (latchReading (heldValue l) (b .clock) ls o) (live ls) refl (live-parts ls))
 
   -- ---- the clock's seconds
 
   low-freed : (ls : Latches) → within 0x208 0x20B o ≡ true →
       withSeconds (freed o (ls .low)) (ls .high) ls ≡ freedAt o ls
-  unfolding freedAt emptied
+  unfolding freedAt latchFreed
   low-freed ls e = either (eqb (byteOf o) 3) (λ t. rw (t, e)) (λ t. rw t)
 
   low-parts : (ls : Latches) → within 0x208 0x20B o ≡ true → readLow o (withLatches ls b) ≡ answer b (by ls)
@@ -185,7 +181,7 @@ module _ (o : ℕ) (b : Board) where
 
   high-freed : (ls : Latches) → within 0x208 0x20B o ≡ false → within 0x20C 0x20F o ≡ true →
       withSeconds (ls .low) (freed o (ls .high)) ls ≡ freedAt o ls
-  unfolding freedAt emptied
+  unfolding freedAt latchFreed
   high-freed ls d e = either (eqb (byteOf o) 3) (λ t. rw (t, d, e)) (λ t. rw t)
 
   high-parts : within 0x208 0x20B o ≡ false → within 0x20C 0x20F o ≡ true →
@@ -229,7 +225,7 @@ module _ (o : ℕ) (b : Board) where
 
         count-freed : within 0x0C 0x0F (placeOf o) ≡ true →
             withCount (channelOf o) (freed o (countLatch (channelOf o) b)) (b .latches) ≡ freedAt o (b .latches)
-        unfolding freedAt emptied countEmptied
+        unfolding freedAt latchFreed countFreed
         count-freed q =
             either (eqb (byteOf o) 3) (λ t. rw (t, d, e, high-at, q, index))
             (λ t. rw t
@@ -292,9 +288,9 @@ module _ (o : ℕ) (b : Board) where
 pub read-parts : (address : ℕ) (b : Board) →
     readAccepted address b
     ≡ record {
-      board = wired (afterReading (readingAt address b) b);
+      board = wired (afterReading (offsetReading (address + base) b) b);
       refusal = 0;
-      byte = readingAt address b .byte;
+      byte = offsetReading (address + base) b .byte;
     }
 unfolding readAccepted
 read-parts address b = read-at-parts (address + base) b

@@ -1,8 +1,8 @@
--- `reads::count_emptied` meets its contract. Assumes nothing.
-use Rattle.registers.specs.Parts.{countEmptied}
+-- `reads::count_freed` meets its contract. Assumes nothing.
+use Rattle.registers.specs.CodeReads.{countFreed}
 use borrow.Author.Needs.{needs}
-use Rattle.registers.proofs.reads.count_emptied.Statement.{statement}
-use Rattle.registers.proofs.reads.count_emptied.Tie as tie
+use Rattle.registers.proofs.reads.count_freed.Statement.{statement}
+use Rattle.registers.proofs.reads.count_freed.Tie as tie
 
 at-count-high-requires : tie.Need-at-count-high-requires
 at-count-high-requires c κs = search needs
@@ -14,7 +14,7 @@ with-count-requires : tie.Need-with-count-requires
 with-count-requires c κs = search needs
 
 returns : tie.Need-returns
-unfolding countEmptied
+unfolding countFreed
 returns c =
     rw (
       ← c .before .before .before .at-count-high .ensures,
@@ -24,10 +24,10 @@ returns c =
     )
 
 returns-2 : tie.Need-returns-2
-unfolding countEmptied
+unfolding countFreed
 returns-2 c = rw (← c .before .at-count-high .ensures, c .if1 .left)
 
-pub count-emptied-spec : {M : Type 1} → statement M
-count-emptied-spec =
+pub count-freed-spec : {M : Type 1} → statement M
+count-freed-spec =
     tie.close
     (tie.spec at-count-high-requires channel-index-requires with-count-requires returns returns-2)

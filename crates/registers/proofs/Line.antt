@@ -1,0 +1,120 @@
+-- Where a read and a write leave the line as it was, and that source 3 of the controller then needs no setting. Assumes
+-- nothing.
+use Prim.Native.Nat.{ℕ}
+use native.Mathlib.Omega.{arith}
+use mathlib.Core.Path.{_≡_, refl, sym, ap, _∙_}
+use mathlib.Core.Bool.{Bool, true, false, not, _&&_, _||_, false≢true}
+use lib.Dec.{eqb}
+use borrow.Author.Tests.{ltb-false, ne-eqb, not-false}
+use Rattle.wide.specs.Bits.{bit}
+use Rattle.wide.proofs.Choices.{choose}
+use Rattle.channel.specs.declared.HardwareTimer.{HardwareTimer}
+use Rattle.channel.specs.Channel.{freshTimer, lineOf}
+use Rattle.channel.specs.Registers.{
+  controlAt,
+  countLowAt,
+  countHighAt,
+  compareLowAt,
+  compareHighAt,
+  reloadLowAt,
+  reloadHighAt,
+  prescalerAt,
+  byteWritten,
+}
+use Rattle.clock.specs.declared.Clock.{Clock}
+use Rattle.clock.specs.Clock.{rateOf, alarmReached, checkAlarm}
+use Rattle.clock.specs.Deadline.{clockLine}
+use Rattle.controller.specs.declared.IrqController.{IrqController}
+use Rattle.controller.proofs.Laws.{steady}
+use Rattle.board.specs.declared.Latches.{Latches}
+use Rattle.board.specs.declared.Board.{Board}
+use Rattle.board.specs.Channels.{anyLine}
+use Rattle.board.specs.Board.{heldOf, line, wired, sound}
+use Rattle.board.proofs.Soundness.{sound-facts}
+use Rattle.offsets.specs.Registers.{registerOf, byteOf, placeOf, channelAt}
+use Rattle.offsets.specs.Words.{timerWord}
+use Rattle.registers.specs.declared.reads.Reading.{Reading}
+use Rattle.registers.specs.declared.writes.WritePart.{WritePart}
+use Rattle.registers.specs.declared.writes.WritePart.the-variants.{Nothing, Enable, Acknowledge, Channel, Clock as ofClock}
+use Rattle.registers.specs.CodeReads.{
+  channelIndex,
+  filled,
+  serving,
+  readingBy,
+  readingOf,
+  offsetReading,
+  afterReading,
+}
+use Rattle.registers.specs.CodeWrites.{writtenBy, atControl, movesLine}
+use Rattle.registers.proofs.Channels.{set-fold}
+
+-- ---- a write
+
+-- a register other than control leaves what its channel gives to the line
+written-line : (register i v : ℕ) → eqb register controlAt ≡ false → (h : HardwareTimer) →
+    lineOf (byteWritten register i v h) ≡ lineOf h
+unfolding byteWritten lineOf
+written-line register i v n h =
+    rw n
+    (choose P (eqb register countLowAt) (λ _. refl)
+    (λ _. choose P (eqb register countHighAt) (λ _. refl)
+    (λ _. choose P (eqb register compareLowAt) (λ _. refl)
+    (λ _. choose P (eqb register compareHighAt) (λ _. refl)
+    (λ _. choose P (eqb register reloadLowAt) (λ _. refl)
+    (λ _. choose P (eqb register reloadHighAt) (λ _. refl)
+    (λ _. choose P (eqb register prescalerAt) (λ _. refl) (λ _. refl))))))))
+  where
+    P : HardwareTimer → Type 0
+    P r = lineOf r ≡ lineOf h
+
+not-control : (o : ℕ) → atControl o ≡ false → eqb (registerOf (placeOf o)) controlAt ≡ false
+not-control o e =
+    let l = ltb-false (placeOf o) 4 e in
+    ne-eqb (registerOf (placeOf o)) controlAt (λ h. omega (arith, l, h))
+
+pub write-still : (p : WritePart) (o v : ℕ) (b : Board) → movesLine p o ≡ false → line (writtenBy p o v b) ≡ line b
+unfolding line
+write-still Nothing o v b n = refl
+write-still Enable o v b n = refl
+write-still Acknowledge o v b n = absurd (false≢true (sym n))
+write-still ofClock o v b n = absurd (false≢true (sym n))
+write-still Channel o v b n =
+    ap (λ (w : Bool). w || clockLine (b .clock))
+    (set-fold lineOf _||_ false (byteWritten (registerOf (placeOf o)) (byteOf o) v)
+    (written-line (registerOf (placeOf o)) (byteOf o) v (not-control o n)) freshTimer (channelIndex o) 0 (b .timers))
+
+-- ---- a read
+
+-- an alarm check that does not set pending leaves it
+check-still : (k : Clock) → (checkAlarm (rateOf k) k .alarm .pending && not (k .alarm .pending)) ≡ false →
+    checkAlarm (rateOf k) k .alarm .pending ≡ k .alarm .pending
+unfolding checkAlarm
+check-still k =
+    choose
+    (λ (r : Clock). (r .alarm .pending && not (k .alarm .pending)) ≡ false → r .alarm .pending ≡ k .alarm .pending)
+    (alarmReached (rateOf k) k) (λ _ n. sym (not-false (k .alarm .pending) n)) (λ _ _. refl)
+
+reading-still : (h : HardwareTimer) (shared : ℕ) (k : Clock) (ls : Latches) (o : ℕ) →
+    readingOf h shared k ls o .rose ≡ false → readingOf h shared k ls o .pending ≡ k .alarm .pending
+unfolding readingOf readingBy
+reading-still h shared k ls o =
+    choose (λ (r : Reading). r .rose ≡ false → r .pending ≡ k .alarm .pending)
+    (heldOf (serving o (filled o (h .counter) k ls))) (λ _ _. refl) (λ _. check-still k)
+
+pub read-still : (o : ℕ) (b : Board) → offsetReading o b .rose ≡ false →
+    line (afterReading (offsetReading o b) b) ≡ line b
+unfolding line
+read-still o b n =
+    ap (λ (v : Bool). anyLine (b .timers) || (v && bit 0 (b .clock .alarm .enable)))
+    (reading-still (channelAt (channelIndex o) b) (timerWord (registerOf o) (b .«timer_enable») (b .timers)) (b .clock)
+    (b .latches) o n)
+
+-- ---- source 3
+
+-- of a board whose line and controller are those of a sound board
+pub still-wired : (b y : Board) → sound b ≡ true → line y ≡ line b → y .controller ≡ b .controller → wired y ≡ y
+unfolding wired
+still-wired b y s e q =
+    let level : bit 3 (y .controller .levels) ≡ line y =
+    ap (λ (c : IrqController). bit 3 (c .levels)) q ∙ sound-facts b s .level ∙ sym e in
+    rw (steady (y .controller) 3 (line y) level)
