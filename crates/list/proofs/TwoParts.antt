@@ -15,50 +15,17 @@ use Rattle.board.specs.Board.{BoardFits, sound}
 use Rattle.board.proofs.Soundness.{facts-sound}
 use Rattle.board.proofs.Steps.{Good, good}
 use Rattle.list.specs.declared.Outcome.{Outcome}
-use Rattle.format.specs.Format.{widthOf, tagAt, frameRefusal}
-use Rattle.perform.specs.Calls.{callAt}
-use Rattle.list.specs.Run.{Turn, done, refused, turnOf, stepped, Run, runOn, startOf, runOf, over}
-use Rattle.format.proofs.Frames.{field-before, framed, tag-before, frame-before}
-use Rattle.list.proofs.Kept.{step-good}
-use Rattle.list.proofs.Runs.{Placed, turn-placed, done-fits, next-done, next-refused}
+use Rattle.format.specs.Format.{frameRefusal}
+use Rattle.list.specs.Run.{Turn, done, refused, refusalAt, turnOf, stepped, Run, runOn, nothingDone, runOf, over}
+use Rattle.format.proofs.Frames.{tag-before, frame-before, arguments-before}
+use Rattle.list.proofs.Turns.{Placed, turn-placed, done-fits, step-good}
+use Rattle.list.proofs.Runs.{next-done, next-refused}
 
 -- ---- bytes behind a call have no part in it
 
-same : {A : Type 0} (t : Bool) {x x′ y y′ : A} → (t ≡ true → x ≡ x′) → (t ≡ false → y ≡ y′) →
-    cond t x y ≡ cond t x′ y′
-same true p q = p refl
-same false p q = q refl
-
-call-before : (l m : List ℕ) (b : Board) (tag : ℕ) → 3 + widthOf tag ≤ length l →
-    callAt tag (l ++ m) b ≡ callAt tag l b
-unfolding callAt
-call-before l m b tag fit =
-    same (eqb tag 1)
-    (λ e. let h : 15 ≤ length l = rw (eqb-true tag 1 e) at fit in
-    rw (field-before l m 3 8 (omega arith), field-before l m 11 4 (omega arith)))
-    (λ _. same (eqb tag 2)
-    (λ e. let h : 5 ≤ length l = rw (eqb-true tag 2 e) at fit in rw (field-before l m 3 2 (omega arith)))
-    (λ _. same (eqb tag 3)
-    (λ e. let h : 6 ≤ length l = rw (eqb-true tag 3 e) at fit in
-    rw (field-before l m 3 2 (omega arith), field-before l m 5 1 (omega arith)))
-    (λ _. same (eqb tag 4)
-    (λ e. let h : 11 ≤ length l = rw (eqb-true tag 4 e) at fit in rw (field-before l m 3 8 (omega arith)))
-    (λ _. same (eqb tag 5) (λ _. refl)
-    (λ _. same (eqb tag 6) (λ _. refl)
-    (λ _. same (eqb tag 7)
-    (λ e. let h : 5 ≤ length l = rw (eqb-true tag 7 e) at fit in
-    rw (field-before l m 3 1 (omega arith), field-before l m 4 1 (omega arith)))
-    (λ _. same (eqb tag 8)
-    (λ e. let h : 7 ≤ length l = rw (eqb-true tag 8 e) at fit in rw (field-before l m 3 4 (omega arith)))
-    (λ _. same (eqb tag 9)
-    (λ e. let h : 8 ≤ length l = rw (eqb-true tag 9 e) at fit in
-    rw (field-before l m 3 4 (omega arith), field-before l m 7 1 (omega arith)))
-    (λ _. refl)))))))))
-
 turn-before : (b : Board) (l m : List ℕ) (room : ℕ) → frameRefusal l ≡ 0 → turnOf b (l ++ m) room ≡ turnOf b l room
-unfolding turnOf
-turn-before b l m room e =
-    rw (frame-before l e m, tag-before l e m, call-before l m b (tagAt l) (framed l e .0), e)
+unfolding turnOf refusalAt
+turn-before b l m room e = rw (frame-before l e m, arguments-before l e m, tag-before l e m, e)
 
 -- ---- the first part
 
@@ -91,7 +58,7 @@ module _ (m : List ℕ) (room : ℕ) where
           rw e at (turn-placed (s .board) (x ∷ l) (room - length out)) in
           let f = done-fits (s .board) (x ∷ l) (room - length out) b n a e in
           let g = next-done x l room s out b n a e in
-          next-done x (l ++ m) room s out b n a (turn-before (s .board) (x ∷ l) m (room - length out) (p .0) ∙ e)
+          next-done x (l ++ m) room s out b n a (turn-before (s .board) (x ∷ l) m (room - length out) (p .0 .frame) ∙ e)
           ∙ next (n - 1) (stepped s (done b n a)) (out ++ a) (omega arith)
           (sym (ap (λ (q : Run). q .outcome .refusal) g) ∙ z)
           ∙ ap (λ (q : Run). runOn 0 m room (q .outcome) (q .answers)) (sym g)
@@ -114,7 +81,7 @@ abbrev pub joined : Run → Run → Run
 joined p q = record { outcome = behind (p .outcome) (q .outcome); answers = p .answers ++ q .answers }
 
 -- a run that was not refused, as the start of another
-from-start : (q : Outcome) → q .refusal ≡ 0 → behind q (startOf (q .board) 0) ≡ q
+from-start : (q : Outcome) → q .refusal ≡ 0 → behind q (nothingDone (q .board) 0) ≡ q
 from-start q z =
     rw (add-zero (q .calls), add-zero (q .used), add-zero (q .written))
     (ap
@@ -195,21 +162,21 @@ module _ (b : Board) (l m : List ℕ) (room : ℕ) (f : BoardFits b) (bytes : (i
   abbrev First : Run
   First = runOf b l room
 
-  whole : sound b ≡ true → runOn 0 l room (startOf b 0) [] .outcome .refusal ≡ 0 →
-      runOn 0 (l ++ m) room (startOf b 0) []
-      ≡ joined (runOn 0 l room (startOf b 0) [])
-      (runOf (runOn 0 l room (startOf b 0) [] .outcome .board) m
-      (room - length (runOn 0 l room (startOf b 0) [] .answers)))
+  whole : sound b ≡ true → runOn 0 l room (nothingDone b 0) [] .outcome .refusal ≡ 0 →
+      runOn 0 (l ++ m) room (nothingDone b 0) []
+      ≡ joined (runOn 0 l room (nothingDone b 0) [])
+      (runOf (runOn 0 l room (nothingDone b 0) [] .outcome .board) m
+      (room - length (runOn 0 l room (nothingDone b 0) [] .answers)))
   unfolding runOf
   whole s z =
-      let p = runOn 0 l room (startOf b 0) [] in
+      let p = runOn 0 l room (nothingDone b 0) [] in
       let q = p .outcome in
       let kept : sound (q .board) ≡ true =
-      facts-sound (q .board) (run-good 0 l room (startOf b 0) [] bytes (good b f s) .facts) in
-      first-part m room 0 l (startOf b 0) [] (omega arith) z
+      facts-sound (q .board) (run-good 0 l room (nothingDone b 0) [] bytes (good b f s) .facts) in
+      first-part m room 0 l (nothingDone b 0) [] (omega arith) z
       ∙ sym (ap (λ (o : Outcome). runOn 0 m room o (p .answers)) (from-start q z))
-      ∙ sym (ap (runOn 0 m room (behind q (startOf (q .board) 0))) (append-nil (p .answers)))
-      ∙ second-part p room 0 m (startOf (q .board) 0) []
+      ∙ sym (ap (runOn 0 m room (behind q (nothingDone (q .board) 0))) (append-nil (p .answers)))
+      ∙ second-part p room 0 m (nothingDone (q .board) 0) []
       ∙ rw kept refl
 
   -- where the first part is not refused: the second runs on the board, and with the room, that the first leaves
