@@ -143,7 +143,8 @@ module _ (o : ℕ) (b : Board) where
   word-parts k ls = either (inChannels o) (λ e. rw e) (λ e. rw e)
 
   live-parts : (ls : Latches) →
-      readLive o (withLatches ls b) ≡ answer b (liveReading timer shared (checkAlarm (rateOf (b .clock)) (b .clock)) ls o)
+      readLive o (withLatches ls b)
+      ≡ answer b (liveReading timer shared (checkAlarm (rateOf (b .clock)) (b .clock)) ls o)
   unfolding readLive
   live-parts ls =
       let k = checkAlarm (rateOf (b .clock)) (b .clock) in

@@ -3,7 +3,7 @@ use Prim.Native.Nat.{ℕ}
 use mathlib.Core.Path.{ap, _∙_}
 use Rattle.clock.specs.declared.Clock.{Clock}
 use Rattle.clock.proofs.Ranges.{timed-same, offset-for-timed, time-timed, shadow-timed}
-use Rattle.clock.proofs.Rate.{rate-above, offset-for-rate, at-rate}
+use Rattle.clock.proofs.Rate.{rate-above, at-rate, offset-for-rate}
 use Rattle.clock.specs.Fields.{withTime, withShadow}
 use Rattle.clock.specs.Clock.{rateOf, checkAlarm}
 use Rattle.clock.specs.Registers.{emptied, offsetFor, commitSeconds}
@@ -33,7 +33,7 @@ check-alarm-requires c κs =
     (shadow-timed (rateOf (y .result)) (y .result)
     (timed-same (y .ensures)
     (time-timed (rateOf (x .result)) (x .result)
-    (timed-same (x .ensures) (at-rate Timed (offsetFor s k) k (offset-for-rate k s) t)) s 0 (rate-above (x .result))))
+    (timed-same (x .ensures) (at-rate Timed k (offsetFor s k) (offset-for-rate (rateOf k) k s) t)) s 0 (rate-above (x .result))))
     (emptied (a .shadow)))
 
 returns : tie.Need-returns
@@ -48,7 +48,7 @@ returns c =
     (c .before .before .with-time .ensures
     ∙ ap (λ (k : Clock). withTime s 0 k) (c .before .before .before .offset-for .ensures)))
     ∙ ap (λ (rate : ℕ). checkAlarm rate (withShadow (emptied (a .shadow)) (withTime s 0 (offsetFor s (a .self)))))
-    (offset-for-rate (a .self) s)
+    (offset-for-rate (rateOf (a .self)) (a .self) s .same)
 
 pub commit-seconds-spec : {M : Type 1} → statement M
 commit-seconds-spec =
