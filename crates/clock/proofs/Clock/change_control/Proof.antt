@@ -27,7 +27,9 @@ check-alarm-requires c κs =
     let t = kept-timed (rateOf k) k (c .before .before .pre) n in
     timed-same (c .with-control .ensures)
     (control-timed (rateOf (x .result)) (x .result)
-    (timed-same (x .ensures) (at-rate Timed k (timeKept (rateOf k) n k) (kept-rate (rateOf k) k (rate-above k) n) t)) n)
+    (timed-same (x .ensures)
+    (at-rate Timed k (timeKept (rateOf k) n k) (kept-rate (rateOf k) k (rate-above k) n) t))
+    n)
 
 returns : tie.Need-returns
 unfolding changeControl

@@ -33,7 +33,8 @@ check-alarm-requires c κs =
     (shadow-timed (rateOf (y .result)) (y .result)
     (timed-same (y .ensures)
     (time-timed (rateOf (x .result)) (x .result)
-    (timed-same (x .ensures) (at-rate Timed k (offsetFor s k) (offset-for-rate (rateOf k) k s) t)) s 0 (rate-above (x .result))))
+    (timed-same (x .ensures) (at-rate Timed k (offsetFor s k) (offset-for-rate (rateOf k) k s) t)) s 0
+    (rate-above (x .result))))
     (emptied (a .shadow)))
 
 returns : tie.Need-returns
