@@ -27,7 +27,7 @@ use Rattle.clock.specs.Registers.{
   writeControl,
   shadowByte,
   complete,
-  emptied,
+  unmarked,
   offsetFor,
   commitSeconds,
   writeSeconds,
@@ -137,7 +137,7 @@ module _ (rate : ℕ) (k : Clock) where
       (λ _. choose (SameRate k) (complete s)
       (λ _. by-way (offset-for-rate rate k (s .value))
       (by-way (record { same = refl })
-      (check-rate rate (withShadow (emptied s) (withTime (s .value) 0 (offsetFor (s .value) k))))))
+      (check-rate rate (withShadow (unmarked s) (withTime (s .value) 0 (offsetFor (s .value) k))))))
       (λ _. record { same = refl }))
       (λ _. record { same = refl })
 
@@ -147,7 +147,7 @@ module _ (rate : ℕ) (k : Clock) where
       let s = shadowByte i v (k .«alarm_shadow») in
       choose (SameRate k) (complete s)
       (λ _. by-way (record { same = refl })
-      (check-rate rate (withAlarmShadow (emptied s) (withAlarm (armedAt (s .value) (k .alarm)) k))))
+      (check-rate rate (withAlarmShadow (unmarked s) (withAlarm (armedAt (s .value) (k .alarm)) k))))
       (λ _. record { same = refl })
 
 module _ (i v : ℕ) (k : Clock) where

@@ -8,9 +8,9 @@ ghost use Rattle.clock.specs.Clock.{rateOf, pollLimit, fromHost, ownTime
 use wide::flags::both;
 
 pub mod advance;
+pub mod clock_registers;
 pub mod control;
 pub mod deadline;
-pub mod registers;
 pub mod sound;
 pub mod time;
 
