@@ -13,8 +13,8 @@ use Rattle.channel.proofs.Sound.{fresh-sound as timer-sound}
 use Rattle.clock.specs.declared.HostTime.{HostTime}
 use Rattle.clock.specs.Clock.{rateOf, nanosPerSecond}
 use Rattle.clock.specs.Fields.{freshClock}
-use Rattle.clock.proofs.Soundness.{facts-sound as clock-sound}
-use Rattle.clock.proofs.Kept.{fresh-kept as clock-fresh}
+use Rattle.clock.proofs.Rate.{clock-rate}
+use Rattle.clock.proofs.Soundness.{facts-sound as clock-sound, fresh-sound as clock-fresh}
 use Rattle.controller.specs.declared.IrqController.{IrqController}
 use Rattle.controller.specs.Controller.{sourceSet, byteWritten}
 use Rattle.board.specs.declared.Board.{Board}
@@ -51,7 +51,7 @@ fresh-sound =
     (record {
       timers = rw timer-sound;
       enable = omega arith;
-      clock = clock-sound (rateOf freshClock) freshClock clock-fresh;
+      clock = clock-sound (rateOf freshClock) freshClock (clock-fresh (rateOf freshClock) (clock-rate freshClock));
       level = refl;
     })
 

@@ -15,9 +15,15 @@ use Rattle.clock.specs.declared.HostTime.{HostTime}
 use Rattle.clock.specs.Clock.{rateOf, nanosPerSecond, fromHost, advanceClock}
 use Rattle.clock.specs.Fields.{withHost}
 use Rattle.clock.specs.Deadline.{clockLine, clockDeadline, clockDue}
-use Rattle.clock.proofs.Rate.{advance-rate}
-use Rattle.clock.proofs.Soundness.{OwnSound, facts-sound as clock-sound, sound-fits}
-use Rattle.clock.proofs.Kept.{advance-kept, host-kept}
+use Rattle.clock.proofs.Rate.{clock-rate, SameRate, at-rate, advance-rate}
+use Rattle.clock.proofs.Soundness.{
+  Sound,
+  OwnSound,
+  facts-sound as clock-sound,
+  sound-fits,
+  advance-sound,
+  host-sound,
+}
 use Rattle.clock.proofs.Law.{advance-due as clock-advance-due, advance-own, host-due, line-due as clock-line-due}
 use Rattle.controller.proofs.Laws.{level-set, pending-set}
 use Rattle.board.specs.declared.Board.{Board}
@@ -112,11 +118,13 @@ module _ (c : ℕ) (b : Board) (g : Good b) where
       (withTimers (advancedAll (b .«timer_enable») c (b .timers)) b)
 
   -- an advance leaves the rate
-  same-rate : rateOf (moved .clock) ≡ rateOf (b .clock)
-  same-rate = advance-rate (rateOf (b .clock)) (b .clock) c
+  rate-kept : SameRate (b .clock) (moved .clock)
+  rate-kept = advance-rate (rateOf (b .clock)) (b .clock) c
 
   moved-clock : OwnSound (moved .clock)
-  moved-clock = advance-kept (b .clock) (clock-good b g) c
+  moved-clock =
+      at-rate Sound (b .clock) (moved .clock) rate-kept
+      (advance-sound (rateOf (b .clock)) (clock-rate (b .clock)) c (b .clock) (clock-good b g))
 
   pub advance-step : Step c b (advancedBoard c b)
   unfolding advancedBoard movedBoard wired
@@ -140,7 +148,7 @@ module _ (c : ℕ) (b : Board) (g : Good b) where
             ∙ due-parts moved t
             ∙ ap₂ _||_
             (channels-advance-due (b .«timer_enable») c 0 (b .timers) (g .fits .timers) (g .facts .timers) t)
-            (ap (λ (rate : ℕ). clockDue rate (moved .clock) t) same-rate
+            (ap (λ (rate : ℕ). clockDue rate (moved .clock) t) (rate-kept .same)
             ∙ clock-advance-due (rateOf (b .clock)) c (b .clock) (clock-good b g) o t)
             ∙ sym (due-parts b (c + t));
         source =
@@ -154,7 +162,7 @@ module _ (h : HostTime) (b : Board) (small : h .nanoseconds < nanosPerSecond) (g
   hosted = withClock (withHost h (b .clock)) b
 
   hosted-clock : OwnSound (hosted .clock)
-  hosted-clock = host-kept (b .clock) (clock-good b g) h small
+  hosted-clock = host-sound (rateOf (b .clock)) h (b .clock) small (clock-good b g)
 
   hosted-due : (t : ℕ) → boardDue hosted t ≡ boardDue b t
   hosted-due t =

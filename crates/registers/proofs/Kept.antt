@@ -2,7 +2,7 @@
 use Prim.Native.Nat.{ℕ, _+_, _<_}
 use native.Mathlib.Nat.{mod-lt}
 use native.Mathlib.Omega.{arith}
-use mathlib.Core.Path.{_≡_}
+use mathlib.Core.Path.{_≡_, refl}
 use mathlib.Core.Bool.{Bool, true, cond, _&&_}
 use lib.Dec.{eqb}
 use Rattle.wide.specs.Bits.{bit}
@@ -10,16 +10,31 @@ use Rattle.wide.proofs.Choices.{choose}
 use Rattle.channel.specs.Channel.{freshTimer}
 use Rattle.channel.specs.Registers.{countLowAt, byteWritten}
 use Rattle.clock.specs.declared.Clock.{Clock}
-use Rattle.clock.specs.Clock.{rateOf}
+use Rattle.clock.specs.Clock.{rateOf, checkAlarm}
 use Rattle.clock.specs.Registers.{mergeByte}
-use Rattle.clock.proofs.Soundness.{OwnSound, facts-sound as clock-sound, sound-fits}
-use Rattle.clock.proofs.Kept.{
-  check-kept,
-  control-kept,
-  seconds-kept,
-  alarm-kept,
-  enable-kept,
-  acknowledge-kept,
+use Rattle.clock.proofs.Rate.{
+  rate-above,
+  clock-rate,
+  SameRate,
+  at-rate,
+  check-rate,
+  control-rate,
+  seconds-rate,
+  alarm-rate,
+  enable-rate,
+  acknowledge-rate,
+}
+use Rattle.clock.proofs.Soundness.{
+  Sound,
+  OwnSound,
+  facts-sound as clock-sound,
+  sound-fits,
+  check-sound,
+  control-sound,
+  seconds-sound,
+  alarm-bytes-sound,
+  enable-sound,
+  acknowledge-sound,
 }
 use Rattle.board.specs.declared.Latches.{Latches}
 use Rattle.board.specs.declared.Board.{Board}
@@ -113,6 +128,11 @@ latches-parts b ls p = record { timers = p .timers; enable = p .enable; clock = 
 
 -- ---- a read
 
+-- the alarm check
+check-kept : (k : Clock) → OwnSound k → OwnSound (checkAlarm (rateOf k) k)
+check-kept k s =
+    at-rate Sound k (checkAlarm (rateOf k) k) (check-rate (rateOf k) k) (check-sound (rateOf k) k (s .parts))
+
 abbrev Kept : ByteAnswer → Type 0
 Kept r = Good (r .board)
 
@@ -163,17 +183,45 @@ module _ (offset : ℕ) where
 -- ---- a write
 
 module _ (i v : ℕ) (four : i < 4) (byte : v < 256) (k : Clock) (s : OwnSound k) where
-  clock-written-sound : (register : ℕ) → OwnSound (clockWritten register i v k)
+  -- at the rate before it
+  abbrev S : Clock → Type 0
+  S = Sound (rateOf k)
+
+  written-sound : (register : ℕ) → S (clockWritten register i v k)
   unfolding clockWritten
-  clock-written-sound register =
-      choose OwnSound (eqb register clockControlAt) (λ _. control-kept k s i v)
-      (λ _. choose OwnSound (eqb register secondsLowAt) (λ _. seconds-kept k s (i + 4) v (omega arith) byte)
-      (λ _. choose OwnSound (eqb register secondsHighAt) (λ _. seconds-kept k s i v (omega arith) byte)
-      (λ _. choose OwnSound (eqb register alarmLowAt) (λ _. alarm-kept k s (i + 4) v (omega arith) byte)
-      (λ _. choose OwnSound (eqb register alarmHighAt) (λ _. alarm-kept k s i v (omega arith) byte)
-      (λ _. choose OwnSound (eqb register alarmEnableAt) (λ _. enable-kept k s i v)
-      (λ _. choose OwnSound (eqb register clockAckAt) (λ _. acknowledge-kept k s i v)
+  written-sound register =
+      choose S (eqb register clockControlAt) (λ _. control-sound (rateOf k) (clock-rate k) i v k s)
+      (λ _. choose S (eqb register secondsLowAt)
+      (λ _. seconds-sound (rateOf k) (clock-rate k) (i + 4) v (omega arith) byte k s)
+      (λ _. choose S (eqb register secondsHighAt)
+      (λ _. seconds-sound (rateOf k) (clock-rate k) i v (omega arith) byte k s)
+      (λ _. choose S (eqb register alarmLowAt)
+      (λ _. alarm-bytes-sound (rateOf k) (clock-rate k) (i + 4) v (omega arith) byte k s)
+      (λ _. choose S (eqb register alarmHighAt)
+      (λ _. alarm-bytes-sound (rateOf k) (clock-rate k) i v (omega arith) byte k s)
+      (λ _. choose S (eqb register alarmEnableAt) (λ _. enable-sound (rateOf k) i v k s)
+      (λ _. choose S (eqb register clockAckAt) (λ _. acknowledge-sound (rateOf k) i v k s)
       (λ _. s)))))))
+
+  -- and a byte leaves the rate
+  abbrev Q : Clock → Type 0
+  Q = SameRate k
+
+  written-rate : (register : ℕ) → Q (clockWritten register i v k)
+  unfolding clockWritten
+  written-rate register =
+      choose Q (eqb register clockControlAt) (λ _. control-rate (rateOf k) k (rate-above k) i v)
+      (λ _. choose Q (eqb register secondsLowAt) (λ _. seconds-rate (rateOf k) k (i + 4) v)
+      (λ _. choose Q (eqb register secondsHighAt) (λ _. seconds-rate (rateOf k) k i v)
+      (λ _. choose Q (eqb register alarmLowAt) (λ _. alarm-rate (rateOf k) k (i + 4) v)
+      (λ _. choose Q (eqb register alarmHighAt) (λ _. alarm-rate (rateOf k) k i v)
+      (λ _. choose Q (eqb register alarmEnableAt) (λ _. enable-rate i v k)
+      (λ _. choose Q (eqb register clockAckAt) (λ _. acknowledge-rate i v k)
+      (λ _. record { same = refl })))))))
+
+  clock-written-sound : (register : ℕ) → OwnSound (clockWritten register i v k)
+  clock-written-sound register =
+      at-rate Sound k (clockWritten register i v k) (written-rate register) (written-sound register)
 
 module _ (v : ℕ) (byte : v < 256) (b : Board) (p : Parts b) where
   timer-parts : (register i : ℕ) → Parts (timerWritten register i v b)

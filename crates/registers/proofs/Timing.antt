@@ -6,7 +6,7 @@ use native.Mathlib.Omega.{arith}
 use Rattle.clock.specs.Clock.{rateOf, checkAlarm, alarmReached}
 use Rattle.clock.specs.declared.Clock.{Clock}
 use Rattle.clock.specs.Sound.{ClockFits, Timed}
-use Rattle.clock.proofs.Rate.{check-rate, at-rate}
+use Rattle.clock.proofs.Rate.{at-rate, check-rate}
 use Rattle.clock.proofs.Soundness.{sound-timed}
 use Rattle.wide.proofs.Choices.{choose}
 use Rattle.board.specs.declared.Board.{Board}
@@ -21,7 +21,7 @@ sound-times b f s = sound-timed (rateOf (b .clock)) (b .clock) (clock-facts b f 
 pub check-timed : (k : Clock) → Timed (rateOf k) k → Timed (rateOf (checkAlarm (rateOf k) k)) (checkAlarm (rateOf k) k)
 unfolding checkAlarm
 check-timed k t =
-    at-rate Timed (checkAlarm (rateOf k) k) k (check-rate (rateOf k) k)
+    at-rate Timed k (checkAlarm (rateOf k) k) (check-rate (rateOf k) k)
     (choose (Timed (rateOf k)) (alarmReached (rateOf k) k)
     (λ _. record { subsecond = t .subsecond; offset = t .offset; host = t .host })
     (λ _. t))

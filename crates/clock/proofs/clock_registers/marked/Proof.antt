@@ -1,11 +1,11 @@
--- `registers::marked` meets its contract. Assumes nothing.
+-- `clock_registers::marked` meets its contract. Assumes nothing.
 use mathlib.Core.Path.{sym, _∙_}
 use native.Mathlib.Omega.{arith}
 use lib.Pow.{pow-pos}
 use Rattle.clock.proofs.Marks.{unit-is, mark-there, mark-new, mark-room}
 use borrow.Author.Needs.{needs}
-use Rattle.clock.proofs.registers.marked.Statement.{statement}
-use Rattle.clock.proofs.registers.marked.Tie as tie
+use Rattle.clock.proofs.clock_registers.marked.Statement.{statement}
+use Rattle.clock.proofs.clock_registers.marked.Tie as tie
 
 cast-unit : tie.Need-cast-unit
 cast-unit c = search needs

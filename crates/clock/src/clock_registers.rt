@@ -114,7 +114,7 @@ impl Clock {
     {
         let mut a = self.alarm;
         let merged = wide::fields::with_byte(a.enable as u64, 3 - byte, value);
-        a.enable = (merged % 2) as u8;
+        a.enable = (merged % Alarm::ENABLE_VALUES as u64) as u8;
         self.with_alarm(a)
     }
 
@@ -122,7 +122,7 @@ impl Clock {
     pub fn acknowledge(self, byte: usize, value: u8) -> Self
         ensures { λ r. ⌜ r ≡ acknowledge byte value self ⌝ }
     {
-        if both(byte == 3, has_bit(value, Alarm::ACK)) {
+        if both(byte == Alarm::ACK_BYTE, has_bit(value, Alarm::ACK)) {
             let mut a = self.alarm;
             a.pending = false;
             return self.with_alarm(a);
