@@ -1,4 +1,5 @@
-// The words that a channel's registers read as, and what a byte written to them does.
+// The words that a channel's registers read as, and what a byte written to them does. Its name is not `registers`:
+// `rt try` refuses programs over the crate of that name where a module has it too.
 ghost use mathlib.Core.Path.{_≡_};
 ghost use Prim.Native.Nat.{_+_, _*_, _<_};
 ghost use Rattle.wide.specs.Bits.{flagOf};
