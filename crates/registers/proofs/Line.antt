@@ -1,5 +1,5 @@
--- Where a read and a write leave the line as it was, and that source 3 of the controller then needs no setting. Assumes
--- nothing.
+-- Where a read and a write leave the line as it was, and that source 3 of the controller then needs no setting.
+-- Assumes nothing.
 use Prim.Native.Nat.{ℕ}
 use native.Mathlib.Omega.{arith}
 use mathlib.Core.Path.{_≡_, refl, sym, ap, _∙_}
@@ -29,13 +29,20 @@ use Rattle.controller.proofs.Laws.{steady}
 use Rattle.board.specs.declared.Latches.{Latches}
 use Rattle.board.specs.declared.Board.{Board}
 use Rattle.board.specs.Channels.{anyLine}
+use Rattle.board.specs.Fields.{channelAt}
 use Rattle.board.specs.Board.{heldOf, line, wired, sound}
 use Rattle.board.proofs.Soundness.{sound-facts}
-use Rattle.offsets.specs.Registers.{registerOf, byteOf, placeOf, channelAt}
+use Rattle.offsets.specs.Registers.{registerOf, byteOf, placeOf}
 use Rattle.offsets.specs.Words.{timerWord}
 use Rattle.registers.specs.declared.reads.Reading.{Reading}
 use Rattle.registers.specs.declared.writes.WritePart.{WritePart}
-use Rattle.registers.specs.declared.writes.WritePart.the-variants.{Nothing, Enable, Acknowledge, Channel, Clock as ofClock}
+use Rattle.registers.specs.declared.writes.WritePart.the-variants.{
+  Nothing,
+  Enable,
+  Acknowledge,
+  Channel,
+  Clock as ofClock,
+}
 use Rattle.registers.specs.CodeReads.{
   channelIndex,
   filled,
