@@ -5,7 +5,7 @@
 use Prim.Native.Nat.{ℕ, _≤_}
 use native.Mathlib.Omega.{arith}
 use mathlib.Core.Path.{_≡_, refl, sym, ap, _∙_}
-use mathlib.Core.Bool.{true, false, not, _&&_, false≢true}
+use mathlib.Core.Bool.{true, false, not, _&&_, false≢true, Bool·beq}
 use lib.Dec.{eqb}
 use borrow.Author.Tests.{eqb-true, eqb-false, ne-eqb, not-true}
 use Rattle.wide.specs.Words.{lowWord, highWord}
@@ -17,16 +17,9 @@ use Rattle.clock.specs.Clock.{rateOf, timeSeconds, checkAlarm}
 use Rattle.board.specs.declared.Latch.the-variants.{Empty, Held}
 use Rattle.board.specs.declared.Latches.{Latches}
 use Rattle.board.specs.declared.Board.{Board}
+use Rattle.board.specs.Fields.{channelAt}
 use Rattle.board.specs.Board.{heldOf}
-use Rattle.offsets.specs.Registers.{
-  secondsLowAt,
-  inChannels,
-  registerOf,
-  byteOf,
-  placeOf,
-  byteOfWord,
-  channelAt,
-}
+use Rattle.offsets.specs.Registers.{secondsLowAt, inChannels, registerOf, byteOf, placeOf, byteOfWord}
 use Rattle.offsets.specs.Words.{timerWord}
 use Rattle.offsets.proofs.Ranges.{above, bounds}
 use Rattle.registers.specs.declared.reads.Reading.{Reading}
@@ -132,7 +125,12 @@ module _ (o : ℕ) (p : plainAt o ≡ true) where
   unfolding serving countServing atCountHigh
   plain-unserved ls =
       let first = plain-range .0 in
-      rw (above 0x208 0x20B o (omega (arith, first)), above 0x20C 0x20F o (omega (arith, first)), plain-in, plain-not .1)
+      rw (
+        above 0x208 0x20B o (omega (arith, first)),
+        above 0x20C 0x20F o (omega (arith, first)),
+        plain-in,
+        plain-not .1,
+      )
 
   plain-unfilled : (counter : ℕ) (ls : Latches) → countFilled o counter ls ≡ ls
   unfolding countFilled atCountLow
@@ -148,7 +146,7 @@ module _ (o : ℕ) (p : plainAt o ≡ true) where
         latches = b .latches;
         pending = checkAlarm (rateOf (b .clock)) (b .clock) .alarm .pending;
         armed = checkAlarm (rateOf (b .clock)) (b .clock) .alarm .armed;
-        rose = checkAlarm (rateOf (b .clock)) (b .clock) .alarm .pending && not (b .clock .alarm .pending);
+        rose = not (Bool·beq (checkAlarm (rateOf (b .clock)) (b .clock) .alarm .pending) (b .clock .alarm .pending));
       }
   unfolding wordAt
   plain-reading b =

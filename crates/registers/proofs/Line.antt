@@ -1,9 +1,9 @@
--- Where a read and a write leave the line as it was, and that source 3 of the controller then needs no setting. Assumes
--- nothing.
+-- Where a read and a write leave the line as it was, and that source 3 of the controller then needs no setting.
+-- Assumes nothing.
 use Prim.Native.Nat.{ℕ}
 use native.Mathlib.Omega.{arith}
 use mathlib.Core.Path.{_≡_, refl, sym, ap, _∙_}
-use mathlib.Core.Bool.{Bool, true, false, not, _&&_, _||_, false≢true}
+use mathlib.Core.Bool.{Bool, true, false, not, _&&_, _||_, false≢true, Bool·beq}
 use lib.Dec.{eqb}
 use borrow.Author.Tests.{ltb-false, ne-eqb, not-false}
 use Rattle.wide.specs.Bits.{bit}
@@ -29,13 +29,20 @@ use Rattle.controller.proofs.Laws.{steady}
 use Rattle.board.specs.declared.Latches.{Latches}
 use Rattle.board.specs.declared.Board.{Board}
 use Rattle.board.specs.Channels.{anyLine}
+use Rattle.board.specs.Fields.{channelAt}
 use Rattle.board.specs.Board.{heldOf, line, wired, sound}
 use Rattle.board.proofs.Soundness.{sound-facts}
-use Rattle.offsets.specs.Registers.{registerOf, byteOf, placeOf, channelAt}
+use Rattle.offsets.specs.Registers.{registerOf, byteOf, placeOf}
 use Rattle.offsets.specs.Words.{timerWord}
 use Rattle.registers.specs.declared.reads.Reading.{Reading}
 use Rattle.registers.specs.declared.writes.WritePart.{WritePart}
-use Rattle.registers.specs.declared.writes.WritePart.the-variants.{Nothing, Enable, Acknowledge, Channel, Clock as ofClock}
+use Rattle.registers.specs.declared.writes.WritePart.the-variants.{
+  Nothing,
+  Enable,
+  Acknowledge,
+  Channel,
+  Clock as ofClock,
+}
 use Rattle.registers.specs.CodeReads.{
   channelIndex,
   filled,
@@ -85,21 +92,20 @@ write-still Channel o v b n =
 
 -- ---- a read
 
--- an alarm check that does not set pending leaves it
-check-still : (k : Clock) → (checkAlarm (rateOf k) k .alarm .pending && not (k .alarm .pending)) ≡ false →
-    checkAlarm (rateOf k) k .alarm .pending ≡ k .alarm .pending
-unfolding checkAlarm
-check-still k =
-    choose
-    (λ (r : Clock). (r .alarm .pending && not (k .alarm .pending)) ≡ false → r .alarm .pending ≡ k .alarm .pending)
-    (alarmReached (rateOf k) k) (λ _ n. sym (not-false (k .alarm .pending) n)) (λ _ _. refl)
+-- flags that do not differ are the same
+not-differ : (v w : Bool) → not (Bool·beq v w) ≡ false → v ≡ w
+not-differ true true e = refl
+not-differ true false e = absurd (false≢true (sym e))
+not-differ false true e = absurd (false≢true (sym e))
+not-differ false false e = refl
 
 reading-still : (h : HardwareTimer) (shared : ℕ) (k : Clock) (ls : Latches) (o : ℕ) →
     readingOf h shared k ls o .rose ≡ false → readingOf h shared k ls o .pending ≡ k .alarm .pending
 unfolding readingOf readingBy
 reading-still h shared k ls o =
     choose (λ (r : Reading). r .rose ≡ false → r .pending ≡ k .alarm .pending)
-    (heldOf (serving o (filled o (h .counter) k ls))) (λ _ _. refl) (λ _. check-still k)
+    (heldOf (serving o (filled o (h .counter) k ls))) (λ _ _. refl)
+    (λ _. not-differ (checkAlarm (rateOf k) k .alarm .pending) (k .alarm .pending))
 
 pub read-still : (o : ℕ) (b : Board) → offsetReading o b .rose ≡ false →
     line (afterReading (offsetReading o b) b) ≡ line b

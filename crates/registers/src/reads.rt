@@ -4,7 +4,8 @@ ghost use mathlib.Core.Bool.{true};
 ghost use Prim.Native.Nat.{_<_};
 ghost use Rattle.clock.specs.Clock.{rateOf};
 ghost use Rattle.clock.specs.Sound.{Timed};
-ghost use Rattle.offsets.specs.Registers.{inChannels, registerOf, channelAt};
+ghost use Rattle.board.specs.Fields.{channelAt};
+ghost use Rattle.offsets.specs.Registers.{inChannels, registerOf};
 ghost use Rattle.offsets.specs.Words.{timerWord};
 ghost use Rattle.registers.specs.CodeReads.{channelIndex, atCountLow, atCountHigh, withCount, countFilled};
 ghost use Rattle.registers.specs.CodeReads.{countServing, serving, countFreed, latchFreed, freedAt};
@@ -25,8 +26,8 @@ use wide::flags::both;
 use wide::words::high;
 use wide::words::low;
 
-// After a read the latches, what it answers, the alarm's two flags, and whether its alarm check set pending. The latches
-// stand first, so that no bytes between fields are copied with them.
+// After a read the latches, what it answers, the alarm's two flags, and whether its alarm check set pending. The
+// latches stand first, so that no bytes between fields are copied with them.
 pub struct Reading {
     pub latches: Latches,
     pub byte: u8,
@@ -234,7 +235,7 @@ fn reading_of(
             latches: count_filled(latches, timer.counter, offset),
             pending,
             armed,
-            rose: both(pending, !before),
+            rose: pending != before,
         };
     };
     let pending = clock.alarm.pending;
@@ -292,6 +293,6 @@ pub fn plain_at(board: Board, timer: HardwareTimer, offset: u32) -> PlainReading
         byte: byte_of_word(word, offset % 4),
         pending,
         armed,
-        rose: both(pending, !before),
+        rose: pending != before,
     }
 }
