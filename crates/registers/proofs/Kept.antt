@@ -50,7 +50,6 @@ use Rattle.offsets.specs.Registers.{
 }
 use Rattle.registers.specs.Reads.{
   Read,
-  checked,
   readLive,
   countHeld,
   readCountHigh,
