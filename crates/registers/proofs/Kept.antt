@@ -66,7 +66,6 @@ use Rattle.offsets.specs.Registers.{
 }
 use Rattle.registers.specs.Reads.{
   Read,
-  checked,
   readLive,
   countHeld,
   readCountHigh,
