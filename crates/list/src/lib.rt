@@ -187,7 +187,7 @@ pub fn run(board: Board, list: &[u8], answers: &mut [u8]) -> Outcome
             }
             // host time, source, and the controller's calls
             _ => {
-                let e = perform::effect(b, tag, rest);
+                let e = perform::effect_of(b, tag, rest);
                 b.clock.host.seconds = e.host.seconds;
                 b.clock.host.nanoseconds = e.host.nanoseconds;
                 let after = e.controller;
