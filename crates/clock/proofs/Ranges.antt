@@ -24,7 +24,7 @@ pub signed-small : (a b : ℕ) → signedDifference a b .nanoseconds < nanosPerS
 unfolding signedDifference
 signed-small a b = mod-lt _ (omega arith)
 
--- of a clock at its own rate, whatever the clock is called
+-- at the clock's own rate: of a clock that is the same
 pub timed-same : {j k : Clock} → j ≡ k → Timed (rateOf k) k → Timed (rateOf j) j
 timed-same e t = subst⁻¹ (λ (x : Clock). Timed (rateOf x) x) e t
 

@@ -41,7 +41,7 @@ check-alarm-requires : tie.Need-check-alarm-requires
 check-alarm-requires c κs =
     let start = c .before .before .before .before .before .before .before in
     let k = start .args .self in
-    timed-same (c .with-poll .ensures) (poll-timed (rateOf k) k (start .pre) 0)
+    timed-same (c .with-poll .ensures) (poll-timed (rateOf k) k (start .pre) _)
 
 returns-2 : tie.Need-returns-2
 returns-2 c =
