@@ -56,10 +56,7 @@ impl HardwareTimer {
         requires { ⌜ self .phase ≤ self .prescaler ⌝ }
         ensures { λ r. ⌜ r ≡ advanced selected (cycles .0) self ⌝ }
     {
-        if !self.enabled() {
-            return self;
-        }
-        if !selected {
+        if !self.runs(selected) {
             return self;
         }
         let s = self.scale(cycles);
