@@ -1,29 +1,29 @@
+-- `answered` meets its contract. Assumes nothing.
+use mathlib.Core.Path.{sym}
+use borrow.Author.Tests.{ne-eqb}
+use Rattle.format.specs.Format.{valueBytes}
+use Rattle.perform.specs.CodeCalls.{answeredBytes}
+use Rattle.perform.proofs.Calls.{other-bytes}
 use borrow.Author.Needs.{needs}
 use Rattle.perform.proofs.answered.Statement.{statement}
 use Rattle.perform.proofs.answered.Tie as tie
-use Rattle.perform.proofs.answered.Reads as reads
-use Rattle.perform.proofs.answered.Lts as lts
-use Rattle.perform.proofs.flag.Reads as flag-reads
 
--- src/lib.rt:122:27
 flag-requires : tie.Need-flag-requires
 flag-requires c κs = search needs
 
--- src/lib.rt:123:37
 flag-requires-2 : tie.Need-flag-requires-2
 flag-requires-2 c κs = search needs
 
--- src/lib.rt:118:1
 returns : tie.Need-returns
-returns c = ?
+unfolding answeredBytes valueBytes
+returns c = rw (c .before .match .keys1, c .flag .ensures)
 
--- src/lib.rt:118:1
 returns-2 : tie.Need-returns-2
-returns-2 c = ?
+unfolding answeredBytes valueBytes
+returns-2 c = rw (c .before .match .keys2, c .flag2 .ensures)
 
--- src/lib.rt:118:1
 returns-3 : tie.Need-returns-3
-returns-3 c = ?
+returns-3 c = sym (other-bytes _ _ _ _ (ne-eqb _ _ (c .match .rest .0 .1)) (ne-eqb _ _ (c .match .rest .1)))
 
 pub answered-spec : {M : Type 1} → statement M
 answered-spec = tie.close (tie.spec flag-requires flag-requires-2 returns returns-2 returns-3)

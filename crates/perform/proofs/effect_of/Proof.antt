@@ -1,80 +1,94 @@
+-- `effect_of` meets its contract. Assumes nothing.
+use Prim.Native.Nat.{_≤_}
+use native.Mathlib.Omega.{arith}
+use mathlib.Core.Path.{refl}
+use lib.ListN.{length}
+use Rattle.format.specs.Format.{membersAt, membersBytes, valueBytes}
+use Rattle.perform.specs.Calls.{callOf}
+use Rattle.perform.proofs.Calls.{last-lesser}
 use borrow.Author.Needs.{needs}
 use Rattle.perform.proofs.effect_of.Statement.{statement}
 use Rattle.perform.proofs.effect_of.Tie as tie
-use Rattle.perform.proofs.effect_of.Reads as reads
-use Rattle.perform.proofs.effect_of.Lts as lts
-use Rattle.controller.proofs.output_of.Reads as output-of-reads
-use Rattle.controller.proofs.read_of.Reads as read-of-reads
-use Rattle.controller.proofs.with_source.Reads as with-source-reads
-use Rattle.controller.proofs.written.Reads as written-reads
-use Rattle.perform.proofs.byte_at.Reads as byte-at-reads
-use Rattle.perform.proofs.controller_address_at.Reads as controller-address-at-reads
-use Rattle.perform.proofs.flag.Reads as flag-reads
-use Rattle.perform.proofs.host_at.Reads as host-at-reads
 
--- src/lib.rt:148:19
 host-at-requires : tie.Need-host-at-requires
-host-at-requires c κs = ?
+host-at-requires c κs = let h : 15 ≤ length (c .before .before .before .before .before .args .rest .now) =
+    rw (c .match .keys1) at (c .before .before .before .before .before .pre .0) in
+    omega arith
 
--- src/lib.rt:156:30
 byte-at-requires : tie.Need-byte-at-requires
-byte-at-requires c κs = ?
+byte-at-requires c κs = let h : 5 ≤ length (c .before .before .before .before .before .args .rest .now) =
+    rw (c .match .keys2) at (c .before .before .before .before .before .pre .0) in
+    omega arith
 
--- src/lib.rt:157:17
 byte-at-requires-2 : tie.Need-byte-at-requires-2
-byte-at-requires-2 c κs = ?
+byte-at-requires-2 c κs = let h : 5 ≤ length (c .before .before .before .before .before .before .args .rest .now) =
+    rw (c .before .match .keys2) at (c .before .before .before .before .before .before .pre .0) in
+    omega arith
 
--- src/lib.rt:154:25
 with-source-requires : tie.Need-with-source-requires
 with-source-requires c κs = search needs
 
--- src/lib.rt:164:66
 controller-address-at-requires : tie.Need-controller-address-at-requires
-controller-address-at-requires c κs = ?
+controller-address-at-requires c κs = let h : 7 ≤ length (c .before .before .before .before .before .args .rest .now) =
+    rw (c .match .keys3) at (c .before .before .before .before .before .pre .0) in
+    omega arith
 
--- src/lib.rt:164:34
 read-of-requires : tie.Need-read-of-requires
 read-of-requires c κs = search needs
 
--- src/lib.rt:170:17
 controller-address-at-requires-2 : tie.Need-controller-address-at-requires-2
-controller-address-at-requires-2 c κs = ?
+controller-address-at-requires-2 c κs = let h : 8 ≤ length (c .before .before .before .before .before .args .rest .now) =
+    rw (c .match .keys4) at (c .before .before .before .before .before .pre .0) in
+    omega arith
 
--- src/lib.rt:171:17
 byte-at-requires-3 : tie.Need-byte-at-requires-3
-byte-at-requires-3 c κs = ?
+byte-at-requires-3 c κs = let h : 8 ≤ length (c .before .before .before .before .before .before .args .rest .now) =
+    rw (c .before .match .keys4) at (c .before .before .before .before .before .before .pre .0) in
+    omega arith
 
--- src/lib.rt:168:25
 written-requires : tie.Need-written-requires
 written-requires c κs = search needs
 
--- src/lib.rt:176:17
 output-of-requires : tie.Need-output-of-requires
 output-of-requires c κs = search needs
 
--- src/lib.rt:180:38
 flag-requires : tie.Need-flag-requires
 flag-requires c κs = search needs
 
--- src/lib.rt:139:1
 returns : tie.Need-returns
-returns c = ?
+unfolding callOf membersAt membersBytes valueBytes
+returns c = rw (c .before .match .keys1, c .host-at .ensures) (refl, refl)
 
--- src/lib.rt:139:1
 returns-2 : tie.Need-returns-2
-returns-2 c = ?
+unfolding callOf membersAt membersBytes valueBytes
+returns-2 c = rw (
+  c .before .before .before .match .keys2,
+  c .with-source .ensures,
+  c .before .byte-at2 .ensures,
+  c .before .before .byte-at .ensures,
+)
+    (refl, refl)
 
--- src/lib.rt:139:1
 returns-3 : tie.Need-returns-3
-returns-3 c = ?
+unfolding callOf membersAt valueBytes
+returns-3 c = rw (c .before .before .match .keys3, c .read-of .ensures, c .before .controller-address-at .ensures) (refl, refl)
 
--- src/lib.rt:139:1
 returns-4 : tie.Need-returns-4
-returns-4 c = ?
+unfolding callOf membersAt membersBytes valueBytes
+returns-4 c = rw (
+  c .before .before .before .match .keys4,
+  c .written .ensures,
+  c .before .byte-at3 .ensures,
+  c .before .before .controller-address-at2 .ensures,
+)
+    (refl, refl)
 
--- src/lib.rt:139:1
 returns-5 : tie.Need-returns-5
-returns-5 c = ?
+unfolding callOf valueBytes
+returns-5 c = let s = c .before .before .before .before .before .before .before in
+    let n = c .before .before .match .rest in
+    let e = last-lesser (s .args .tag) (s .pre .1) (n .0 .0 .0 .1) (n .0 .0 .1) (n .0 .1) (n .1) in
+    rw (e, c .flag .ensures, c .before .output-of .ensures) (refl, refl)
 
 pub effect-of-spec : {M : Type 1} → statement M
 effect-of-spec =

@@ -1,70 +1,75 @@
+-- `own_refusal` meets its contract. Assumes nothing.
+use Prim.Native.Nat.{_≤_}
+use native.Mathlib.Omega.{arith}
+use lib.ListN.{length}
+use borrow.Author.Tests.{ne-eqb}
+use Rattle.format.specs.Format.{membersAt, argumentsOf}
+use Rattle.perform.specs.Calls.{callOf}
+use Rattle.perform.proofs.Calls.{unrefused}
 use borrow.Author.Needs.{needs}
 use Rattle.perform.proofs.own_refusal.Statement.{statement}
 use Rattle.perform.proofs.own_refusal.Tie as tie
-use Rattle.perform.proofs.own_refusal.Reads as reads
-use Rattle.perform.proofs.own_refusal.Lts as lts
-use Rattle.board.proofs.calls.host_time_refusal.Reads as host-time-refusal-reads
-use Rattle.board.proofs.calls.source_refusal.Reads as source-refusal-reads
-use Rattle.perform.proofs.address_at.Reads as address-at-reads
-use Rattle.perform.proofs.byte_at.Reads as byte-at-reads
-use Rattle.perform.proofs.host_at.Reads as host-at-reads
-use Rattle.registers.proofs.address_refusal.Reads as address-refusal-reads
 
--- src/lib.rt:92:32
 host-at-requires : tie.Need-host-at-requires
-host-at-requires c κs = ?
+host-at-requires c κs = let h : 15 ≤ length (c .before .before .args .rest .now) =
+    rw (c .match .keys1) at (c .before .before .pre) in
+    omega arith
 
--- src/lib.rt:92:14
 host-time-refusal-requires : tie.Need-host-time-refusal-requires
 host-time-refusal-requires c κs = search needs
 
--- src/lib.rt:93:41
 address-at-requires : tie.Need-address-at-requires
-address-at-requires c κs = ?
+address-at-requires c κs = let h : 5 ≤ length (c .before .before .args .rest .now) =
+    rw (c .match .keys2) at (c .before .before .pre) in
+    omega arith
 
--- src/lib.rt:93:14
 address-refusal-requires : tie.Need-address-refusal-requires
 address-refusal-requires c κs = search needs
 
--- src/lib.rt:94:41
 address-at-requires-2 : tie.Need-address-at-requires-2
-address-at-requires-2 c κs = ?
+address-at-requires-2 c κs = let h : 6 ≤ length (c .before .before .args .rest .now) =
+    rw (c .match .keys3) at (c .before .before .pre) in
+    omega arith
 
--- src/lib.rt:94:14
 address-refusal-requires-2 : tie.Need-address-refusal-requires-2
 address-refusal-requires-2 c κs = search needs
 
--- src/lib.rt:95:42
 byte-at-requires : tie.Need-byte-at-requires
-byte-at-requires c κs = ?
+byte-at-requires c κs = let h : 5 ≤ length (c .before .before .args .rest .now) =
+    rw (c .match .keys4) at (c .before .before .pre) in
+    omega arith
 
--- src/lib.rt:95:61
 byte-at-requires-2 : tie.Need-byte-at-requires-2
-byte-at-requires-2 c κs = ?
+byte-at-requires-2 c κs = let h : 5 ≤ length (c .before .before .before .args .rest .now) =
+    rw (c .before .match .keys4) at (c .before .before .before .pre) in
+    omega arith
 
--- src/lib.rt:95:14
 source-refusal-requires : tie.Need-source-refusal-requires
 source-refusal-requires c κs = search needs
 
--- src/lib.rt:87:1
 returns : tie.Need-returns
-returns c = ?
+unfolding callOf membersAt
+returns c = rw (c .before .before .match .keys1, ← c .before .host-at .ensures) (c .host-time-refusal .ensures)
 
--- src/lib.rt:87:1
 returns-2 : tie.Need-returns-2
-returns-2 c = ?
+unfolding callOf membersAt
+returns-2 c = rw (c .before .before .match .keys2, ← c .before .address-at .ensures) (c .address-refusal .ensures)
 
--- src/lib.rt:87:1
 returns-3 : tie.Need-returns-3
-returns-3 c = ?
+unfolding callOf membersAt
+returns-3 c = rw (c .before .before .match .keys3, ← c .before .address-at2 .ensures) (c .address-refusal2 .ensures)
 
--- src/lib.rt:87:1
 returns-4 : tie.Need-returns-4
-returns-4 c = ?
+unfolding callOf membersAt
+returns-4 c = rw
+    (c .before .before .before .match .keys4, ← c .before .byte-at2 .ensures, ← c .before .before .byte-at .ensures)
+    (c .source-refusal .ensures)
 
--- src/lib.rt:87:1
 returns-5 : tie.Need-returns-5
-returns-5 c = ?
+returns-5 c = let a = c .before .before .args in
+    let n = c .match .rest in
+    unrefused (a .tag) (argumentsOf (a .tag) (a .rest .now)) (a .board) (ne-eqb _ _ (n .0 .0 .0 .1))
+    (ne-eqb _ _ (n .0 .0 .1)) (ne-eqb _ _ (n .0 .1)) (ne-eqb _ _ (n .1))
 
 pub own-refusal-spec : {M : Type 1} → statement M
 own-refusal-spec =

@@ -1,26 +1,29 @@
+-- `passing` meets its contract. Assumes nothing.
+use Prim.Native.Nat.{_≤_}
+use native.Mathlib.Omega.{arith}
+use lib.ListN.{length}
+use borrow.Author.Tests.{ne-eqb}
+use Rattle.format.specs.Format.{membersAt}
+use Rattle.perform.specs.CodeCalls.{cyclesAt}
 use borrow.Author.Needs.{needs}
 use Rattle.perform.proofs.passing.Statement.{statement}
 use Rattle.perform.proofs.passing.Tie as tie
-use Rattle.perform.proofs.passing.Reads as reads
-use Rattle.perform.proofs.passing.Lts as lts
-use Rattle.board.proofs.Board.skip_length.Reads as skip-length-reads
-use Rattle.wide.proofs.fields.get.Reads as get-reads
 
--- src/lib.rt:110:28
 get-requires : tie.Need-get-requires
-get-requires c κs = ?
+get-requires c κs = let h : 11 ≤ length (c .before .before .args .rest .now) =
+    rw (c .if1 .taken) at (c .before .before .pre .0) in
+    (omega arith, omega arith)
 
--- src/lib.rt:108:9
 returns : tie.Need-returns
-returns c = ?
+unfolding cyclesAt membersAt
+returns c = rw (c .before .if1 .taken, c .get .ensures .0)
 
--- src/lib.rt:113:5
 skip-length-requires : tie.Need-skip-length-requires
 skip-length-requires c κs = search needs
 
--- src/lib.rt:103:1
 returns-2 : tie.Need-returns-2
-returns-2 c = ?
+unfolding cyclesAt
+returns-2 c = rw (ne-eqb _ _ (c .before .if1 .left)) (c .skip-length .ensures)
 
 pub passing-spec : {M : Type 1} → statement M
 passing-spec = tie.close (tie.spec get-requires returns skip-length-requires returns-2)
