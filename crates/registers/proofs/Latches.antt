@@ -132,7 +132,12 @@ module _ (o : ℕ) (p : plainAt o ≡ true) where
   unfolding serving countServing atCountHigh
   plain-unserved ls =
       let first = plain-range .0 in
-      rw (above 0x208 0x20B o (omega (arith, first)), above 0x20C 0x20F o (omega (arith, first)), plain-in, plain-not .1)
+      rw (
+        above 0x208 0x20B o (omega (arith, first)),
+        above 0x20C 0x20F o (omega (arith, first)),
+        plain-in,
+        plain-not .1,
+      )
 
   plain-unfilled : (counter : ℕ) (ls : Latches) → countFilled o counter ls ≡ ls
   unfolding countFilled atCountLow

@@ -25,8 +25,8 @@ use wide::flags::both;
 use wide::words::high;
 use wide::words::low;
 
-// After a read the latches, what it answers, the alarm's two flags, and whether its alarm check set pending. The latches
-// stand first, so that no bytes between fields are copied with them.
+// After a read the latches, what it answers, the alarm's two flags, and whether its alarm check set pending. The
+// latches stand first, so that no bytes between fields are copied with them.
 pub struct Reading {
     pub latches: Latches,
     pub byte: u8,
