@@ -5,7 +5,7 @@
 use Prim.Native.Nat.{ℕ, _≤_}
 use native.Mathlib.Omega.{arith}
 use mathlib.Core.Path.{_≡_, refl, sym, ap, _∙_}
-use mathlib.Core.Bool.{true, false, not, _&&_, false≢true}
+use mathlib.Core.Bool.{true, false, not, _&&_, Bool·beq, false≢true}
 use lib.Dec.{eqb}
 use borrow.Author.Tests.{eqb-true, eqb-false, ne-eqb, not-true}
 use Rattle.wide.specs.Words.{lowWord, highWord}
@@ -153,7 +153,7 @@ module _ (o : ℕ) (p : plainAt o ≡ true) where
         latches = b .latches;
         pending = checkAlarm (rateOf (b .clock)) (b .clock) .alarm .pending;
         armed = checkAlarm (rateOf (b .clock)) (b .clock) .alarm .armed;
-        rose = checkAlarm (rateOf (b .clock)) (b .clock) .alarm .pending && not (b .clock .alarm .pending);
+        rose = not (Bool·beq (checkAlarm (rateOf (b .clock)) (b .clock) .alarm .pending) (b .clock .alarm .pending));
       }
   unfolding wordAt
   plain-reading b =

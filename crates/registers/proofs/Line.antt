@@ -3,8 +3,8 @@
 use Prim.Native.Nat.{ℕ}
 use native.Mathlib.Omega.{arith}
 use mathlib.Core.Path.{_≡_, refl, sym, ap, _∙_}
-use mathlib.Core.Bool.{Bool, true, false, not, _&&_, _||_, false≢true}
-use borrow.Author.Tests.{ltb-false, not-false}
+use mathlib.Core.Bool.{Bool, true, false, not, _&&_, _||_, Bool·beq, false≢true}
+use borrow.Author.Tests.{ltb-false}
 use Rattle.wide.specs.Bits.{bit}
 use Rattle.wide.proofs.Choices.{choose}
 use Rattle.channel.specs.declared.HardwareTimer.{HardwareTimer}
@@ -12,7 +12,6 @@ use Rattle.channel.specs.Channel.{freshTimer, lineOf}
 use Rattle.channel.specs.Registers.{controlAt, byteWritten}
 use Rattle.channel.proofs.Law.{written-line}
 use Rattle.clock.specs.declared.Clock.{Clock}
-use Rattle.clock.specs.Clock.{rateOf, alarmReached, checkAlarm}
 use Rattle.clock.specs.Deadline.{clockLine}
 use Rattle.controller.specs.declared.IrqController.{IrqController}
 use Rattle.controller.proofs.Laws.{steady}
@@ -64,21 +63,19 @@ write-still Channel o v b n =
 
 -- ---- a read
 
--- an alarm check that does not set pending leaves it
-check-still : (k : Clock) → (checkAlarm (rateOf k) k .alarm .pending && not (k .alarm .pending)) ≡ false →
-    checkAlarm (rateOf k) k .alarm .pending ≡ k .alarm .pending
-unfolding checkAlarm
-check-still k =
-    choose
-    (λ (r : Clock). (r .alarm .pending && not (k .alarm .pending)) ≡ false → r .alarm .pending ≡ k .alarm .pending)
-    (alarmReached (rateOf k) k) (λ _ n. sym (not-false (k .alarm .pending) n)) (λ _ _. refl)
+same-flag : (v w : Bool) → not (Bool·beq v w) ≡ false → v ≡ w
+same-flag true true e = refl
+same-flag true false e = e
+same-flag false true e = sym e
+same-flag false false e = refl
 
+-- where the alarm's pending did not rise it is as it was
 reading-still : (h : HardwareTimer) (shared : ℕ) (k : Clock) (ls : Latches) (o : ℕ) →
     readingOf h shared k ls o .rose ≡ false → readingOf h shared k ls o .pending ≡ k .alarm .pending
 unfolding readingOf readingBy
 reading-still h shared k ls o =
     choose (λ (r : Reading). r .rose ≡ false → r .pending ≡ k .alarm .pending)
-    (heldOf (serving o (filled o (h .counter) k ls))) (λ _ _. refl) (λ _. check-still k)
+    (heldOf (serving o (filled o (h .counter) k ls))) (λ _ _. refl) (λ _. same-flag _ (k .alarm .pending))
 
 pub read-still : (o : ℕ) (b : Board) → offsetReading o b .rose ≡ false →
     line (afterReading (offsetReading o b) b) ≡ line b

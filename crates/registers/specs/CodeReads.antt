@@ -2,7 +2,7 @@
 -- that all channels share. The rule is `readAt` of Reads.antt, and `read-parts` of proofs/CodeReads.antt shows that the
 -- read here is the rule's.
 use Prim.Native.Nat.{ℕ}
-use mathlib.Core.Bool.{Bool, false, not, cond, _&&_}
+use mathlib.Core.Bool.{Bool, false, not, cond, _&&_, Bool·beq}
 use lib.ListN.{getD, set}
 use lib.Dec.{eqb}
 use Rattle.wide.specs.Words.{lowWord, highWord}
@@ -106,7 +106,8 @@ wordAt h k shared offset =
     (cond (inChannels offset) (wordOf (registerOf (placeOf offset)) h)
     0))
 
--- no latch serves: k is the clock after the alarm check, `before` whether its alarm was pending before
+-- no latch serves: k is the clock after the alarm check, `before` whether its alarm was pending before. The check can
+-- only set pending, so where that is not as it was it rose.
 abbrev pub liveReading : HardwareTimer → ℕ → Clock → Bool → Latches → ℕ → Reading
 liveReading h shared k before ls offset =
     record {
@@ -114,7 +115,7 @@ liveReading h shared k before ls offset =
       latches = ls;
       pending = k .alarm .pending;
       armed = k .alarm .armed;
-      rose = k .alarm .pending && not before;
+      rose = not (Bool·beq (k .alarm .pending) before);
     }
 
 -- a latch serves, which holds a word

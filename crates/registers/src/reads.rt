@@ -234,7 +234,7 @@ fn reading_of(
             latches: count_filled(latches, timer.counter, offset),
             pending,
             armed,
-            rose: both(pending, !before),
+            rose: pending != before,
         };
     };
     let pending = clock.alarm.pending;
@@ -292,6 +292,6 @@ pub fn plain_at(board: Board, timer: HardwareTimer, offset: u32) -> PlainReading
         byte: byte_of_word(word, offset % 4),
         pending,
         armed,
-        rose: both(pending, !before),
+        rose: pending != before,
     }
 }

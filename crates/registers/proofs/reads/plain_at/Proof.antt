@@ -21,18 +21,14 @@ read-word-requires c κs = search needs
 byte-of-word-requires : tie.Need-byte-of-word-requires
 byte-of-word-requires c κs = search needs
 
-both-requires : tie.Need-both-requires
-both-requires c κs = search needs
-
 returns : tie.Need-returns
 returns c =
-    let k = c .before .before .before .before in
+    let k = c .before .before .before in
     let s = k .before .before in
     rw (
-      c .both .ensures,
-      c .before .byte-of-word .ensures,
-      c .before .before .read-word .ensures,
-      c .before .before .before .place-of .ensures,
+      c .byte-of-word .ensures,
+      c .before .read-word .ensures,
+      c .before .before .place-of .ensures,
       k .check-alarm .ensures,
       s .pre .2,
     )
@@ -47,5 +43,4 @@ plain-at-spec =
     mul-read-word
     read-word-requires
     byte-of-word-requires
-    both-requires
     returns)

@@ -56,18 +56,14 @@ byte-of-word-requires-2 c κs = search needs
 count-filled-requires : tie.Need-count-filled-requires
 count-filled-requires c κs = search needs
 
-both-requires : tie.Need-both-requires
-both-requires c κs = search needs
-
 returns-2 : tie.Need-returns-2
 returns-2 c =
-    let w = c .before .before .before in
+    let w = c .before .before in
     let s = w .before .before .before .before in
     let a = s .before .before .args in
     rw (
-      c .both .ensures,
-      c .before .count-filled .ensures,
-      c .before .before .byte-of-word2 .ensures,
+      c .count-filled .ensures,
+      c .before .byte-of-word2 .ensures,
       w .word-at .ensures,
       w .before .check-alarm .ensures,
     )
@@ -109,7 +105,6 @@ reading-of-spec =
     word-at-requires
     byte-of-word-requires-2
     count-filled-requires
-    both-requires
     returns-2
     byte-of-word-requires-3
     freed-at-requires
