@@ -46,7 +46,10 @@ use Rattle.registers.specs.CodeReads.{
   readingBy,
   readingOf,
   offsetReading,
+  afterReading,
   plainAt,
+  plainOf,
+  afterPlain,
 }
 
 -- ---- a count's low word and its high word are different places
@@ -170,3 +173,7 @@ module _ (o : ℕ) (p : plainAt o ≡ true) where
 
   pub plain-latches : (b : Board) → offsetReading o b .latches ≡ b .latches
   plain-latches b = ap (λ (r : Reading). r .latches) (plain-reading b)
+
+  -- what such a read stores is what the reading stores
+  pub plain-after : (b : Board) → afterPlain (plainOf (offsetReading o b)) b ≡ afterReading (offsetReading o b) b
+  plain-after b = rw (plain-latches b)

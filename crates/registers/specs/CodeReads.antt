@@ -177,3 +177,9 @@ plainAt offset =
 -- a reading but for the latches
 abbrev pub plainOf : Reading → PlainReading
 plainOf r = record { byte = r .byte; pending = r .pending; armed = r .armed; rose = r .rose }
+
+-- the board with its flags
+abbrev pub afterPlain : PlainReading → Board → Board
+afterPlain r b =
+    afterReading
+    (record { byte = r .byte; latches = b .latches; pending = r .pending; armed = r .armed; rose = r .rose }) b
