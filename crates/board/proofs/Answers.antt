@@ -1,94 +1,139 @@
--- The answers of the deadline and of a skip, by their cases. Assumes nothing.
+-- What a direct call answers, by what the code computes of it. Assumes nothing.
 use Prim.Native.Nat.{ℕ, min}
-use mathlib.Core.Path.{_≡_, sym, ap, _∙_, subst}
-use mathlib.Core.Bool.{Bool, true, false, false≢true}
+use native.Mathlib.Omega.{arith}
+use mathlib.Core.Path.{_≡_, refl, sym, ap, _∙_}
+use mathlib.Core.Bool.{Bool, true, false, cond, false≢true}
 use mathlib.Core.Option.{Option, none, some}
+use mathlib.Core.List.{[]}
+use lib.Dec.{eqb}
+use borrow.Author.Tests.{eqb-true}
 use Rattle.wide.specs.declared.number.Wide.{Wide}
-use Rattle.wide.specs.Number.{valueOf, largest}
+use Rattle.wide.specs.Number.{valueOf, wideOf, largest}
+use Rattle.wide.proofs.Forms.{wide-value, value-wide, flag-back}
 use Rattle.board.specs.declared.Board.{Board}
-use Rattle.board.specs.Board.{BoardFits, line, exactDeadline, wordDeadline, sound}
+use Rattle.board.specs.declared.calls.DeadlineAnswer.{DeadlineAnswer}
+use Rattle.board.specs.declared.calls.DeadlineMembers.{DeadlineMembers}
+use Rattle.board.specs.declared.calls.Passing.{Passing}
+use Rattle.board.specs.Board.{BoardFits, line, exactDeadline, wordDeadline, wired, sound}
 use Rattle.board.specs.Calls.{
+  Call,
+  refusalOf,
+  boardAfter,
+  answerOf,
+  advanceAnswer,
+  deadlineAnswer,
+  skipAnswer,
+  movedBoard,
+  advancedBoard,
+  advanceCall,
   isPresent,
   orZero,
-  givenDeadline,
-  notSound,
-  DeadlineCall,
-  unskipped,
+  deadlineCall,
   skipLength,
-  skippedBy,
+  movedBy,
+  skipCall,
 }
-use Rattle.board.specs.Demand.{Told, Promise}
+use Rattle.board.specs.CodeCalls.{deadlineGiven, passingOf}
+use Rattle.board.specs.Demand.{Promise}
 use Rattle.board.proofs.Soundness.{wired-sound}
+use Rattle.board.proofs.Steps.{wired-line}
 use Rattle.board.proofs.Demand3.{demand-3}
+
+-- ---- refused or accepted
+
+-- no refusal: the board is sound, and the call's own refusal is 0
+pub accepted-sound : (b : Board) (own : ℕ) → refusalOf b own ≡ 0 → sound b ≡ true
+accepted-sound b own = accepted (sound b)
+  where
+    accepted : (v : Bool) → cond v own 1 ≡ 0 → v ≡ true
+    accepted true e = refl
+    accepted false e = absurd (omega arith)
+
+module _ (call : Board → Call) (b : Board) where
+  -- n is the refusal that the code has
+  pub answer-refused : (n : ℕ) → n ≡ refusalOf b (call b .refusal) → eqb n 0 ≡ false →
+      answerOf call b ≡ record { board = b; refusal = n; members = [] }
+  unfolding answerOf
+  answer-refused n e f = rw (← e, f)
+
+  pub answer-accepted : refusalOf b (call b .refusal) ≡ 0 →
+      answerOf call b ≡ record { board = boardAfter (call b); refusal = 0; members = call b .members }
+  unfolding answerOf
+  answer-accepted e = rw e
+
+-- ---- the advance
+
+module _ (b : Board) (z : refusalOf b 0 ≡ 0) where
+  pub advance-answers : (c : ℕ) (y : Board) (v : Bool) → y ≡ advancedBoard c b → v ≡ line y →
+      record { board = y; refusal = 0; line = v } ≡ advanceAnswer (answerOf (advanceCall c) b)
+  unfolding advancedBoard
+  advance-answers c y v e f =
+      let g : v ≡ line (movedBoard c b) = f ∙ ap line e ∙ wired-line (movedBoard c b) in
+      rw (answer-accepted (advanceCall c) b z, flag-back, e, g)
 
 -- ---- the deadline
 
-module _ (b : Board) (w : Wide) where
-  -- what the board gives, once it is known to be sound
-  given : (d : Option ℕ) → sound b ≡ true → exactDeadline b ≡ d → givenDeadline b ≡ d
-  given d s e = rw s e
+-- what is promised, by the members of the answer
+pub answer-promises : (b : Board) → BoardFits b → (r : DeadlineAnswer) → r ≡ deadlineAnswer (answerOf deadlineCall b) →
+    Promise b (r .present) (valueOf (r .exact)) (r .word .0)
+answer-promises b f r e s low o calls =
+    let z : refusalOf b 0 ≡ 0 = rw s in
+    rw (e, answer-accepted deadlineCall b z, flag-back, wide-value) (demand-3 b f s low o calls)
 
-  -- what is promised, where the deadline given is d
-  promised : (d : Option ℕ) → BoardFits b → givenDeadline b ≡ d →
-      Promise b (isPresent d) (orZero d) (orZero (wordDeadline d))
-  promised d f e s low o calls =
-      subst (λ (x : Option ℕ). Told (isPresent x) (orZero x) (orZero (wordDeadline x)) b calls) e
-      (demand-3 b f s low o calls)
+pub deadline-refuses : (b : Board) (n : ℕ) (w : Wide) → n ≡ refusalOf b 0 → eqb n 0 ≡ false → w ≡ wideOf 0 →
+    record { board = b; refusal = n; present = false; exact = w; word = record { 0 = 0 } }
+    ≡ deadlineAnswer (answerOf deadlineCall b)
+deadline-refuses b n w e f q = rw (answer-refused deadlineCall b n e f, q)
 
-  abbrev DeadlineHolds : ℕ → Bool → ℕ → Type 0
-  DeadlineHolds refusal present word =
-      DeadlineCall b (record { board = b; refusal = refusal; present = present; exact = w; word = word })
-      × Promise b present (valueOf w) word
+pub deadline-answers : (b : Board) → refusalOf b 0 ≡ 0 → (m : DeadlineMembers) → m ≡ deadlineGiven (exactDeadline b) →
+    record { board = b; refusal = 0; present = m .present; exact = m .exact; word = m .word }
+    ≡ deadlineAnswer (answerOf deadlineCall b)
+deadline-answers b z m e =
+    rw (answer-accepted deadlineCall b z, flag-back, wired-sound b (accepted-sound b 0 z), e)
 
-  pub deadline-none : BoardFits b → sound b ≡ true → exactDeadline b ≡ none → valueOf w ≡ 0 → DeadlineHolds 0 false 0
-  deadline-none f s e z =
-      let g = given none s e in (
-        record {
-          board = rw s (sym (wired-sound b s));
-          refusal = rw s;
-          present = rw g;
-          exact = rw g z;
-          word = rw g;
-        },
-        promised none f g,
-      )
+-- the members that the code finds
+pub given-none : (d : Option ℕ) (w : Wide) → d ≡ none → w ≡ wideOf 0 →
+    record { present = false; exact = w; word = record { 0 = 0 } } ≡ deadlineGiven d
+given-none d w e f = rw (e, f)
 
-  pub deadline-some : BoardFits b → sound b ≡ true → exactDeadline b ≡ some (valueOf w) → (n : ℕ) →
-      n ≡ min (valueOf w) largest →
-      DeadlineHolds 0 true n
-  deadline-some f s e n m =
-      let g = given (some (valueOf w)) s e in (
-        record {
-          board = rw s (sym (wired-sound b s));
-          refusal = rw s;
-          present = rw g;
-          exact = rw g;
-          word = rw g m;
-        },
-        λ s₁ low o calls. let t = promised (some (valueOf w)) f g s₁ low o calls in (t .0, m),
-      )
-
-  pub deadline-refused : sound b ≡ false → valueOf w ≡ 0 → DeadlineHolds notSound false 0
-  deadline-refused s z = (
-    record { board = rw s; refusal = rw s; present = rw s; exact = rw s z; word = rw s },
-    λ s₁ low o calls. absurd (false≢true (sym s ∙ s₁)),
-  )
+pub given-some : (d : Option ℕ) (w : Wide) (n : ℕ) → d ≡ some (valueOf w) → w ≡ wideOf (valueOf w) →
+    n ≡ min (valueOf w) largest → record { present = true; exact = w; word = record { 0 = n } } ≡ deadlineGiven d
+given-some d w n e f m = rw (e, ← f, m)
 
 -- ---- a skip
 
-module _ (b : Board) (s : sound b ≡ true) where
-  -- no advance: source 3 is at the line already
-  unmoved : skipLength b ≡ none → unskipped (line b) b ≡ skippedBy (skipLength b) b
-  unmoved e = ap (unskipped (line b)) (sym (wired-sound b s)) ∙ ap (λ (o : Option ℕ). skippedBy o b) (sym e)
+module _ (b : Board) (low : line b ≡ false) where
+  pub skips-none : exactDeadline b ≡ none → passingOf none ≡ passingOf (skipLength b)
+  skips-none e = rw (low, e)
 
-  pub skip-high : line b ≡ true → unskipped (line b) b ≡ skippedBy (skipLength b) b
-  skip-high h = unmoved (rw h)
+  pub skips-some : (d n : ℕ) → exactDeadline b ≡ some d → n ≡ min d largest →
+      passingOf (some n) ≡ passingOf (skipLength b)
+  skips-some d n e m = rw (low, e, m)
 
-  pub skip-none : line b ≡ false → exactDeadline b ≡ none → unskipped (line b) b ≡ skippedBy (skipLength b) b
-  skip-none h e = unmoved (rw (h, e))
+pub skips-high : (b : Board) → line b ≡ true → passingOf none ≡ passingOf (skipLength b)
+skips-high b h = rw h
 
-  pub skip-some : (d : ℕ) → line b ≡ false → exactDeadline b ≡ some d →
-      skippedBy (some (min d largest)) b ≡ skippedBy (skipLength b) b
-  skip-some d h e =
-      let n : some (min d largest) ≡ skipLength b = rw (h, e) in
-      ap (λ (o : Option ℕ). skippedBy o b) n
+-- the advance that the code makes of an optional number
+pub passing-some : (o : Option ℕ) (p : Passing) → p ≡ passingOf o → p .made ≡ true → o ≡ some (p .cycles .0)
+passing-some none p e m = absurd (false≢true (sym (ap (λ (q : Passing). q .made) e) ∙ m))
+passing-some (some n) p e m = rw e
+
+pub passing-none : (o : Option ℕ) (p : Passing) → p ≡ passingOf o → p .made ≡ false → (o ≡ none) × (p ≡ passingOf none)
+passing-none none p e m = (refl, e)
+passing-none (some n) p e m = absurd (false≢true (sym m ∙ ap (λ (q : Passing). q .made) e))
+
+module _ (b : Board) (z : refusalOf b 0 ≡ 0) (p : Passing) (e : p ≡ passingOf (skipLength b)) where
+  pub skip-moves : p .made ≡ true → (y : Board) (v : Bool) → y ≡ advancedBoard (p .cycles .0) b → v ≡ line y →
+      record { board = y; refusal = 0; passed = p .cycles; line = v } ≡ skipAnswer (answerOf skipCall b)
+  unfolding advancedBoard
+  skip-moves m y v f g =
+      let n = p .cycles .0 in
+      let k : skipLength b ≡ some n = passing-some (skipLength b) p e m in
+      let h : v ≡ line (movedBoard n b) = g ∙ ap line f ∙ wired-line (movedBoard n b) in
+      rw (answer-accepted skipCall b z, k, flag-back, f, h)
+
+  pub skip-stays : p .made ≡ false → (v : Bool) → v ≡ line b →
+      record { board = b; refusal = 0; passed = p .cycles; line = v } ≡ skipAnswer (answerOf skipCall b)
+  skip-stays m v g =
+      let k = passing-none (skipLength b) p e m in
+      rw (answer-accepted skipCall b z, k .0, k .1, flag-back, wired-sound b (accepted-sound b 0 z), g)

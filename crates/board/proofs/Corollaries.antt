@@ -12,27 +12,29 @@ use Rattle.wide.specs.Number.{largest}
 use Rattle.wide.specs.Deadline.{due}
 use Rattle.wide.proofs.Choices.{leb-same}
 use Rattle.wide.proofs.Deadlines.{due-is}
+use Rattle.wide.proofs.Forms.{flag-back}
 use Rattle.clock.specs.Clock.{fromHost}
 use Rattle.board.specs.declared.Board.{Board}
-use Rattle.board.specs.Board.{BoardFits, line, exactDeadline, sound}
-use Rattle.board.specs.Calls.{advancedBoard, skipCall, skipLength}
-use Rattle.board.specs.Demand.{Call, afterAll, total}
-use Rattle.board.proofs.Steps.{good, boardDue, line-due, advance-step}
+use Rattle.board.specs.Board.{BoardFits, line, exactDeadline, wired, sound}
+use Rattle.board.specs.Calls.{answerOf, refusalOf, skipAnswer, movedBoard, advancedBoard, skipCall, skipLength}
+use Rattle.board.specs.Demand.{DemandCall, afterAll, total}
+use Rattle.board.proofs.Steps.{good, boardDue, line-due, wired-line, advance-step}
 use Rattle.board.proofs.Demand3.{line-after}
+use Rattle.board.proofs.Answers.{answer-accepted}
 
 module _ (b : Board) (f : BoardFits b) (s : sound b ≡ true) (low : line b ≡ false)
     (o : fromHost (b .clock .control) ≡ false)
     (d : ℕ) (given : exactDeadline b ≡ some d) where
   -- the line after a list of calls, by its total
-  line-is : (calls : List Call) → line (afterAll calls b) ≡ leb d (total calls b)
+  line-is : (calls : List DemandCall) → line (afterAll calls b) ≡ leb d (total calls b)
   line-is calls = line-after b f s low o calls ∙ ap (λ (x : Option ℕ). due x (total calls b)) given
 
   -- after exactly D cycles, split in any way, the line is high
-  pub high-at-deadline : (calls : List Call) → total calls b ≡ d → line (afterAll calls b) ≡ true
+  pub high-at-deadline : (calls : List DemandCall) → total calls b ≡ d → line (afterAll calls b) ≡ true
   high-at-deadline calls e = line-is calls ∙ le-leb d (total calls b) (omega arith)
 
   -- one cycle before it is low
-  pub low-before-deadline : (calls : List Call) → total calls b + 1 ≡ d → line (afterAll calls b) ≡ false
+  pub low-before-deadline : (calls : List DemandCall) → total calls b + 1 ≡ d → line (afterAll calls b) ≡ false
   low-before-deadline calls e = line-is calls ∙ lt-leb d (total calls b) (omega arith)
 
   -- what is due after one advance
@@ -59,12 +61,14 @@ module _ (b : Board) (f : BoardFits b) (s : sound b ≡ true) (low : line b ≡ 
 
   -- a skip with D at most 2^64 − 1 passes D and ends with the line high, and any smaller advance would not have
   pub skip-reaches : d ≤ largest →
-      (skipCall b .passed .0 ≡ d) × (skipCall b .line ≡ true) × (line (skipCall b .board) ≡ true)
-      × ((c : ℕ) → c < d → line (advancedBoard c b) ≡ false)
-  unfolding skipCall
+      (skipAnswer (answerOf skipCall b) .passed .0 ≡ d) × (skipAnswer (answerOf skipCall b) .line ≡ true)
+      × (line (answerOf skipCall b .board) ≡ true) × ((c : ℕ) → c < d → line (advancedBoard c b) ≡ false)
+  unfolding advancedBoard
   skip-reaches l =
       let m : min d largest ≡ d = omega arith in
-      let high : line (advancedBoard (min d largest) b) ≡ true =
-      rw m (advance-reaches d ∙ le-leb d d (omega arith)) in
-      let by : skipLength b ≡ some (min d largest) = rw (low, given) in
-      (rw (s, by) m, rw (s, by) high, rw (s, by) high, λ c k. advance-reaches c ∙ lt-leb d c k)
+      let high : line (wired (movedBoard d b)) ≡ true = advance-reaches d ∙ le-leb d d (omega arith) in
+      let v : line (movedBoard d b) ≡ true = sym (wired-line (movedBoard d b)) ∙ high in
+      let by : skipLength b ≡ some d = rw (low, given, m) in
+      let z : refusalOf b 0 ≡ 0 = rw s in
+      let a = answer-accepted skipCall b z in
+      (rw (a, by), rw (a, by, flag-back) v, rw (a, by) high, λ c k. advance-reaches c ∙ lt-leb d c k)

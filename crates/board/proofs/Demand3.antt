@@ -12,13 +12,13 @@ use Rattle.wide.specs.Deadline.{due}
 use Rattle.clock.specs.Clock.{fromHost}
 use Rattle.board.specs.declared.Board.{Board}
 use Rattle.board.specs.Board.{BoardFits, line, exactDeadline, wordDeadline, sound}
-use Rattle.board.specs.Calls.{isPresent, orZero, givenDeadline}
-use Rattle.board.specs.Demand.{Call, after, adds, afterAll, total, source3, Told, Promise}
+use Rattle.board.specs.Calls.{isPresent, orZero}
+use Rattle.board.specs.Demand.{DemandCall, after, adds, afterAll, total, source3, PromiseAfter, Promise}
 use Rattle.board.proofs.Soundness.{facts-sound}
 use Rattle.board.proofs.Steps.{Good, good, boardDue, line-due, Step, call-step}
 
 -- every call keeps a sound board sound
-pub call-sound : (a : Call) (b : Board) → BoardFits b → sound b ≡ true → sound (after a b) ≡ true
+pub call-sound : (a : DemandCall) (b : Board) → BoardFits b → sound b ≡ true → sound (after a b) ≡ true
 call-sound a b f s = facts-sound (after a b) (call-step a b (good b f s) .good .facts)
 
 -- ---- a list of calls
@@ -48,7 +48,7 @@ high-due : (b : Board) (t : ℕ) → line b ≡ true → boardDue b t ≡ true
 unfolding boardDue
 high-due b t e = rw e
 
-ran : (p : Bool) (calls : List Call) (b : Board) → Good b → fromHost (b .clock .control) ≡ false →
+ran : (p : Bool) (calls : List DemandCall) (b : Board) → Good b → fromHost (b .clock .control) ≡ false →
     source3 b ≡ (p || line b) → Ran p (total calls b) b (afterAll calls b)
 unfolding afterAll total
 ran p [] b g o h = record { good = g; due = λ t. ap (boardDue b) (sym (zero-add t)); source = h }
@@ -88,7 +88,7 @@ or-iff v false a t e =
     (λ h. inr (leb-true a t (sym e ∙ h)), elim [ inl h ↦ absurd (false≢true h) | inr h ↦ e ∙ le-leb a t h ])
 
 module _ (b : Board) (f : BoardFits b) (s : sound b ≡ true) (low : line b ≡ false)
-    (o : fromHost (b .clock .control) ≡ false) (calls : List Call) where
+    (o : fromHost (b .clock .control) ≡ false) (calls : List DemandCall) where
   R : Ran (source3 b) (total calls b) b (afterAll calls b)
   R = ran (source3 b) calls b (good b f s) o (sym (ap (λ v. source3 b || v) low ∙ or-false (source3 b)))
 
@@ -100,11 +100,11 @@ module _ (b : Board) (f : BoardFits b) (s : sound b ≡ true) (low : line b ≡ 
   pub source-after : source3 (afterAll calls b) ≡ (source3 b || due (exactDeadline b) (total calls b))
   source-after = R .source ∙ ap (λ v. source3 b || v) line-after
 
-  told : (d : Option ℕ) → line (afterAll calls b) ≡ due d (total calls b) →
+  promised : (d : Option ℕ) → line (afterAll calls b) ≡ due d (total calls b) →
       source3 (afterAll calls b) ≡ (source3 b || due d (total calls b)) →
-      Told (isPresent d) (orZero d) (orZero (wordDeadline d)) b calls
-  told none p q = record { line = p; source = q ∙ or-false (source3 b) }
-  told (some d) p q = (
+      PromiseAfter (isPresent d) (orZero d) (orZero (wordDeadline d)) b calls
+  promised none p q = record { line = p; source = q ∙ or-false (source3 b) }
+  promised (some d) p q = (
     record {
       line = true-iff (line (afterAll calls b)) d (total calls b) p;
       source = or-iff (source3 (afterAll calls b)) (source3 b) d (total calls b) q;
@@ -114,6 +114,6 @@ module _ (b : Board) (f : BoardFits b) (s : sound b ≡ true) (low : line b ≡ 
 
 -- the deadline that a sound board gives keeps what is promised of it
 pub demand-3 : (b : Board) → BoardFits b →
-    Promise b (isPresent (givenDeadline b)) (orZero (givenDeadline b)) (orZero (wordDeadline (givenDeadline b)))
+    Promise b (isPresent (exactDeadline b)) (orZero (exactDeadline b)) (orZero (wordDeadline (exactDeadline b)))
 demand-3 b f s low o calls =
-    rw s (told b f s low o calls (exactDeadline b) (line-after b f s low o calls) (source-after b f s low o calls))
+    promised b f s low o calls (exactDeadline b) (line-after b f s low o calls) (source-after b f s low o calls)

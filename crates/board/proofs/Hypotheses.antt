@@ -41,29 +41,14 @@ use Rattle.controller.specs.Bits.{withBit}
 use Rattle.controller.specs.Controller.{sourceSet}
 use Rattle.board.specs.declared.Board.{Board}
 use Rattle.board.specs.Loops.{mapFrom, foldFrom}
-use Rattle.board.specs.Board.{
-  freshBoard,
-  withClock,
-  withController,
-  line,
-  exactDeadline,
-  wired,
-  soundParts,
-  sound,
-}
-use Rattle.board.specs.Calls.{advancedBoard, hostTimeRefusal, hostedBoard, advanceCall, hostTimeCall}
-use Rattle.board.specs.Demand.{Call, advance, hostTime, after, afterAll, source3}
+use Rattle.board.specs.Fields.{freshBoard, withTimers, withTimerEnable, withClock, withController}
+use Rattle.board.specs.Board.{line, exactDeadline, wired, soundParts, sound}
+use Rattle.board.specs.Calls.{answerOf, hostTimeRefusal, movedBoard, advancedBoard}
+use Rattle.board.specs.Demand.{DemandCall, advance, hostTime, after, afterAll, source3}
 
 -- channel 0 alone runs
 abbrev running : HardwareTimer → Board
-running h =
-    record {
-      timers = h ∷ freshTimer ∷ freshTimer ∷ freshTimer ∷ [];
-      «timer_enable» = 1;
-      clock = freshBoard .clock;
-      latches = freshBoard .latches;
-      controller = freshBoard .controller;
-    }
+running h = withTimerEnable 1 (withTimers (h ∷ freshTimer ∷ freshTimer ∷ freshTimer ∷ []) freshBoard)
 
 -- an armed alarm at some seconds, with its interrupt enabled
 abbrev alarmed : ℕ → Clock → Clock
@@ -97,7 +82,7 @@ early = running (withPhase 3 (withCompare 1 counting))
 abbrev hosted : Board
 hosted = withClock (alarmed 9 (withControl 5 freshClock)) freshBoard
 
-abbrev nine : Call
+abbrev nine : DemandCall
 nine = hostTime (record { seconds = 9; nanoseconds = 0 })
 
 pub shut-out :
@@ -113,6 +98,6 @@ unfolding
     ownNanoseconds timeOf timeSeconds alarmReached checkAlarm movedTime endAdvance advanceClock soundOffset soundAlarm
     clockParts
     alarmAhead soundClock clockDeadline withBit sourceSet mapFrom foldFrom line exactDeadline wired soundParts sound
-    advancedBoard
-    hostTimeRefusal hostedBoard advanceCall hostTimeCall after afterAll
+    movedBoard advancedBoard
+    hostTimeRefusal answerOf after afterAll
 shut-out = refl

@@ -1,45 +1,48 @@
--- Every direct call keeps a sound board sound. Assumes nothing.
-use Prim.Native.Nat.{ℕ}
+-- 'Every call keeps a sound board sound', and its words words: of each call, then of a direct call's answer, refused or
+-- accepted. Assumes nothing.
+use Prim.Native.Nat.{ℕ, _<_}
 use mathlib.Core.Path.{_≡_, refl}
-use mathlib.Core.Bool.{true, cond}
+use mathlib.Core.Bool.{true}
 use mathlib.Core.Option.{Option, none, some}
 use native.Mathlib.Omega.{arith}
-use lib.Dec.{eqb}
-use Rattle.wide.proofs.Choices.{choose}
+use lib.Dec.{leb, eqb}
+use borrow.Author.Tests.{leb-false, eqb-true}
+use Rattle.wide.proofs.Choices.{choose, either}
 use Rattle.channel.specs.Channel.{lineOf}
 use Rattle.channel.proofs.Sound.{fresh-sound as timer-sound}
 use Rattle.clock.specs.declared.HostTime.{HostTime}
-use Rattle.clock.specs.Clock.{rateOf}
+use Rattle.clock.specs.Clock.{rateOf, nanosPerSecond}
 use Rattle.clock.specs.Fields.{freshClock}
-use Rattle.clock.proofs.Soundness.{facts-sound as clock-sound}
-use Rattle.clock.proofs.Kept.{fresh-kept as clock-fresh}
+use Rattle.clock.proofs.Rate.{clock-rate}
+use Rattle.clock.proofs.Soundness.{facts-sound as clock-sound, fresh-sound as clock-fresh}
 use Rattle.controller.specs.declared.IrqController.{IrqController}
 use Rattle.controller.specs.Controller.{sourceSet, byteWritten}
 use Rattle.board.specs.declared.Board.{Board}
-use Rattle.board.specs.declared.calls.EmptyAnswer.{EmptyAnswer}
 use Rattle.board.specs.Loops.{foldFrom}
-use Rattle.board.specs.Board.{BoardFits, freshBoard, withController, line, wired, sound}
+use Rattle.board.specs.Fields.{freshBoard, withController}
+use Rattle.board.specs.Board.{BoardFits, line, wired, sound}
 use Rattle.board.specs.Calls.{
+  Call,
+  DirectAnswer,
   refusalOf,
-  sourceRefusal,
-  advancedBoard,
-  sourcedBoard,
-  controllerWritten,
-  emptyAnswer,
-  advanceCall,
+  boardAfter,
+  answerOf,
+  hostTimeRefusal,
   hostTimeCall,
+  movedBoard,
+  advancedBoard,
+  advanceCall,
+  deadlineCall,
   skipLength,
-  skippedBy,
+  movedBy,
   skipCall,
   sourceCall,
   controllerReadCall,
   controllerWriteCall,
   outputCall,
 }
-use Rattle.board.specs.Demand.{advance, hostTime, after}
-use Rattle.board.proofs.Soundness.{sound-facts, facts-sound, wired-sound}
-use Rattle.board.proofs.Steps.{good, wired-level, advance-step}
-use Rattle.board.proofs.Demand3.{call-sound}
+use Rattle.board.proofs.Soundness.{facts-sound, wired-sound}
+use Rattle.board.proofs.Steps.{Good, good, wired-level, advance-step, host-step}
 
 pub fresh-sound : sound freshBoard ≡ true
 unfolding line foldFrom lineOf
@@ -48,67 +51,82 @@ fresh-sound =
     (record {
       timers = rw timer-sound;
       enable = omega arith;
-      clock = clock-sound (rateOf freshClock) freshClock clock-fresh;
+      clock = clock-sound (rateOf freshClock) freshClock (clock-fresh (rateOf freshClock) (clock-rate freshClock));
       level = refl;
     })
 
-abbrev Sound : Board → Type 0
-Sound b = sound b ≡ true
+-- an accepted call leaves a sound machine board
+abbrev pub Keeps : (Board → Call) → Type 0
+Keeps call = (b : Board) → Good b → call b .refusal ≡ 0 → Good (boardAfter (call b))
 
-module _ (b : Board) (s : sound b ≡ true) where
-  -- a call that changes the controller alone
-  controller-sound : (q : IrqController) → sound (wired (withController q b)) ≡ true
-  unfolding wired
-  controller-sound q =
-      let f = sound-facts b s in
-      facts-sound (wired (withController q b))
-      (record { timers = f .timers; enable = f .enable; clock = f .clock; level = wired-level (withController q b) })
+-- ---- each call
 
-  wired-kept : sound (wired b) ≡ true
-  wired-kept = rw (wired-sound b s) s
+-- one that changes nothing
+pub wired-good : (b : Board) → Good b → Good (wired b)
+wired-good b g = rw (wired-sound b (facts-sound b (g .facts))) g
 
-  -- a call without answer members
-  empty-sound : (refusal : ℕ) (next : Board) → sound next ≡ true → sound (emptyAnswer b refusal next .board) ≡ true
-  empty-sound refusal next n =
-      choose (λ (r : EmptyAnswer). sound (r .board) ≡ true) (eqb refusal 0) (λ _. n) (λ _. s)
+-- one that changes the controller alone
+controller-good : (b : Board) → Good b → (q : IrqController) → Good (wired (withController q b))
+unfolding wired
+controller-good b g q =
+    record {
+      fits = record { timers = g .fits .timers; clock = g .fits .clock };
+      facts = record {
+        timers = g .facts .timers;
+        enable = g .facts .enable;
+        clock = g .facts .clock;
+        level = wired-level (withController q b);
+      };
+    }
 
-  pub source-kept : (number level : ℕ) → sound (sourceCall number level b .board) ≡ true
-  unfolding sourceCall sourcedBoard
-  source-kept number level =
-      empty-sound (refusalOf b (sourceRefusal number level)) (sourcedBoard number level b)
-      (controller-sound (sourceSet (b .controller) number (eqb level 1)))
+-- a host time that is not refused
+host-small : (h : HostTime) → hostTimeRefusal h ≡ 0 → h .nanoseconds < nanosPerSecond
+unfolding hostTimeRefusal
+host-small h z =
+    either (leb nanosPerSecond (h .nanoseconds))
+    (λ e. let seven : _≡_ {A = ℕ} 7 0 = rw e at z in absurd (omega arith))
+    (λ e. leb-false nanosPerSecond (h .nanoseconds) e)
 
-  pub controller-write-kept : (address value : ℕ) → sound (controllerWriteCall address value b .board) ≡ true
-  unfolding controllerWriteCall controllerWritten
-  controller-write-kept address value =
-      empty-sound (refusalOf b 0) (controllerWritten address value b)
-      (controller-sound (byteWritten (b .controller) address value))
+pub host-time-keeps : (h : HostTime) → Keeps (hostTimeCall h)
+host-time-keeps h b g z = host-step h b (host-small h z) g .good
 
-  pub controller-read-kept : (address : ℕ) → sound (controllerReadCall address b .board) ≡ true
-  unfolding controllerReadCall
-  controller-read-kept address = rw s wired-kept
+pub advance-keeps : (c : ℕ) → Keeps (advanceCall c)
+unfolding advancedBoard
+advance-keeps c b g z = advance-step c b g .good
 
-  pub output-kept : sound (outputCall b .board) ≡ true
-  unfolding outputCall
-  output-kept = rw s wired-kept
+pub deadline-keeps : Keeps deadlineCall
+deadline-keeps b g z = wired-good b g
 
-  -- the deadline returns this board
-  pub deadline-kept : sound (cond (sound b) (wired b) b) ≡ true
-  deadline-kept = rw s wired-kept
+moved-good : (o : Option ℕ) (b : Board) → Good b → Good (wired (movedBy o b))
+unfolding advancedBoard
+moved-good none b g = wired-good b g
+moved-good (some n) b g = advance-step n b g .good
 
-  module _ (f : BoardFits b) where
-    pub advance-kept : (c : ℕ) → sound (advanceCall c b .board) ≡ true
-    unfolding after
-    advance-kept c = call-sound (advance c) b f s
+pub skip-keeps : Keeps skipCall
+skip-keeps b g z = moved-good (skipLength b) b g
 
-    pub host-time-kept : (h : HostTime) → sound (hostTimeCall h b .board) ≡ true
-    unfolding after
-    host-time-kept h = call-sound (hostTime h) b f s
+pub source-keeps : (number level : ℕ) → Keeps (sourceCall number level)
+source-keeps number level b g z = controller-good b g (sourceSet (b .controller) number (eqb level 1))
 
-    skipped-kept : (o : Option ℕ) → sound (skippedBy o b .board) ≡ true
-    skipped-kept none = wired-kept
-    skipped-kept (some n) = facts-sound (advancedBoard n b) (advance-step n b (good b f s) .good .facts)
+pub controller-read-keeps : (address : ℕ) → Keeps (controllerReadCall address)
+controller-read-keeps address b g z = wired-good b g
 
-    pub skip-kept : sound (skipCall b .board) ≡ true
-    unfolding skipCall
-    skip-kept = rw s (skipped-kept (skipLength b))
+pub controller-write-keeps : (address value : ℕ) → Keeps (controllerWriteCall address value)
+controller-write-keeps address value b g z = controller-good b g (byteWritten (b .controller) address value)
+
+pub output-keeps : Keeps outputCall
+output-keeps b g z = wired-good b g
+
+-- ---- the answer of a direct call, refused or accepted
+
+module _ (call : Board → Call) (k : Keeps call) (b : Board) where
+  answer-good : Good b → Good (answerOf call b .board)
+  unfolding answerOf
+  answer-good g =
+      let s = facts-sound b (g .facts) in
+      choose (λ (a : DirectAnswer). Good (a .board)) (eqb (refusalOf b (call b .refusal)) 0)
+      (λ e. k b g (rw s at (eqb-true (refusalOf b (call b .refusal)) 0 e)))
+      (λ _. g)
+
+  pub answer-kept : BoardFits b → sound b ≡ true → sound (answerOf call b .board) ≡ true
+  answer-kept f s = facts-sound (answerOf call b .board) (answer-good (good b f s) .facts)

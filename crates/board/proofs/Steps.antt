@@ -15,16 +15,30 @@ use Rattle.clock.specs.declared.HostTime.{HostTime}
 use Rattle.clock.specs.Clock.{rateOf, nanosPerSecond, fromHost, advanceClock}
 use Rattle.clock.specs.Fields.{withHost}
 use Rattle.clock.specs.Deadline.{clockLine, clockDeadline, clockDue}
-use Rattle.clock.proofs.Rate.{advance-rate}
-use Rattle.clock.proofs.Soundness.{OwnSound, facts-sound as clock-sound, sound-fits}
-use Rattle.clock.proofs.Kept.{advance-kept, host-kept}
+use Rattle.clock.proofs.Rate.{clock-rate, SameRate, at-rate, advance-rate}
+use Rattle.clock.proofs.Soundness.{
+  Sound,
+  OwnSound,
+  facts-sound as clock-sound,
+  sound-fits,
+  advance-sound,
+  host-sound,
+}
 use Rattle.clock.proofs.Law.{advance-due as clock-advance-due, advance-own, host-due, line-due as clock-line-due}
 use Rattle.controller.proofs.Laws.{level-set, pending-set}
 use Rattle.board.specs.declared.Board.{Board}
 use Rattle.board.specs.Channels.{anyLine, soonestOf, advancedAll}
-use Rattle.board.specs.Board.{BoardFits, withTimers, withClock, line, exactDeadline, wired, sound}
-use Rattle.board.specs.Calls.{hostTimeRefusal, advancedBoard, hostedBoard, advanceCall, hostTimeCall}
-use Rattle.board.specs.Demand.{Call, advance, hostTime, after, adds, source3}
+use Rattle.board.specs.Fields.{withTimers, withClock}
+use Rattle.board.specs.Board.{BoardFits, line, exactDeadline, wired, sound}
+use Rattle.board.specs.Calls.{
+  boardAfter,
+  answerOf,
+  hostTimeRefusal,
+  hostTimeCall,
+  movedBoard,
+  advancedBoard,
+}
+use Rattle.board.specs.Demand.{DemandCall, advance, hostTime, after, adds, source3}
 use Rattle.board.proofs.FourChannels.{
   or-swap,
   channelsDue,
@@ -89,7 +103,7 @@ module _ (b : Board) where
 
 -- ---- steps
 
--- y is x after c cycles: it is sound, and where the clock does not run from host time, what is due and latched is told
+-- y is x after c cycles: it is sound, and where the clock does not run from host time, what is due and latched is said
 pub record Step (c : ℕ) (x y : Board) : Type 0 where
   pub good : Good y
   pub own : fromHost (x .clock .control) ≡ false → fromHost (y .clock .control) ≡ false
@@ -104,14 +118,16 @@ module _ (c : ℕ) (b : Board) (g : Good b) where
       (withTimers (advancedAll (b .«timer_enable») c (b .timers)) b)
 
   -- an advance leaves the rate
-  same-rate : rateOf (moved .clock) ≡ rateOf (b .clock)
-  same-rate = advance-rate (rateOf (b .clock)) (b .clock) c
+  rate-kept : SameRate (b .clock) (moved .clock)
+  rate-kept = advance-rate (rateOf (b .clock)) (b .clock) c
 
   moved-clock : OwnSound (moved .clock)
-  moved-clock = advance-kept (b .clock) (clock-good b g) c
+  moved-clock =
+      at-rate Sound (b .clock) (moved .clock) rate-kept
+      (advance-sound (rateOf (b .clock)) (clock-rate (b .clock)) c (b .clock) (clock-good b g))
 
   pub advance-step : Step c b (advancedBoard c b)
-  unfolding advancedBoard wired
+  unfolding advancedBoard movedBoard wired
   advance-step =
       record {
         good = record {
@@ -132,7 +148,7 @@ module _ (c : ℕ) (b : Board) (g : Good b) where
             ∙ due-parts moved t
             ∙ ap₂ _||_
             (channels-advance-due (b .«timer_enable») c 0 (b .timers) (g .fits .timers) (g .facts .timers) t)
-            (ap (λ (rate : ℕ). clockDue rate (moved .clock) t) same-rate
+            (ap (λ (rate : ℕ). clockDue rate (moved .clock) t) (rate-kept .same)
             ∙ clock-advance-due (rateOf (b .clock)) c (b .clock) (clock-good b g) o t)
             ∙ sym (due-parts b (c + t));
         source =
@@ -142,40 +158,40 @@ module _ (c : ℕ) (b : Board) (g : Good b) where
       }
 
 module _ (h : HostTime) (b : Board) (small : h .nanoseconds < nanosPerSecond) (g : Good b) where
-  abbrev told : Board
-  told = withClock (withHost h (b .clock)) b
+  abbrev hosted : Board
+  hosted = withClock (withHost h (b .clock)) b
 
-  told-clock : OwnSound (told .clock)
-  told-clock = host-kept (b .clock) (clock-good b g) h small
+  hosted-clock : OwnSound (hosted .clock)
+  hosted-clock = host-sound (rateOf (b .clock)) h (b .clock) small (clock-good b g)
 
-  told-due : (t : ℕ) → boardDue told t ≡ boardDue b t
-  told-due t =
-      due-parts told t
+  hosted-due : (t : ℕ) → boardDue hosted t ≡ boardDue b t
+  hosted-due t =
+      due-parts hosted t
       ∙ ap (λ v. channelsDue (b .«timer_enable») 0 (b .timers) t || v) (host-due (rateOf (b .clock)) h (b .clock) t)
       ∙ sym (due-parts b t)
 
-  pub host-step : Step 0 b (hostedBoard h b)
-  unfolding hostedBoard wired
+  pub host-step : Step 0 b (boardAfter (hostTimeCall h b))
+  unfolding wired
   host-step =
       record {
         good = record {
           fits = record {
             timers = g .fits .timers;
-            clock = sound-fits (rateOf (told .clock)) (told .clock) told-clock;
+            clock = sound-fits (rateOf (hosted .clock)) (hosted .clock) hosted-clock;
           };
           facts = record {
             timers = g .facts .timers;
             enable = g .facts .enable;
-            clock = clock-sound (rateOf (told .clock)) (told .clock) told-clock;
-            level = wired-level told;
+            clock = clock-sound (rateOf (hosted .clock)) (hosted .clock) hosted-clock;
+            level = wired-level hosted;
           };
         };
         own = λ o. o;
-        due = λ o t. wired-due told t ∙ told-due t ∙ ap (boardDue b) (sym (zero-add t));
+        due = λ o t. wired-due hosted t ∙ hosted-due t ∙ ap (boardDue b) (sym (zero-add t));
         source =
-            wired-source told
-            ∙ ap (λ v. (line told && not v) || source3 b) (g .facts .level)
-            ∙ ap (λ v. (v && not (line b)) || source3 b) (sym (wired-line told));
+            wired-source hosted
+            ∙ ap (λ v. (line hosted && not v) || source3 b) (g .facts .level)
+            ∙ ap (λ v. (v && not (line b)) || source3 b) (sym (wired-line hosted));
       }
 
 same-step : (b : Board) → Good b → Step 0 b b
@@ -191,17 +207,17 @@ same-step b g =
 
 advance-accepted : (c : ℕ) (b : Board) → sound b ≡ true →
     (after (advance c) b ≡ advancedBoard c b) × (adds (advance c) b ≡ c)
-unfolding after adds advanceCall
+unfolding after adds answerOf advancedBoard
 advance-accepted c b e = (rw (e, after), rw (e, adds))
 
 host-accepted : (h : HostTime) (b : Board) → sound b ≡ true → leb nanosPerSecond (h .nanoseconds) ≡ false →
-    after (hostTime h) b ≡ hostedBoard h b
-unfolding after hostTimeCall hostTimeRefusal
+    after (hostTime h) b ≡ boardAfter (hostTimeCall h b)
+unfolding after answerOf hostTimeRefusal
 host-accepted h b e n = rw (n, e, after)
 
 host-refused : (h : HostTime) (b : Board) → sound b ≡ true → leb nanosPerSecond (h .nanoseconds) ≡ true →
     after (hostTime h) b ≡ b
-unfolding after hostTimeCall hostTimeRefusal
+unfolding after answerOf hostTimeRefusal
 host-refused h b e n = rw (n, e, after)
 
 host-adds : (h : HostTime) (b : Board) → adds (hostTime h) b ≡ 0
@@ -209,7 +225,7 @@ unfolding adds
 host-adds h b = refl
 
 -- a call, refused or not
-pub call-step : (a : Call) (b : Board) → Good b → Step (adds a b) b (after a b)
+pub call-step : (a : DemandCall) (b : Board) → Good b → Step (adds a b) b (after a b)
 call-step (advance c) b g =
     let e = advance-accepted c b (facts-sound b (g .facts)) in
     rw (e .0, e .1) (advance-step c b g)

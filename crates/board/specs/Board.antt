@@ -23,57 +23,12 @@ use Rattle.board.specs.declared.Latches.{Latches}
 use Rattle.board.specs.declared.Board.{Board}
 use Rattle.board.specs.Loops.{All, foldFrom}
 use Rattle.board.specs.Channels.{anyLine, soonestOf, allSound}
+use Rattle.board.specs.Fields.{withController}
 
 -- what the types of a machine board say of the words that its laws are about
 pub record BoardFits (b : Board) : Type 0 where
   pub timers : All TimerFits (b .timers)
   pub clock : ClockFits (b .clock)
-
--- ---- fields
-
-abbrev four : {A : Type 0} → A → List A
-four a = a ∷ a ∷ a ∷ a ∷ []
-
--- 'A fresh board is made by a constructor of the board's own: everything zero except clock control 1.'
-abbrev pub freshBoard : Board
-freshBoard =
-    record {
-      timers = four freshTimer;
-      «timer_enable» = 0;
-      clock = freshClock;
-      latches = record { counts = four (record { high = Empty }); low = Empty; high = Empty };
-      controller = fresh;
-    }
-
-abbrev pub withTimers : List HardwareTimer → Board → Board
-withTimers ts b =
-    record {
-      timers = ts;
-      «timer_enable» = b .«timer_enable»;
-      clock = b .clock;
-      latches = b .latches;
-      controller = b .controller;
-    }
-
-abbrev pub withClock : Clock → Board → Board
-withClock k b =
-    record {
-      timers = b .timers;
-      «timer_enable» = b .«timer_enable»;
-      clock = k;
-      latches = b .latches;
-      controller = b .controller;
-    }
-
-abbrev pub withController : IrqController → Board → Board
-withController q b =
-    record {
-      timers = b .timers;
-      «timer_enable» = b .«timer_enable»;
-      clock = b .clock;
-      latches = b .latches;
-      controller = q;
-    }
 
 -- a latch as document 01's 'held flag, value'
 abbrev pub heldOf : Latch → Bool

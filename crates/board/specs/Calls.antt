@@ -1,11 +1,14 @@
--- The direct calls but read and write: what each answers of a board, refusals in document 01's order. 'Direct calls
--- refuse alike and return the board given, every answer member 0.'
+-- The calls of document 01. A call is three things: its own refusal, the board after it, and the members of its
+-- answer. One definition makes a direct call's answer of them, and a run of a call list uses the same three. Read and
+-- write stand with the registers.
 use Prim.Native.Nat.{ℕ}
-use mathlib.Core.Path.{_≡_}
 use mathlib.Core.Bool.{Bool, true, false, cond}
 use mathlib.Core.Option.{Option, none, some}
+use mathlib.Core.List.{List, [], _∷_}
+use lib.ListN.{getD}
 use lib.Dec.{leb, ltb, eqb}
-use Rattle.wide.specs.Number.{valueOf}
+use Rattle.wide.specs.Bits.{flagOf}
+use Rattle.wide.specs.Number.{wideOf}
 use Rattle.clock.specs.declared.HostTime.{HostTime}
 use Rattle.clock.specs.Clock.{rateOf, nanosPerSecond, advanceClock}
 use Rattle.clock.specs.Fields.{withHost}
@@ -18,24 +21,155 @@ use Rattle.board.specs.declared.calls.SkipAnswer.{SkipAnswer}
 use Rattle.board.specs.declared.calls.ByteAnswer.{ByteAnswer}
 use Rattle.board.specs.declared.calls.OutputAnswer.{OutputAnswer}
 use Rattle.board.specs.Channels.{advancedAll}
-use Rattle.board.specs.Board.{
-  withTimers,
-  withClock,
-  withController,
-  line,
-  exactDeadline,
-  wordDeadline,
-  wired,
-  sound,
-}
+use Rattle.board.specs.Fields.{withTimers, withClock, withController}
+use Rattle.board.specs.Board.{line, exactDeadline, wordDeadline, wired, sound}
 
--- ---- refusals
+-- ---- what a call is
+
+-- a call on a board: its own refusal, 0 for none; the board after it, before source 3 is set to the line; the members
+-- of its answer as numbers, in document 01's order
+pub record Call : Type 0 where
+  pub refusal : ℕ
+  pub board : Board
+  pub members : List ℕ
+
+-- what a direct call answers: the board, the refusal, 0 for none, and the members
+pub record DirectAnswer : Type 0 where
+  pub board : Board
+  pub refusal : ℕ
+  pub members : List ℕ
 
 abbrev pub notSound : ℕ
 notSound = 1
 
+-- 1 comes first, then the call's own refusal
+abbrev pub refusalOf : Board → ℕ → ℕ
+refusalOf b own = cond (sound b) own notSound
+
+-- 'After every accepted call the controller's source 3 is set to the line': the board that an accepted call leaves
+abbrev pub boardAfter : Call → Board
+boardAfter c = wired (c .board)
+
+-- 'Direct calls refuse alike and return the board given, every answer member 0.' A member that is not there is 0
+unfoldable pub answerOf : (Board → Call) → Board → DirectAnswer
+answerOf call b =
+    cond (eqb (refusalOf b (call b .refusal)) 0)
+    (record { board = boardAfter (call b); refusal = 0; members = call b .members })
+    (record { board = b; refusal = refusalOf b (call b .refusal); members = [] })
+
+-- ---- an answer as the struct that a direct call gives
+
+abbrev pub memberAt : ℕ → DirectAnswer → ℕ
+memberAt k a = getD (a .members) k 0
+
+abbrev pub flagAt : ℕ → DirectAnswer → Bool
+flagAt k a = eqb (memberAt k a) 1
+
+-- '→ none'
+abbrev pub emptyAnswer : DirectAnswer → EmptyAnswer
+emptyAnswer a = record { board = a .board; refusal = a .refusal }
+
+-- '→ 1'
+abbrev pub byteAnswer : DirectAnswer → ByteAnswer
+byteAnswer a = record { board = a .board; refusal = a .refusal; byte = memberAt 0 a }
+
+-- '→ line 1'
+abbrev pub advanceAnswer : DirectAnswer → AdvanceAnswer
+advanceAnswer a = record { board = a .board; refusal = a .refusal; line = flagAt 0 a }
+
+-- '→ present 1, D 16, 64-bit deadline 8'
+abbrev pub deadlineAnswer : DirectAnswer → DeadlineAnswer
+deadlineAnswer a =
+    record {
+      board = a .board;
+      refusal = a .refusal;
+      present = flagAt 0 a;
+      exact = wideOf (memberAt 1 a);
+      word = record { 0 = memberAt 2 a };
+    }
+
+-- '→ passed 8, line 1'
+abbrev pub skipAnswer : DirectAnswer → SkipAnswer
+skipAnswer a =
+    record { board = a .board; refusal = a .refusal; passed = record { 0 = memberAt 0 a }; line = flagAt 1 a }
+
+-- '→ valid, number'
+abbrev pub outputAnswer : DirectAnswer → OutputAnswer
+outputAnswer a =
+    record { board = a .board; refusal = a .refusal; valid = flagAt 0 a; number = record { 0 = memberAt 1 a } }
+
+-- ---- 01 host time
+
 abbrev pub nanosecondsTooLarge : ℕ
 nanosecondsTooLarge = 7
+
+-- 'Host time: 1; 7 nanoseconds ≥ 10^9.'
+unfoldable pub hostTimeRefusal : HostTime → ℕ
+hostTimeRefusal h = cond (leb nanosPerSecond (h .nanoseconds)) nanosecondsTooLarge 0
+
+-- 'it sets the two host fields and makes no alarm check'
+abbrev pub hostTimeCall : HostTime → Board → Call
+hostTimeCall h b =
+    record { refusal = hostTimeRefusal h; board = withClock (withHost h (b .clock)) b; members = [] }
+
+-- ---- 04 advance
+
+-- c cycles arrive at the channels and the clock
+unfoldable pub movedBoard : ℕ → Board → Board
+movedBoard c b =
+    withClock (advanceClock (rateOf (b .clock)) c (b .clock))
+    (withTimers (advancedAll (b .«timer_enable») c (b .timers)) b)
+
+-- the same with source 3 set to the line: the board after an accepted advance
+unfoldable pub advancedBoard : ℕ → Board → Board
+advancedBoard c b = wired (movedBoard c b)
+
+abbrev pub advanceCall : ℕ → Board → Call
+advanceCall c b =
+    record { refusal = 0; board = movedBoard c b; members = flagOf (line (movedBoard c b)) ∷ [] }
+
+-- ---- 05 deadline
+
+abbrev pub isPresent : Option ℕ → Bool
+isPresent none = false
+isPresent (some d) = true
+
+-- 'zeros if none'
+abbrev pub orZero : Option ℕ → ℕ
+orZero none = 0
+orZero (some d) = d
+
+-- 'present 1, D 16, 64-bit deadline 8 (zeros if none)'
+abbrev pub deadlineCall : Board → Call
+deadlineCall b =
+    record {
+      refusal = 0;
+      board = b;
+      members =
+          flagOf (isPresent (exactDeadline b)) ∷ orZero (exactDeadline b) ∷ orZero (wordDeadline (exactDeadline b))
+          ∷ [];
+    }
+
+-- ---- 06 skip. Skip is document 01's term
+
+-- 'with the line high or no D, it makes no advance, changes nothing and passes 0; else advances once by
+-- min(D, 2^64 − 1) and passes that': the cycles of its advance, or none
+abbrev pub skipLength : Board → Option ℕ
+skipLength b = cond (line b) none (wordDeadline (exactDeadline b))
+
+abbrev pub movedBy : Option ℕ → Board → Board
+movedBy none b = b
+movedBy (some n) b = movedBoard n b
+
+abbrev pub skipCall : Board → Call
+skipCall b =
+    record {
+      refusal = 0;
+      board = movedBy (skipLength b) b;
+      members = orZero (skipLength b) ∷ flagOf (line (movedBy (skipLength b) b)) ∷ [];
+    }
+
+-- ---- 07 source
 
 abbrev pub sourceTooLarge : ℕ
 sourceTooLarge = 8
@@ -46,118 +180,38 @@ sourceOfLine = 9
 abbrev pub levelTooLarge : ℕ
 levelTooLarge = 10
 
--- 'Host time: 1; 7 nanoseconds ≥ 10^9.' The call's own, 0 for none
-unfoldable pub hostTimeRefusal : HostTime → ℕ
-hostTimeRefusal h = cond (leb nanosPerSecond (h .nanoseconds)) nanosecondsTooLarge 0
-
 -- 'Source: 1; 8 number > 15; 9 number 3; 10 level above 1.'
 unfoldable pub sourceRefusal : ℕ → ℕ → ℕ
 sourceRefusal number level =
     cond (ltb 15 number) sourceTooLarge (cond (eqb number 3) sourceOfLine (cond (ltb 1 level) levelTooLarge 0))
 
--- 1 comes first
-abbrev pub refusalOf : Board → ℕ → ℕ
-refusalOf b own = cond (sound b) own notSound
+abbrev pub sourceCall : ℕ → ℕ → Board → Call
+sourceCall number level b =
+    record {
+      refusal = sourceRefusal number level;
+      board = withController (sourceSet (b .controller) number (eqb level 1)) b;
+      members = [];
+    }
 
--- ---- the board after an accepted call
+-- ---- 08 controller read, 09 controller write, 0A output
 
--- c cycles arrive at the channels and the clock
-unfoldable pub advancedBoard : ℕ → Board → Board
-advancedBoard c b =
-    wired
-    (withClock (advanceClock (rateOf (b .clock)) c (b .clock))
-    (withTimers (advancedAll (b .«timer_enable») c (b .timers)) b))
-
--- 'it sets the two host fields and makes no alarm check'
-unfoldable pub hostedBoard : HostTime → Board → Board
-hostedBoard h b = wired (withClock (withHost h (b .clock)) b)
-
-unfoldable pub sourcedBoard : ℕ → ℕ → Board → Board
-sourcedBoard number level b = wired (withController (sourceSet (b .controller) number (eqb level 1)) b)
-
-unfoldable pub controllerWritten : ℕ → ℕ → Board → Board
-controllerWritten address value b = wired (withController (byteWritten (b .controller) address value) b)
-
--- ---- answers
-
--- an answer without members
-abbrev pub emptyAnswer : Board → ℕ → Board → EmptyAnswer
-emptyAnswer b refusal after =
-    cond (eqb refusal 0) (record { board = after; refusal = 0 }) (record { board = b; refusal = refusal })
-
--- 01 host time
-unfoldable pub hostTimeCall : HostTime → Board → EmptyAnswer
-hostTimeCall h b = emptyAnswer b (refusalOf b (hostTimeRefusal h)) (hostedBoard h b)
-
--- 04 advance: the line
-unfoldable pub advanceCall : ℕ → Board → AdvanceAnswer
-advanceCall c b =
-    cond (sound b)
-    (record { board = advancedBoard c b; refusal = 0; line = line (advancedBoard c b) })
-    (record { board = b; refusal = notSound; line = false })
-
--- 05 deadline: 'present 1, D 16, 64-bit deadline 8 (zeros if none)'
-abbrev pub isPresent : Option ℕ → Bool
-isPresent none = false
-isPresent (some d) = true
-
-abbrev pub orZero : Option ℕ → ℕ
-orZero none = 0
-orZero (some d) = d
-
--- what the call gives: D where the board is sound, else none
-abbrev pub givenDeadline : Board → Option ℕ
-givenDeadline b = cond (sound b) (exactDeadline b) none
-
-pub record DeadlineCall (b : Board) (r : DeadlineAnswer) : Type 0 where
-  pub board : r .board ≡ cond (sound b) (wired b) b
-  pub refusal : r .refusal ≡ refusalOf b 0
-  pub present : r .present ≡ isPresent (givenDeadline b)
-  pub exact : valueOf (r .exact) ≡ orZero (givenDeadline b)
-  pub word : r .word ≡ orZero (wordDeadline (givenDeadline b))
-
--- 06 skip: 'with the line high or no D, it makes no advance, changes nothing and passes 0; else advances once by
--- min(D, 2^64 − 1) and passes that'. Skip is document 01's term.
-abbrev pub skipLength : Board → Option ℕ
-skipLength b = cond (line b) none (wordDeadline (exactDeadline b))
-
-abbrev pub unskipped : Bool → Board → SkipAnswer
-unskipped v b = record { board = b; refusal = 0; passed = record { 0 = 0 }; line = v }
-
-abbrev pub skippedBy : Option ℕ → Board → SkipAnswer
-skippedBy none b = unskipped (line b) (wired b)
-skippedBy (some n) b =
-    record { board = advancedBoard n b; refusal = 0; passed = record { 0 = n }; line = line (advancedBoard n b) }
-
-unfoldable pub skipCall : Board → SkipAnswer
-skipCall b =
-    cond (sound b)
-    (skippedBy (skipLength b) b)
-    (record { board = b; refusal = notSound; passed = record { 0 = 0 }; line = false })
-
--- 07 source
-unfoldable pub sourceCall : ℕ → ℕ → Board → EmptyAnswer
-sourceCall number level b = emptyAnswer b (refusalOf b (sourceRefusal number level)) (sourcedBoard number level b)
-
--- 08 controller read
-unfoldable pub controllerReadCall : ℕ → Board → ByteAnswer
+abbrev pub controllerReadCall : ℕ → Board → Call
 controllerReadCall address b =
-    cond (sound b)
-    (record { board = wired b; refusal = 0; byte = byteRead (b .controller) address })
-    (record { board = b; refusal = notSound; byte = 0 })
+    record { refusal = 0; board = b; members = byteRead (b .controller) address ∷ [] }
 
--- 09 controller write
-unfoldable pub controllerWriteCall : ℕ → ℕ → Board → EmptyAnswer
-controllerWriteCall address value b = emptyAnswer b (refusalOf b 0) (controllerWritten address value b)
-
--- 0A output: valid, number
-unfoldable pub outputCall : Board → OutputAnswer
-outputCall b =
-    cond (sound b)
-    (record {
-      board = wired b;
+abbrev pub controllerWriteCall : ℕ → ℕ → Board → Call
+controllerWriteCall address value b =
+    record {
       refusal = 0;
-      valid = outputOf (b .controller) .valid;
-      number = outputOf (b .controller) .number;
-    })
-    (record { board = b; refusal = notSound; valid = false; number = record { 0 = 0 } })
+      board = withController (byteWritten (b .controller) address value) b;
+      members = [];
+    }
+
+-- 'valid, number'
+abbrev pub outputCall : Board → Call
+outputCall b =
+    record {
+      refusal = 0;
+      board = b;
+      members = flagOf (outputOf (b .controller) .valid) ∷ outputOf (b .controller) .number .0 ∷ [];
+    }

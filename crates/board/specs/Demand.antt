@@ -12,30 +12,30 @@ use Rattle.clock.specs.declared.HostTime.{HostTime}
 use Rattle.clock.specs.Clock.{fromHost}
 use Rattle.board.specs.declared.Board.{Board}
 use Rattle.board.specs.Board.{line, sound}
-use Rattle.board.specs.Calls.{advanceCall, hostTimeCall}
+use Rattle.board.specs.Calls.{answerOf, advanceCall, hostTimeCall}
 
--- an advance, or a host-time call
-pub data Call : Type 0 where
-  advance : ℕ → Call
-  hostTime : HostTime → Call
+-- a call of the promise's lists: an advance, or a host-time call
+pub data DemandCall : Type 0 where
+  advance : ℕ → DemandCall
+  hostTime : HostTime → DemandCall
 
 -- the board that a call returns
-unfoldable pub after : Call → Board → Board
-after (advance c) b = advanceCall c b .board
-after (hostTime h) b = hostTimeCall h b .board
+unfoldable pub after : DemandCall → Board → Board
+after (advance c) b = answerOf (advanceCall c) b .board
+after (hostTime h) b = answerOf (hostTimeCall h) b .board
 
 -- the cycles that it adds to T: those of an accepted advance
-unfoldable pub adds : Call → Board → ℕ
-adds (advance c) b = cond (eqb (advanceCall c b .refusal) 0) c 0
+unfoldable pub adds : DemandCall → Board → ℕ
+adds (advance c) b = cond (eqb (answerOf (advanceCall c) b .refusal) 0) c 0
 adds (hostTime h) b = 0
 
 -- 'The first gets that board, each later one the board that the call before returned.'
-unfoldable pub afterAll : List Call → Board → Board
+unfoldable pub afterAll : List DemandCall → Board → Board
 afterAll [] b = b
 afterAll (a ∷ calls) b = afterAll calls (after a b)
 
 -- 'T be the cycles of the accepted advances added up'
-unfoldable pub total : List Call → Board → ℕ
+unfoldable pub total : List DemandCall → Board → ℕ
 total [] b = 0
 total (a ∷ calls) b = adds a b + total calls (after a b)
 
@@ -45,23 +45,23 @@ source3 b = bit 3 (b .controller .pending)
 
 -- with a deadline d given: 'the line is high exactly when T is at least D, and source 3's pending bit is set exactly
 -- when it was set at the start or T is at least D'
-pub record Rises (b : Board) (d : ℕ) (calls : List Call) : Type 0 where
+pub record Rises (b : Board) (d : ℕ) (calls : List DemandCall) : Type 0 where
   pub line : (line (afterAll calls b) ≡ true) ↔ (d ≤ total calls b)
   pub source : (source3 (afterAll calls b) ≡ true) ↔ ((source3 b ≡ true) ⊎ (d ≤ total calls b))
 
 -- 'Where no deadline is given, after every such list the line is low and that bit is as it was at the start.'
-pub record StaysLow (b : Board) (calls : List Call) : Type 0 where
+pub record StaysLow (b : Board) (calls : List DemandCall) : Type 0 where
   pub line : line (afterAll calls b) ≡ false
   pub source : source3 (afterAll calls b) ≡ source3 b
 
 -- by the members of the deadline's answer: present, D and the 64-bit deadline, 'the smaller of D and 2^64 − 1'
-abbrev pub Told : Bool → ℕ → ℕ → Board → List Call → Type 0
-Told true d word b calls = Rises b d calls × (word ≡ min d largest)
-Told false d word b calls = StaysLow b calls
+abbrev pub PromiseAfter : Bool → ℕ → ℕ → Board → List DemandCall → Type 0
+PromiseAfter true d word b calls = Rises b d calls × (word ≡ min d largest)
+PromiseAfter false d word b calls = StaysLow b calls
 
 -- 'any sound board with its line low and its clock not running from host time .. any list of advances and host-time
 -- calls, refused ones included'
 abbrev pub Promise : Board → Bool → ℕ → ℕ → Type 0
 Promise b present d word =
     sound b ≡ true → line b ≡ false → fromHost (b .clock .control) ≡ false →
-    (calls : List Call) → Told present d word b calls
+    (calls : List DemandCall) → PromiseAfter present d word b calls

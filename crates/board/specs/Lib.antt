@@ -1,5 +1,7 @@
 pub mod Loops
 pub mod Channels
+pub mod Fields
 pub mod Board
 pub mod Calls
+pub mod CodeCalls
 pub mod Demand

@@ -1,12 +1,15 @@
-// The direct calls but read and write. Each tests soundness first, and a refused call returns the board given.
+// The direct calls but read and write. Each tests soundness first, then its own refusal, and a refused call returns the
+// board given.
 ghost use mathlib.Core.Path.{_≡_};
 ghost use mathlib.Core.Bool.{true};
 ghost use Rattle.wide.specs.Number.{valueOf};
-ghost use Rattle.board.specs.Board.{sound};
-ghost use Rattle.board.specs.Calls.{hostTimeRefusal, sourceRefusal, advancedBoard, hostedBoard, sourcedBoard};
-ghost use Rattle.board.specs.Calls.{controllerWritten, unskipped, skipLength, skippedBy, refusalOf, emptyAnswer};
-ghost use Rattle.board.specs.Calls.{hostTimeCall, advanceCall, DeadlineCall, skipCall, sourceCall};
-ghost use Rattle.board.specs.Calls.{controllerReadCall, controllerWriteCall, outputCall};
+ghost use Rattle.board.specs.Board.{BoardFits, sound, exactDeadline};
+ghost use Rattle.board.specs.Calls.{refusalOf, answerOf, emptyAnswer, byteAnswer, advanceAnswer};
+ghost use Rattle.board.specs.Calls.{deadlineAnswer, skipAnswer, outputAnswer, hostTimeRefusal, hostTimeCall};
+ghost use Rattle.board.specs.Calls.{advancedBoard, advanceCall, deadlineCall, skipLength, skipCall};
+ghost use Rattle.board.specs.Calls.{sourceRefusal, sourceCall, controllerReadCall, controllerWriteCall};
+ghost use Rattle.board.specs.Calls.{outputCall};
+ghost use Rattle.board.specs.CodeCalls.{deadlineGiven, passingOf};
 ghost use Rattle.board.specs.Demand.{Promise};
 use crate::Board;
 use crate::channels::advance_all;
@@ -23,6 +26,12 @@ pub struct EmptyAnswer {
     pub refusal: u8,
 }
 
+pub struct ByteAnswer {
+    pub board: Board,
+    pub refusal: u8,
+    pub byte: u8,
+}
+
 pub struct AdvanceAnswer {
     pub board: Board,
     pub refusal: u8,
@@ -35,7 +44,7 @@ pub struct DeadlineAnswer {
     pub refusal: u8,
     pub present: bool,
     pub exact: Wide,
-    pub word: u64,
+    pub word: Cycles,
 }
 
 pub struct SkipAnswer {
@@ -45,17 +54,24 @@ pub struct SkipAnswer {
     pub line: bool,
 }
 
-pub struct ByteAnswer {
-    pub board: Board,
-    pub refusal: u8,
-    pub byte: u8,
-}
-
 pub struct OutputAnswer {
     pub board: Board,
     pub refusal: u8,
     pub valid: bool,
     pub number: SourceNumber,
+}
+
+// The members of the deadline's answer.
+pub struct DeadlineMembers {
+    pub present: bool,
+    pub exact: Wide,
+    pub word: Cycles,
+}
+
+// Whether an advance is made, and its cycles, 0 where none is.
+pub struct Passing {
+    pub made: bool,
+    pub cycles: Cycles,
 }
 
 impl Board {
@@ -70,7 +86,7 @@ impl Board {
 
     pub const LEVEL_TOO_LARGE: u8 = 10;
 
-    // ---- what an accepted call does
+    // ---- what a call computes of a sound board
 
     fn advanced(self, cycles: Cycles) -> Self
         requires { ⌜ sound self ≡ true ⌝ }
@@ -87,209 +103,222 @@ impl Board {
         b.wired()
     }
 
-    fn hosted(self, host: HostTime) -> Self
-        ensures { λ r. ⌜ r ≡ hostedBoard host self ⌝ }
+    pub fn deadline_members(self) -> DeadlineMembers
+        requires { ⌜ sound self ≡ true ⌝ }
+        ensures { λ r. ⌜ r ≡ deadlineGiven (exactDeadline self) ⌝ }
     {
-        let clock = self.clock;
-        self.with_clock(clock.with_host(host)).wired()
+        let Deadline::At(exact) = self.exact_deadline() else {
+            return DeadlineMembers {
+                present: false,
+                exact: Wide::from_word(0),
+                word: Cycles(0),
+            };
+        };
+        DeadlineMembers {
+            present: true,
+            exact,
+            word: Cycles(exact.capped()),
+        }
     }
 
-    fn sourced(self, number: SourceNumber, level: u8) -> Self
-        ensures { λ r. ⌜ r ≡ sourcedBoard (number .0) level self ⌝ }
+    // The advance that a skip makes: to the interrupt or as far as a word reaches; with the line high or no deadline,
+    // none. The level of source 3 is the line.
+    pub fn skip_length(self) -> Passing
+        requires { ⌜ sound self ≡ true ⌝ }
+        ensures { λ r. ⌜ r ≡ passingOf (skipLength self) ⌝ }
     {
         let controller = self.controller;
-        let set = controller::with_source(controller, number, level == 1);
-        self.with_controller(set).wired()
-    }
-
-    fn controller_written(self, address: u32, value: u8) -> Self
-        ensures { λ r. ⌜ r ≡ controllerWritten address value self ⌝ }
-    {
-        let controller = self.controller;
-        let set = controller::written(controller, address, value);
-        self.with_controller(set).wired()
+        if controller::level_of(controller, Self::LINE_SOURCE) {
+            return Passing {
+                made: false,
+                cycles: Cycles(0),
+            };
+        }
+        let Deadline::At(exact) = self.exact_deadline() else {
+            return Passing {
+                made: false,
+                cycles: Cycles(0),
+            };
+        };
+        Passing {
+            made: true,
+            cycles: Cycles(exact.capped()),
+        }
     }
 
     // ---- the calls
 
-    pub fn advance(self, cycles: Cycles) -> AdvanceAnswer
-        ensures { λ r. ⌜ r ≡ advanceCall (cycles .0) self ⌝ }
-    {
-        if self.sound() {
-            let board = self.advanced(cycles);
-            return AdvanceAnswer {
-                board,
-                refusal: 0,
-                line: board.line(),
-            };
-        }
-        AdvanceAnswer {
-            board: self,
-            refusal: Self::NOT_SOUND,
-            line: false,
-        }
-    }
-
-    // The deadline, with what is promised of it.
-    pub fn deadline(self) -> DeadlineAnswer
-        ensures { λ r. ⌜ DeadlineCall self r × Promise self (r .present) (valueOf (r .exact)) (r .word) ⌝ }
-    {
-        if self.sound() {
-            let Deadline::At(exact) = self.exact_deadline() else {
-                return DeadlineAnswer {
-                    board: self,
-                    refusal: 0,
-                    present: false,
-                    exact: Wide::from_word(0),
-                    word: 0,
-                };
-            };
-            return DeadlineAnswer {
-                board: self,
-                refusal: 0,
-                present: true,
-                exact,
-                word: exact.capped(),
-            };
-        }
-        DeadlineAnswer {
-            board: self,
-            refusal: Self::NOT_SOUND,
-            present: false,
-            exact: Wide::from_word(0),
-            word: 0,
-        }
-    }
-
-    // Advances once, to the interrupt or as far as a word reaches; with the line high or no deadline, not at all.
-    fn skipped(self) -> SkipAnswer
-        requires { ⌜ sound self ≡ true ⌝ }
-        ensures { λ r. ⌜ r ≡ skippedBy (skipLength self) self ⌝ }
-    {
-        let line = self.line();
-        if line {
-            return self.unskipped(line);
-        }
-        let Deadline::At(exact) = self.exact_deadline() else {
-            return self.unskipped(line);
-        };
-        let passed = Cycles(exact.capped());
-        let board = self.advanced(passed);
-        SkipAnswer {
-            board,
-            refusal: 0,
-            passed,
-            line: board.line(),
-        }
-    }
-
-    // A skip that makes no advance.
-    fn unskipped(self, line: bool) -> SkipAnswer
-        ensures { λ r. ⌜ r ≡ unskipped line self ⌝ }
-    {
-        SkipAnswer {
-            board: self,
-            refusal: 0,
-            passed: Cycles(0),
-            line,
-        }
-    }
-
-    pub fn skip(self) -> SkipAnswer
-        ensures { λ r. ⌜ r ≡ skipCall self ⌝ }
-    {
-        if self.sound() {
-            return self.skipped();
-        }
-        SkipAnswer {
-            board: self,
-            refusal: Self::NOT_SOUND,
-            passed: Cycles(0),
-            line: false,
-        }
-    }
-
-    // The answer of a call without answer members, of which `after` is the board where it is accepted.
-    fn answered(self, refusal: u8, after: Board) -> EmptyAnswer
-        ensures { λ r. ⌜ r ≡ emptyAnswer self refusal after ⌝ }
-    {
-        if refusal == 0 {
-            return EmptyAnswer {
-                board: after,
-                refusal: 0,
-            };
-        }
-        EmptyAnswer {
-            board: self,
-            refusal,
-        }
-    }
-
-    // The call's own refusal, or 1 ahead of it.
-    pub fn refused(self, own: u8) -> u8
-        ensures { λ r. ⌜ r ≡ refusalOf self own ⌝ }
+    // The refusal of a call, by its own: 1 comes first. The contract also says that the board's words are words, which
+    // the promise of its deadline rests on.
+    pub fn refusal_of(self, own: u8) -> u8
+        ensures { λ r. ⌜ (r ≡ refusalOf self own) × BoardFits self ⌝ }
     {
         if self.sound() { own } else { Self::NOT_SOUND }
     }
 
     pub fn host_time(self, host: HostTime) -> EmptyAnswer
-        ensures { λ r. ⌜ r ≡ hostTimeCall host self ⌝ }
+        ensures { λ r. ⌜ r ≡ emptyAnswer (answerOf (hostTimeCall host) self) ⌝ }
     {
-        self.answered(self.refused(host_time_refusal(host)), self.hosted(host))
+        let refusal = self.refusal_of(host_time_refusal(host));
+        if refusal != 0 {
+            return EmptyAnswer {
+                board: self,
+                refusal,
+            };
+        }
+        let clock = self.clock;
+        let board = self.with_clock(clock.with_host(host)).wired();
+        EmptyAnswer { board, refusal: 0 }
+    }
+
+    pub fn advance(self, cycles: Cycles) -> AdvanceAnswer
+        ensures { λ r. ⌜ r ≡ advanceAnswer (answerOf (advanceCall (cycles .0)) self) ⌝ }
+    {
+        let refusal = self.refusal_of(0);
+        if refusal != 0 {
+            return AdvanceAnswer {
+                board: self,
+                refusal,
+                line: false,
+            };
+        }
+        let board = self.advanced(cycles);
+        AdvanceAnswer {
+            board,
+            refusal: 0,
+            line: board.line(),
+        }
+    }
+
+    // The deadline, with what is promised of it.
+    pub fn deadline(self) -> DeadlineAnswer
+        ensures { λ r. ⌜ r ≡ deadlineAnswer (answerOf deadlineCall self) ⌝ }
+        ensures { λ r. ⌜ Promise self (r .present) (valueOf (r .exact)) (r .word .0) ⌝ }
+    {
+        let refusal = self.refusal_of(0);
+        if refusal != 0 {
+            return DeadlineAnswer {
+                board: self,
+                refusal,
+                present: false,
+                exact: Wide::from_word(0),
+                word: Cycles(0),
+            };
+        }
+        let members = self.deadline_members();
+        let exact = members.exact;
+        let word = members.word;
+        DeadlineAnswer {
+            board: self,
+            refusal: 0,
+            present: members.present,
+            exact,
+            word,
+        }
+    }
+
+    pub fn skip(self) -> SkipAnswer
+        ensures { λ r. ⌜ r ≡ skipAnswer (answerOf skipCall self) ⌝ }
+    {
+        let refusal = self.refusal_of(0);
+        if refusal != 0 {
+            return SkipAnswer {
+                board: self,
+                refusal,
+                passed: Cycles(0),
+                line: false,
+            };
+        }
+        let skip = self.skip_length();
+        let passed = skip.cycles;
+        if skip.made {
+            let board = self.advanced(passed);
+            return SkipAnswer {
+                board,
+                refusal: 0,
+                passed,
+                line: board.line(),
+            };
+        }
+        SkipAnswer {
+            board: self,
+            refusal: 0,
+            passed,
+            line: self.line(),
+        }
     }
 
     pub fn source(self, number: SourceNumber, level: u8) -> EmptyAnswer
-        ensures { λ r. ⌜ r ≡ sourceCall (number .0) level self ⌝ }
+        ensures { λ r. ⌜ r ≡ emptyAnswer (answerOf (sourceCall (number .0) level) self) ⌝ }
     {
-        self.answered(
-            self.refused(source_refusal(number, level)),
-            self.sourced(number, level),
-        )
+        let refusal = self.refusal_of(source_refusal(number, level));
+        if refusal != 0 {
+            return EmptyAnswer {
+                board: self,
+                refusal,
+            };
+        }
+        let controller = self.controller;
+        let set = controller::with_source(controller, number, level == 1);
+        let board = self.with_controller(set).wired();
+        EmptyAnswer { board, refusal: 0 }
     }
 
     pub fn controller_read(self, address: u32) -> ByteAnswer
-        ensures { λ r. ⌜ r ≡ controllerReadCall address self ⌝ }
+        ensures { λ r. ⌜ r ≡ byteAnswer (answerOf (controllerReadCall address) self) ⌝ }
     {
-        let controller = self.controller;
-        if self.sound() {
+        let refusal = self.refusal_of(0);
+        if refusal != 0 {
             return ByteAnswer {
                 board: self,
-                refusal: 0,
-                byte: controller::read_of(controller, address),
+                refusal,
+                byte: 0,
             };
         }
+        let controller = self.controller;
         ByteAnswer {
             board: self,
-            refusal: Self::NOT_SOUND,
-            byte: 0,
+            refusal: 0,
+            byte: controller::read_of(controller, address),
         }
     }
 
     pub fn controller_write(self, address: u32, value: u8) -> EmptyAnswer
-        ensures { λ r. ⌜ r ≡ controllerWriteCall address value self ⌝ }
+        ensures { λ r. ⌜ r ≡ emptyAnswer (answerOf (controllerWriteCall address value) self) ⌝ }
     {
-        self.answered(self.refused(0), self.controller_written(address, value))
+        let refusal = self.refusal_of(0);
+        if refusal != 0 {
+            return EmptyAnswer {
+                board: self,
+                refusal,
+            };
+        }
+        let controller = self.controller;
+        let set = controller::written(controller, address, value);
+        let board = self.with_controller(set).wired();
+        EmptyAnswer { board, refusal: 0 }
     }
 
     pub fn output(self) -> OutputAnswer
-        ensures { λ r. ⌜ r ≡ outputCall self ⌝ }
+        ensures { λ r. ⌜ r ≡ outputAnswer (answerOf outputCall self) ⌝ }
     {
-        let controller = self.controller;
-        if self.sound() {
-            let o = controller::output_of(controller);
-            let number = o.number;
+        let refusal = self.refusal_of(0);
+        if refusal != 0 {
             return OutputAnswer {
                 board: self,
-                refusal: 0,
-                valid: o.valid,
-                number,
+                refusal,
+                valid: false,
+                number: SourceNumber(0),
             };
         }
+        let controller = self.controller;
+        let o = controller::output_of(controller);
+        let number = o.number;
         OutputAnswer {
             board: self,
-            refusal: Self::NOT_SOUND,
-            valid: false,
-            number: SourceNumber(0),
+            refusal: 0,
+            valid: o.valid,
+            number,
         }
     }
 }

@@ -1,7 +1,7 @@
 // The board: four channels, the clock, the latches of its registers and the controller, by value.
 ghost use mathlib.Core.Path.{_≡_};
 ghost use lib.ListN.{length};
-ghost use Rattle.board.specs.Board.{freshBoard, withTimers, withClock, withController};
+ghost use Rattle.board.specs.Fields.{freshBoard};
 use crate::channels::count_of;
 use channel::HardwareTimer;
 use clock::Clock;
@@ -11,6 +11,7 @@ use controller::SourceNumber;
 pub mod calls;
 mod channels;
 mod deadline;
+mod fields;
 mod line;
 mod sound;
 
@@ -80,26 +81,5 @@ impl Board {
     {
         let timers = self.timers;
         count_of(timers)
-    }
-
-    pub fn with_timers(mut self, timers: [HardwareTimer; 4]) -> Self
-        ensures { λ r. ⌜ r ≡ withTimers timers self ⌝ }
-    {
-        self.timers = timers;
-        self
-    }
-
-    pub fn with_clock(mut self, clock: Clock) -> Self
-        ensures { λ r. ⌜ r ≡ withClock clock self ⌝ }
-    {
-        self.clock = clock;
-        self
-    }
-
-    fn with_controller(mut self, controller: IrqController) -> Self
-        ensures { λ r. ⌜ r ≡ withController controller self ⌝ }
-    {
-        self.controller = controller;
-        self
     }
 }

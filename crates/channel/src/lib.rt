@@ -6,7 +6,7 @@ ghost use Rattle.channel.specs.Channel.{freshTimer, enabledOf, irqEnable
 mod deadline;
 mod modes;
 mod prescaler;
-mod registers;
+mod timer_registers;
 
 // Cycles of the master clock. Only a channel's prescaler turns them into ticks.
 pub struct Cycles(pub u64);
@@ -47,8 +47,8 @@ pub struct HardwareTimer {
 }
 
 impl HardwareTimer {
-    // Control has the mode in bits 0 and 1, enable in bit 2 and interrupt enable in bit 3. The remainder by MODES is the
-    // mode; ENABLE and IRQ_ENABLE are what their bits count for.
+    // Control has the mode in bits 0 and 1, enable in bit 2 and interrupt enable in bit 3. The mode is the remainder by
+    // MODES; ENABLE and IRQ_ENABLE are what their bits count for.
     const MODES: u8 = 4;
 
     const ENABLE: u8 = 4;

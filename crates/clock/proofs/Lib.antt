@@ -1,6 +1,5 @@
 pub mod Rate
 pub mod Soundness
-pub mod Kept
 pub mod Law
 mod Settings
 mod Tests

@@ -57,7 +57,7 @@ use Rattle.clock.specs.Registers.{
   marked,
   shadowByte,
   complete,
-  emptied,
+  unmarked,
   offsetFor,
   commitSeconds,
   writeSeconds,
@@ -481,8 +481,8 @@ module _ (i v : ℕ) (h : i < 8) (b : v < 256) (s : Shadow) (t : ShadowSound s) 
       below n l d = omega arith
 
   -- one that does
-  emptied-sound : ShadowSound (emptied (shadowByte i v s))
-  emptied-sound = record { word = byte-word; mask = omega arith }
+  unmarked-sound : ShadowSound (unmarked (shadowByte i v s))
+  unmarked-sound = record { word = byte-word; mask = omega arith }
 
 module _ (rate : ℕ) (r : Rate rate) (i v : ℕ) (h : i < 8) (b : v < 256) (k : Clock) (s : Sound rate k) where
   p : Parts rate k
@@ -493,9 +493,9 @@ module _ (rate : ℕ) (r : Rate rate) (i v : ℕ) (h : i < 8) (b : v < 256) (k :
   seconds-sound =
       choose (Sound rate) (setEnabled (k .control))
       (λ _. choose (Sound rate) (complete n)
-      (λ _. check-sound rate (withShadow (emptied n) (withTime (n .value) 0 (offsetFor (n .value) k)))
-      (shadow-parts (time-parts kept (n .value) 0 word (r .positive)) (emptied n)
-      (emptied-sound i v h b (k .shadow) (p .shadow))))
+      (λ _. check-sound rate (withShadow (unmarked n) (withTime (n .value) 0 (offsetFor (n .value) k)))
+      (shadow-parts (time-parts kept (n .value) 0 word (r .positive)) (unmarked n)
+      (unmarked-sound i v h b (k .shadow) (p .shadow))))
       (λ e. record { parts = shadow-parts p n (byte-sound i v h b (k .shadow) (p .shadow) e); ahead = s .ahead }))
       (λ _. s)
     where
@@ -512,9 +512,9 @@ module _ (rate : ℕ) (r : Rate rate) (i v : ℕ) (h : i < 8) (b : v < 256) (k :
   unfolding writeAlarm commitAlarm p
   alarm-bytes-sound =
       choose (Sound rate) (complete n)
-      (λ _. check-sound rate (withAlarmShadow (emptied n) (withAlarm (armedAt (n .value) (k .alarm)) k))
-      (alarm-shadow-parts (alarm-parts p (armedAt (n .value) (k .alarm)) armed) (emptied n)
-      (emptied-sound i v h b (k .«alarm_shadow») (p .alarmShadow))))
+      (λ _. check-sound rate (withAlarmShadow (unmarked n) (withAlarm (armedAt (n .value) (k .alarm)) k))
+      (alarm-shadow-parts (alarm-parts p (armedAt (n .value) (k .alarm)) armed) (unmarked n)
+      (unmarked-sound i v h b (k .«alarm_shadow») (p .alarmShadow))))
       (λ e. record {
         parts = alarm-shadow-parts p n (byte-sound i v h b (k .«alarm_shadow») (p .alarmShadow) e);
         ahead = s .ahead;

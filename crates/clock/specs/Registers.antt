@@ -83,8 +83,9 @@ shadowByte i v s = record { value = withByte (7 - i) v (s .value); mask = marked
 abbrev pub complete : Shadow → Bool
 complete s = eqb (s .mask) 255
 
-abbrev pub emptied : Shadow → Shadow
-emptied s = record { value = s .value; mask = 0 }
+-- no byte is marked
+abbrev pub unmarked : Shadow → Shadow
+unmarked s = record { value = s .value; mask = 0 }
 
 -- 'With the clock enabled and in realtime a committed seconds also sets offset = seconds × 10^9 − host.'
 unfoldable pub offsetFor : ℕ → Clock → Clock
@@ -96,7 +97,7 @@ offsetFor s k =
 -- 'seconds zeroing subsecond, .. then the check'
 unfoldable pub commitSeconds : ℕ → Shadow → Clock → Clock
 commitSeconds rate s k =
-    checkAlarm rate (withShadow (emptied s) (withTime (s .value) 0 (offsetFor (s .value) k)))
+    checkAlarm rate (withShadow (unmarked s) (withTime (s .value) 0 (offsetFor (s .value) k)))
 
 -- 'Clock seconds need set enable for each byte'
 unfoldable pub writeSeconds : ℕ → ℕ → ℕ → Clock → Clock
@@ -114,7 +115,7 @@ armedAt s a = record { enable = a .enable; seconds = s; pending = false; armed =
 -- the alarm, 'then the check'
 unfoldable pub commitAlarm : ℕ → Shadow → Clock → Clock
 commitAlarm rate s k =
-    checkAlarm rate (withAlarmShadow (emptied s) (withAlarm (armedAt (s .value) (k .alarm)) k))
+    checkAlarm rate (withAlarmShadow (unmarked s) (withAlarm (armedAt (s .value) (k .alarm)) k))
 
 -- 'alarm bytes do not'
 unfoldable pub writeAlarm : ℕ → ℕ → ℕ → Clock → Clock

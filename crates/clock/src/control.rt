@@ -81,6 +81,6 @@ impl Clock {
         ensures { λ r. ⌜ r ≡ writeControl (rateOf self) byte value self ⌝ }
     {
         let merged = wide::fields::with_byte(self.control as u64, 3 - byte, value);
-        self.change_control((merged % 8) as u8)
+        self.change_control((merged % Self::CONTROL_VALUES as u64) as u8)
     }
 }

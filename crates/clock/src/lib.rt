@@ -8,9 +8,9 @@ ghost use Rattle.clock.specs.Clock.{rateOf, pollLimit, fromHost, ownTime
 use wide::flags::both;
 
 pub mod advance;
+pub mod clock_registers;
 pub mod control;
 pub mod deadline;
-pub mod registers;
 pub mod sound;
 pub mod time;
 
@@ -81,7 +81,12 @@ impl Alarm {
     // The bit of the alarm's enable.
     const IRQ_ENABLE: u8 = 1;
 
-    // The bit of an acknowledge byte that clears pending.
+    // Enable has that bit alone, and so this many values.
+    const ENABLE_VALUES: u8 = 2;
+
+    // The byte of the acknowledge register that clears pending, 0 the most significant, and its bit that does.
+    const ACK_BYTE: usize = 3;
+
     const ACK: u8 = 1;
 }
 
@@ -106,12 +111,15 @@ impl Clock {
 
     pub const REALTIME: u8 = 4;
 
+    // Control has those three, and so this many values.
+    pub const CONTROL_VALUES: u8 = 8;
+
     // The clock of a fresh board.
     pub fn fresh() -> Self
         ensures { λ r. ⌜ r ≡ freshClock ⌝ }
     {
         Clock {
-            control: 1,
+            control: Self::ENABLE,
             seconds: 0,
             subsecond: 0,
             offset: Offset {

@@ -28,7 +28,7 @@ impl Alarm {
     {
         let enable = self.enable;
         let twice = both(self.pending, self.armed);
-        both(enable < 2, !twice)
+        both(enable < Self::ENABLE_VALUES, !twice)
     }
 }
 
@@ -53,7 +53,7 @@ impl Clock {
             ),
         );
         both(
-            control < 8,
+            control < Self::CONTROL_VALUES,
             both(
                 subsecond < self.rate(),
                 both(self.offset.sound(), both(self.alarm.sound(), shadows)),

@@ -90,5 +90,5 @@ byteWritten c address value =
     c)))
 
 -- `size`: the bytes that its registers take, `IRQC_MMIO_SIZE` of the Rust
-abbrev pub sizeOf : IrqController → ℕ
-sizeOf c = 16
+abbrev pub mmioSize : IrqController → ℕ
+mmioSize c = 16

@@ -4,7 +4,7 @@
 ghost use mathlib.Core.Path.{_≡_};
 ghost use Rattle.controller.specs.Controller.{resetOf, pendingOf, enableMaskOf, enableMaskSet, sourceSet};
 ghost use Rattle.controller.specs.Controller.{sourceLevelsSet, pendingCleared, outputOf, byteRead};
-ghost use Rattle.controller.specs.Controller.{byteWritten, sizeOf};
+ghost use Rattle.controller.specs.Controller.{byteWritten, mmioSize};
 use crate::IrqController;
 use crate::IrqOutput;
 use crate::SourceNumber;
@@ -90,7 +90,7 @@ impl IrqController {
     }
 
     pub fn size(&self) -> u32
-        ensures { λ r. ⌜ r ≡ sizeOf (now (self .entry)) ⌝ }
+        ensures { λ r. ⌜ r ≡ mmioSize (now (self .entry)) ⌝ }
     {
         size_of(*self)
     }

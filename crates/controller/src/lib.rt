@@ -10,7 +10,7 @@ ghost use Rattle.wide.specs.Bits.{bit};
 ghost use Rattle.controller.specs.Bits.{withBit, without};
 ghost use Rattle.controller.specs.Controller.{fresh, resetOf, pendingOf, enableMaskOf, enableMaskSet};
 ghost use Rattle.controller.specs.Controller.{sourceSet, maskedSourceSet, sourceLevelsSet, pendingCleared};
-ghost use Rattle.controller.specs.Controller.{outputOf, byteRead, byteWritten, sizeOf};
+ghost use Rattle.controller.specs.Controller.{outputOf, byteRead, byteWritten, mmioSize};
 
 mod lent;
 
@@ -283,7 +283,7 @@ pub fn written(controller: IrqController, address: u32, value: u8) -> IrqControl
 
 // `size`
 pub fn size_of(controller: IrqController) -> u32
-    ensures { λ r. ⌜ r ≡ sizeOf controller ⌝ }
+    ensures { λ r. ⌜ r ≡ mmioSize controller ⌝ }
 {
     IrqController::MMIO_SIZE
 }

@@ -1,17 +1,40 @@
--- Laws of the bytes of a list: a call at its front, and how the parts of a record are stored. Assumes nothing.
-use mathlib.Core.Path.{_≡_, refl}
-use mathlib.Core.List.{List, _++_}
-use mathlib.Core.Bool.{Bool, true, false, cond, _||_, not}
-use Prim.Native.Nat.{ℕ, zero, suc, _+_, _-_, _≤_, _<_}
-use native.Mathlib.Nat.{zero-add}
+-- Laws of the bytes of a list: a call at its front and its members, and how the parts of a record are stored. Assumes
+-- nothing.
+use mathlib.Core.Path.{_≡_, refl, sym, _∙_}
+use mathlib.Core.List.{List, [], _∷_, _++_}
+use mathlib.Core.Bool.{Bool, true, false, cond, _&&_, not}
+use Prim.Native.Nat.{ℕ, zero, suc, _+_, _-_, _^_, _≤_, _<_}
+use native.Mathlib.Nat.{zero-add, pow-suc}
 use native.Mathlib.Omega.{arith}
-use lib.ListN.{length, take, drop, length-drop, length-append, List·getD-append}
+use lib.Arith.{digits-lt}
+use lib.ListN.{length, getD, take, drop, length-drop, length-append, List·getD-append, List·getD-eq-default}
 use lib.Seq.{sets, sets-eq, take-all}
 use lib.Dec.{ltb, eqb}
-use borrow.Author.Tests.{ltb-false, le-ltb, eqb-true, not-false}
-use Rattle.wide.specs.Fields.{beAt}
+use borrow.Author.Tests.{ltb-true, ltb-false, le-ltb, eqb-true, eqb-false}
+use Rattle.wide.specs.Fields.{beAt, be}
 use Rattle.wide.proofs.BigEndian.{length-be, sets-append}
-use Rattle.format.specs.Format.{widthOf, tagAt, frameRefusal, recordOf}
+use Rattle.wide.proofs.Choices.{either}
+use Rattle.format.specs.declared.Lengths.{Lengths}
+use Rattle.format.specs.Format.{
+  tagUnknown,
+  lengthWrong,
+  valueCut,
+  row,
+  table,
+  sum,
+  rowOf,
+  valueLength,
+  answerLength,
+  lengthsOf,
+  headerLength,
+  tagAt,
+  membersAt,
+  argumentsOf,
+  frameRefusal,
+  membersBytes,
+  answerBytes,
+  recordOf,
+}
 
 -- ---- bytes behind
 
@@ -21,62 +44,108 @@ field-before l m at zero h = refl
 field-before l m at (suc n) h =
     rw (field-before l m at n (omega arith), List·getD-append l m 0 (at + n) (omega arith))
 
--- ---- the length of a value
+pub members-before : (l m : List ℕ) (at : ℕ) (ws : List ℕ) → at + sum ws ≤ length l →
+    membersAt (l ++ m) at ws ≡ membersAt l at ws
+unfolding membersAt
+members-before l m at [] h = refl
+members-before l m at (w ∷ ws) h =
+    rw (field-before l m at w (omega arith), members-before l m (at + w) ws (omega arith))
 
--- a tag other than these has an empty value
-pub empty-is : (tag : ℕ) → (tag ≡ 1 → ⊥) → (tag ≡ 2 → ⊥) → (tag ≡ 3 → ⊥) → (tag ≡ 4 → ⊥) → (tag ≡ 7 → ⊥) →
-    (tag ≡ 8 → ⊥) → (tag ≡ 9 → ⊥) → 0 ≡ widthOf tag
-empty-is zero a b c d e f g = refl
-empty-is (suc zero) a b c d e f g = absurd (a refl)
-empty-is (suc (suc zero)) a b c d e f g = absurd (b refl)
-empty-is (suc (suc (suc zero))) a b c d e f g = absurd (c refl)
-empty-is (suc (suc (suc (suc zero)))) a b c d e f g = absurd (d refl)
-empty-is (suc (suc (suc (suc (suc zero))))) a b c d e f g = refl
-empty-is (suc (suc (suc (suc (suc (suc zero)))))) a b c d e f g = refl
-empty-is (suc (suc (suc (suc (suc (suc (suc zero))))))) a b c d e f g = absurd (e refl)
-empty-is (suc (suc (suc (suc (suc (suc (suc (suc zero)))))))) a b c d e f g = absurd (f refl)
-empty-is (suc (suc (suc (suc (suc (suc (suc (suc (suc zero))))))))) a b c d e f g = absurd (g refl)
-empty-is (suc (suc (suc (suc (suc (suc (suc (suc (suc (suc zero)))))))))) a b c d e f g = refl
-empty-is (suc (suc (suc (suc (suc (suc (suc (suc (suc (suc (suc n))))))))))) a b c d e f g = refl
+-- ---- members of bytes fit their widths
+
+field-below : (l : List ℕ) → ((i : ℕ) → getD l i 0 < 256) → (at n : ℕ) → beAt l at n < 256 ^ n
+unfolding beAt
+field-below l bytes at zero = omega arith
+field-below l bytes at (suc n) = rw pow-suc (digits-lt (field-below l bytes at n) (bytes (at + n)))
+
+pub members-below : (l : List ℕ) → ((i : ℕ) → getD l i 0 < 256) → (at : ℕ) (ws : List ℕ) (k : ℕ) →
+    getD (membersAt l at ws) k 0 < 256 ^ getD ws k 0
+unfolding membersAt
+members-below l bytes at [] k = omega arith
+members-below l bytes at (w ∷ ws) zero = field-below l bytes at w
+members-below l bytes at (w ∷ ws) (suc k) = members-below l bytes (at + w) ws k
+
+-- ---- tags
+
+other : (k tag : ℕ) → k < tag → eqb tag (suc k) ≡ false → suc k < tag
+other k tag h n = let m = eqb-false tag (suc k) n in omega arith
+
+last-tag : (tag : ℕ) → 9 < tag → tag < 11 → tag ≡ 10
+last-tag tag low high = omega arith
+
+-- a property of a known tag, tag by tag
+pub by-tag : (P : ℕ → Type 0) (tag : ℕ) → 0 < tag → tag < 11 →
+    P 1 → P 2 → P 3 → P 4 → P 5 → P 6 → P 7 → P 8 → P 9 → P 10 → P tag
+by-tag P tag low high p1 p2 p3 p4 p5 p6 p7 p8 p9 p10 =
+    at 1 p1 (λ n1. at 2 p2 (λ n2. at 3 p3 (λ n3. at 4 p4 (λ n4. at 5 p5 (λ n5. at 6 p6 (λ n6. at 7 p7 (λ n7. at 8 p8
+    (λ n8. at 9 p9
+    (λ n9. let e : tag ≡ 10 =
+    last-tag tag
+    (other 8 tag (other 7 tag (other 6 tag (other 5 tag (other 4 tag (other 3 tag (other 2 tag (other 1 tag
+    (other 0 tag low n1) n2) n3) n4) n5) n6) n7) n8) n9) high in
+    rw e p10)))))))))
+  where
+    at : (k : ℕ) → P k → (eqb tag k ≡ false → P tag) → P tag
+    at k p n = either (eqb tag k) (λ e. let q : tag ≡ k = eqb-true tag k e in rw q p) n
+
+-- a tag that no arm of the code names has no row
+pub unknown-is : (tag : ℕ) → (tag ≡ 1 → ⊥) → (tag ≡ 2 → ⊥) → (tag ≡ 3 → ⊥) → (tag ≡ 4 → ⊥) → (tag ≡ 5 → ⊥) →
+    (tag ≡ 6 → ⊥) → (tag ≡ 7 → ⊥) → (tag ≡ 8 → ⊥) → (tag ≡ 9 → ⊥) → (tag ≡ 10 → ⊥) →
+    record { known = false; value = 0; answer = 0 } ≡ lengthsOf tag
+unknown-is tag n1 n2 n3 n4 n5 n6 n7 n8 n9 n10 =
+    either (ltb 0 tag)
+    (λ a. either (ltb tag 11)
+    (λ b. absurd
+    (by-tag (λ (t : ℕ). tag ≡ t → ⊥) tag (ltb-true 0 tag a) (ltb-true tag 11 b) n1 n2 n3 n4 n5 n6 n7 n8 n9 n10 refl))
+    (λ b. rw (a, b, List·getD-eq-default table (row [] []) (ltb-false tag 11 b))))
+    (λ a. let h = ltb-false 0 tag a in let z : tag ≡ 0 = omega arith in rw z)
 
 -- ---- a call at the front
 
--- no refusal, no test met
+-- the refusal by the code's tests, of bytes that have a header
+pub tested : (l : List ℕ) → headerLength ≤ length l → (n : Lengths) → n ≡ lengthsOf (tagAt l) → (told : ℕ) →
+    told ≡ beAt l 1 2 →
+    frameRefusal l ≡ cond (not (n .known)) tagUnknown
+    (cond (not (eqb told (n .value))) lengthWrong
+    (cond (ltb (length l - headerLength) (n .value)) valueCut 0))
+unfolding frameRefusal
+tested l h n e told g = rw (le-ltb (length l) headerLength h, e, g)
+
+-- a frame that is refused, by a number k, tells no lengths
+pub refused-is : {P : Type 0} (r k f : ℕ) → r ≡ k → 0 < k → f ≡ k → (r ≡ f) × (f ≡ 0 → P)
+refused-is r k f p h q = (p ∙ sym q, λ z. absurd (omega arith))
+
+-- no refusal: no test that gives one is met, and the tag is neither too small nor too large
 record Passed (t₁ t₂ u₂ t₃ t₄ : Bool) : Type 0 where
   header : t₁ ≡ false
-  first : t₂ ≡ false
-  last : u₂ ≡ false
+  first : t₂ ≡ true
+  last : u₂ ≡ true
   length : t₃ ≡ false
   value : t₄ ≡ false
 
-passed : (t₁ t₂ u₂ t₃ t₄ : Bool) → _≡_ {A = ℕ} (cond t₁ 2 (cond (t₂ || u₂) 3 (cond t₃ 4 (cond t₄ 5 0)))) 0 →
+passed : (t₁ t₂ u₂ t₃ t₄ : Bool) → _≡_ {A = ℕ} (cond t₁ 2 (cond (not (t₂ && u₂)) 3 (cond t₃ 4 (cond t₄ 5 0)))) 0 →
     Passed t₁ t₂ u₂ t₃ t₄
 passed true t₂ u₂ t₃ t₄ e = absurd (omega arith)
-passed false true u₂ t₃ t₄ e = absurd (omega arith)
-passed false false true t₃ t₄ e = absurd (omega arith)
-passed false false false true t₄ e = absurd (omega arith)
-passed false false false false true e = absurd (omega arith)
-passed false false false false false e =
+passed false false u₂ t₃ t₄ e = absurd (omega arith)
+passed false true false t₃ t₄ e = absurd (omega arith)
+passed false true true true t₄ e = absurd (omega arith)
+passed false true true false true e = absurd (omega arith)
+passed false true true false false e =
     record { header = refl; first = refl; last = refl; length = refl; value = refl }
 
 module _ (l : List ℕ) (e : frameRefusal l ≡ 0) where
   tests :
-      Passed (ltb (length l) 3) (ltb (tagAt l) 1) (ltb 10 (tagAt l)) (not (eqb (beAt l 1 2) (widthOf (tagAt l))))
-      (ltb (length l - 3) (widthOf (tagAt l)))
+      Passed (ltb (length l) headerLength) (ltb 0 (tagAt l)) (ltb (tagAt l) 11)
+      (not (eqb (beAt l 1 2) (valueLength (tagAt l)))) (ltb (length l - headerLength) (valueLength (tagAt l)))
   unfolding frameRefusal
   tests = passed _ _ _ _ _ e
 
-  -- a call lies within its list, and its tag is known
-  pub framed : (3 + widthOf (tagAt l) ≤ length l) × (tagAt l < 11)
+  -- .0: header and value of a call lie within its list; .1: its tag is one of the table's
+  pub framed : (headerLength + valueLength (tagAt l) ≤ length l) × ((0 < tagAt l) × (tagAt l < 11))
   framed =
-      let a = ltb-false (length l) 3 (tests .header) in
-      let t = ltb-false 10 (tagAt l) (tests .last) in
-      let v = ltb-false (length l - 3) (widthOf (tagAt l)) (tests .value) in
-      (omega arith, omega arith)
-
-  -- the header has the length of the tag's value
-  pub length-told : beAt l 1 2 ≡ widthOf (tagAt l)
-  length-told = eqb-true (beAt l 1 2) (widthOf (tagAt l)) (not-false _ (tests .length))
+      let a = ltb-false (length l) headerLength (tests .header) in
+      let v = ltb-false (length l - headerLength) (valueLength (tagAt l)) (tests .value) in
+      (omega arith, (ltb-true 0 (tagAt l) (tests .first), ltb-true (tagAt l) 11 (tests .last)))
 
   -- bytes behind a call have no part in it
   module _ (m : List ℕ) where
@@ -86,17 +155,20 @@ module _ (l : List ℕ) (e : frameRefusal l ≡ 0) where
     pub frame-before : frameRefusal (l ++ m) ≡ 0
     unfolding frameRefusal
     frame-before =
-        let w = widthOf (tagAt l) in
-        let long : 3 + w ≤ length (l ++ m) = omega (arith, framed, length-append l m) in
+        let w = valueLength (tagAt l) in
+        let long : headerLength + w ≤ length (l ++ m) = omega (arith, framed .0, length-append l m) in
         rw (
           tag-before,
-          field-before l m 1 2 (omega (arith, framed)),
-          le-ltb (length (l ++ m)) 3 (omega arith),
+          field-before l m 1 2 (omega (arith, framed .0)),
+          le-ltb (length (l ++ m)) headerLength (omega arith),
           tests .first,
           tests .last,
           tests .length,
-          le-ltb (length (l ++ m) - 3) w (omega arith),
+          le-ltb (length (l ++ m) - headerLength) w (omega arith),
         )
+
+    pub arguments-before : argumentsOf (tagAt (l ++ m)) (l ++ m) ≡ argumentsOf (tagAt l) l
+    arguments-before = rw tag-before (members-before l m headerLength (rowOf (tagAt l) .value) (framed .0))
 
 -- a part of a slice that goes to its end
 pub part-rest : (l : List ℕ) (k : ℕ) → take (length l - k) (drop k l) ≡ drop k l
@@ -118,3 +190,15 @@ pub record-length : (tag : ℕ) (value : List ℕ) → length (recordOf tag valu
 unfolding recordOf
 record-length tag value =
     simp (length-append, length-be) (omega arith)
+
+-- ---- the bytes of members
+
+-- members are as long as their widths say
+pub members-length : (ws ms : List ℕ) → length (membersBytes ws ms) ≡ sum ws
+unfolding membersBytes
+members-length [] ms = refl
+members-length (w ∷ ws) ms =
+    rw (length-append (be w (getD ms 0 0)) (membersBytes ws (drop 1 ms)), length-be, members-length ws (drop 1 ms))
+
+pub answer-length : (tag : ℕ) (ms : List ℕ) → length (answerBytes tag ms) ≡ answerLength tag
+answer-length tag ms = members-length (rowOf tag .answer) ms

@@ -1,1 +1,2 @@
 pub mod Frames
+mod Rows

@@ -1,9 +1,18 @@
 // The bytes of the call list: the call at the front of a list, and the record of an answer, big-endian.
 ghost use mathlib.Core.Path.{_≡_};
+ghost use mathlib.Core.Bool.{true};
 ghost use Prim.Native.Nat.{_+_, _≤_};
 ghost use lib.ListN.{length};
 ghost use lib.Seq.{sets};
-ghost use Rattle.format.specs.Format.{widthOf, frameRefusal, valueBytes, recordOf};
+ghost use Rattle.format.specs.Format.{
+  valueLength,
+  answerLength,
+  lengthsOf,
+  tagAt,
+  frameRefusal,
+  valueBytes,
+  recordOf,
+};
 ghost use Rattle.format.specs.declared.Answer.the-variants.{Byte, Deadline, Skip, Pair};
 use wide::fields;
 use wide::number::Wide;
@@ -20,9 +29,7 @@ pub const VALUE_CUT: u8 = 5;
 pub const ANSWER_TOO_LONG: u8 = 11;
 
 // Bytes of a tag and a length.
-pub const HEADER: usize = 3;
-
-const LAST_TAG: u8 = 10;
+pub const HEADER_LENGTH: usize = 3;
 
 // The members of an answer.
 pub enum Answer {
@@ -33,44 +40,87 @@ pub enum Answer {
     Pair(u8, u8),
 }
 
-// The length of a tag's value. The values of 5, 6 and 10 are empty.
-fn width_of(tag: u8) -> usize
-    ensures { λ r. ⌜ r ≡ widthOf tag ⌝ }
+// What follows from a tag: whether there is a call with it, and the lengths of the call's value and answer.
+pub struct Lengths {
+    pub known: bool,
+    pub value: usize,
+    pub answer: usize,
+}
+
+fn row(value: usize, answer: usize) -> Lengths
+    ensures { λ r. ⌜ r ≡ record { known = true; value = value; answer = answer } ⌝ }
 {
-    match tag {
-        1 => 12,
-        2 => 2,
-        3 => 3,
-        4 => 8,
-        7 => 2,
-        8 => 4,
-        9 => 5,
-        _ => 0,
+    Lengths {
+        known: true,
+        value,
+        answer,
     }
 }
 
-// The refusal of the bytes at the front of a list, 0 where they are a call.
-pub fn frame_refusal(rest: &[u8]) -> u8
-    ensures { λ r. ⌜ r ≡ frameRefusal (now (rest .entry)) ⌝ }
+// The table of calls: a row for each tag, with the lengths of its value and of its answer.
+pub fn lengths_of(tag: u8) -> Lengths
+    ensures { λ r. ⌜ r ≡ lengthsOf tag ⌝ }
 {
-    if rest.len() < HEADER {
-        return HEADER_CUT;
+    match tag {
+        1 => row(12, 0),
+        2 => row(2, 1),
+        3 => row(3, 0),
+        4 => row(8, 1),
+        5 => row(0, 25),
+        6 => row(0, 9),
+        7 => row(2, 0),
+        8 => row(4, 1),
+        9 => row(5, 0),
+        10 => row(0, 2),
+        _ => Lengths {
+            known: false,
+            value: 0,
+            answer: 0,
+        },
     }
-    let tag = rest[0];
-    if tag < 1 {
-        return TAG_UNKNOWN;
+}
+
+// The call at the front of a list: its refusal, 0 for none, and then the lengths of its value and answer.
+pub struct Frame {
+    pub refusal: u8,
+    pub value: usize,
+    pub answer: usize,
+}
+
+// A call that is refused.
+fn refused_frame(refusal: u8) -> Frame
+    ensures { λ r. ⌜ r .refusal ≡ refusal ⌝ }
+{
+    Frame {
+        refusal,
+        value: 0,
+        answer: 0,
     }
-    if LAST_TAG < tag {
-        return TAG_UNKNOWN;
+}
+
+pub fn frame_of(rest: &[u8]) -> Frame
+    ensures { λ r. ⌜ (r .refusal ≡ frameRefusal (now (rest .entry)))
+        × (frameRefusal (now (rest .entry)) ≡ 0 → (r .value ≡ valueLength (tagAt (now (rest .entry))))
+        × (r .answer ≡ answerLength (tagAt (now (rest .entry))))) ⌝ }
+{
+    if rest.len() < HEADER_LENGTH {
+        return refused_frame(HEADER_CUT);
     }
-    let width = width_of(tag);
-    if fields::get(rest, 1, 2) != width as u64 {
-        return LENGTH_WRONG;
+    let lengths = lengths_of(rest[0]);
+    if !lengths.known {
+        return refused_frame(TAG_UNKNOWN);
     }
-    if rest.len() - HEADER < width {
-        return VALUE_CUT;
+    if fields::get(rest, 1, 2) != lengths.value as u64 {
+        return refused_frame(LENGTH_WRONG);
     }
-    0
+    if rest.len() - HEADER_LENGTH < lengths.value {
+        return refused_frame(VALUE_CUT);
+    }
+    Frame {
+        refusal: 0,
+        value: lengths.value,
+        answer: lengths.answer,
+    }
 }
 
 fn put_byte(buf: &mut [u8], at: usize, value: u8)
@@ -126,5 +176,5 @@ pub fn put_record(buf: &mut [u8], at: usize, tag: u8, size: usize, answer: Answe
 {
     fields::put(buf, at, tag as u64, 1);
     fields::put(buf, at + 1, size as u64, 2);
-    put_value(buf, at + HEADER, answer);
+    put_value(buf, at + HEADER_LENGTH, answer);
 }

@@ -1,22 +1,23 @@
 -- The loop that advances a board's channels where they lie, and the board after it. Assumes nothing.
 use Prim.Native.Nat.{ℕ, _+_, _≤_, _<_}
 use native.Mathlib.Omega.{arith}
-use mathlib.Core.Path.{_≡_, refl, sym, ap, _∙_}
-use mathlib.Core.Bool.{true, Bool}
+use mathlib.Core.Path.{_≡_, refl, sym, ap, _∙_, subst}
+use mathlib.Core.Bool.{Bool, true, false}
 use mathlib.Core.List.{List}
 use lib.ListN.{length, getD}
+use lib.Seq.{set-getD}
 use Rattle.wide.specs.Bits.{bit}
 use Rattle.channel.specs.declared.HardwareTimer.{HardwareTimer}
 use Rattle.channel.specs.Channel.{freshTimer}
-use Rattle.channel.specs.Prescaler.{advanced}
+use Rattle.channel.specs.Prescaler.{runs, advanced}
 use Rattle.clock.specs.declared.Clock.{Clock}
 use Rattle.clock.specs.Clock.{rateOf, advanceClock}
 use Rattle.clock.specs.Sound.{Timed}
 use Rattle.board.specs.declared.Board.{Board}
-use Rattle.board.specs.Board.{withTimers, withClock, wired}
-use Rattle.board.specs.Calls.{advancedBoard}
+use Rattle.board.specs.Fields.{withTimers, withClock, withChannel}
+use Rattle.board.specs.Calls.{movedBoard}
 use Rattle.board.specs.Channels.{allSound, advancedAll}
-use Rattle.offsets.specs.Registers.{withChannel}
+use Rattle.channel.proofs.Law.{advanced-still}
 use Rattle.board.proofs.Loops.{mapTo, map-goes, map-ends}
 use Rattle.board.proofs.Phases.{phase-next}
 
@@ -61,17 +62,25 @@ module _ (enable c i : ℕ) (b₀ b : Board) (a : Advancing enable c i b₀ b) w
             (a .now);
       }
 
+  -- one turn at a channel that does not run
+  pub passed-over : i < 4 → (v : Bool) → v ≡ bit i enable → runs v (getD (b .timers) i freshTimer) ≡ false →
+      Advancing enable c (i + 1) b₀ b
+  passed-over h v e n =
+      let m = getD (b .timers) i freshTimer in
+      let same : withChannel i m b ≡ b =
+      ap (λ (ts : List HardwareTimer). withTimers ts b) (set-getD (b .timers) i freshTimer) in
+      subst (Advancing enable c (i + 1) b₀) same (turns h v e m (sym (advanced-still v c m n)))
+
   -- after the last turn, and with the clock advanced
-  pub all-advanced : 4 ≤ i → enable ≡ b₀ .«timer_enable» → (k : Clock) →
-      k ≡ advanceClock (rateOf (b .clock)) c (b .clock) → wired (withClock k b) ≡ advancedBoard c b₀
-  unfolding advancedBoard
+  pub all-advanced : 4 ≤ i → enable ≡ b₀ .«timer_enable» → (k : Clock) → k ≡ advanceClock (rateOf (b .clock)) c (b .clock) →
+      withClock k b ≡ movedBoard c b₀
+  unfolding movedBoard
   all-advanced h e k q =
       let n : i ≡ 4 = omega (arith, h, a .below) in
       let s : k ≡ advanceClock (rateOf (b₀ .clock)) c (b₀ .clock) =
       q ∙ ap (λ (x : Board). advanceClock (rateOf (x .clock)) c (x .clock)) (a .now) in
       let t : b .timers ≡ advancedAll enable c (b₀ .timers) =
       timers-now ∙ rw n (map-ends (λ k t. advanced (bit k enable) c t) 4 0 (b₀ .timers) (a .four)) in
-      ap wired
-      (ap (λ (x : Clock). withClock x b) s
+      ap (λ (x : Clock). withClock x b) s
       ∙ ap (λ (x : Board). withClock (advanceClock (rateOf (b₀ .clock)) c (b₀ .clock)) x)
-      (a .now ∙ ap (λ (ts : List HardwareTimer). withTimers ts b₀) (sym timers-now ∙ t ∙ rw e refl)))
+      (a .now ∙ ap (λ (ts : List HardwareTimer). withTimers ts b₀) (sym timers-now ∙ t ∙ rw e refl))

@@ -1,8 +1,7 @@
-mod Kept
+mod Turns
 mod Runs
-mod Writes
 mod Advances
 mod Accepted
 pub mod Demand
-pub mod Parts
+pub mod TwoParts
 pub mod Settings

@@ -1,5 +1,4 @@
--- Laws of a run: a call that is done takes bytes of the list and has room for its answer, and what a run does at its
--- next call. Assumes nothing.
+-- Laws of a run: what it does at its next call, and a run under way. Assumes nothing.
 use mathlib.Core.Path.{_≡_, refl, sym, ap, _∙_}
 use mathlib.Core.List.{List, [], _∷_, _++_, append-nil}
 use mathlib.Core.Bool.{Bool, true, false, true≢false, false≢true}
@@ -8,16 +7,12 @@ use native.Mathlib.Nat.{zero-add}
 use native.Mathlib.Omega.{arith}
 use lib.ListN.{length, drop, length-drop, length-append, drop-of-length-le}
 use lib.Seq.{sets, length-sets, drop-drop}
-use lib.Dec.{ltb, eqb}
-use borrow.Author.Tests.{ltb-false, eqb-true}
-use Rattle.wide.proofs.Choices.{choose}
 use Rattle.board.specs.declared.Board.{Board}
 use Rattle.board.specs.Board.{BoardFits, sound}
 use Rattle.list.specs.declared.Outcome.{Outcome}
-use Rattle.format.specs.Format.{widthOf, tagAt, frameRefusal, recordOf}
-use Rattle.perform.specs.Calls.{callAt}
-use Rattle.list.specs.Run.{Turn, done, refused, settle, turnOf, stepped, Run, runOn, over}
-use Rattle.format.proofs.Frames.{framed, sets-then, sets-front}
+use Rattle.list.specs.Run.{Turn, done, refused, turnOf, stepped, Run, runOn, over}
+use Rattle.format.proofs.Frames.{sets-then, sets-front}
+use Rattle.list.proofs.Turns.{done-fits}
 
 -- whether a call was done
 abbrev pub served : Turn → Bool
@@ -28,36 +23,6 @@ served (refused n) = false
 unfoldable pub bytesOf : Turn → List ℕ
 bytesOf (done b n a) = a
 bytesOf (refused n) = []
-
--- ---- one call
-
--- a call that is done is a call of the list, its answer has room, and its board is the direct call's; a call that is
--- refused has a number
-unfoldable pub Placed : Board → List ℕ → ℕ → Turn → Type 0
-Placed b l room (done b′ n a) =
-    (frameRefusal l ≡ 0)
-    × ((n ≡ 3 + widthOf (tagAt l)) × ((length a ≤ room) × (b′ ≡ callAt (tagAt l) l b .board)))
-Placed b l room (refused n) = eqb n 0 ≡ false
-
-pub turn-placed : (b : Board) (l : List ℕ) (room : ℕ) → Placed b l room (turnOf b l room)
-unfolding turnOf settle Placed
-turn-placed b l room =
-    let t = callAt (tagAt l) l b in
-    choose (Placed b l room) (eqb (frameRefusal l) 0)
-    (λ e. choose (Placed b l room) (eqb (t .refusal) 0)
-    (λ _. choose (Placed b l room) (ltb room (length (recordOf (tagAt l) (t .value))))
-    (λ _. refl)
-    (λ f. (eqb-true _ _ e, (refl, (ltb-false _ _ f, refl)))))
-    (λ r. r))
-    (λ r. r)
-
--- it takes at least three bytes, all of the list
-pub done-fits : (b : Board) (l : List ℕ) (room : ℕ) (b′ : Board) (n : ℕ) (a : List ℕ) →
-    turnOf b l room ≡ done b′ n a → (3 ≤ n) × ((n ≤ length l) × (length a ≤ room))
-unfolding Placed
-done-fits b l room b′ n a e =
-    let p : Placed b l room (done b′ n a) = rw e at (turn-placed b l room) in
-    (omega (arith, p .1 .0), (omega (arith, p .1 .0, framed l (p .0)), p .1 .1 .0))
 
 -- ---- the run's next call
 

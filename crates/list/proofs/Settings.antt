@@ -60,16 +60,17 @@ use Rattle.controller.specs.Bits.{withBit, without}
 use Rattle.controller.specs.Controller.{sourceSet, outputOf, lowestFrom, byteWritten, pendingCleared}
 use Rattle.board.specs.declared.Board.{Board}
 use Rattle.board.specs.Loops.{mapFrom, foldFrom}
-use Rattle.board.specs.Board.{freshBoard, withClock, line, exactDeadline, wired, soundParts, sound}
-use Rattle.board.specs.Calls.{advancedBoard, controllerWritten, advanceCall, outputCall}
+use Rattle.board.specs.Fields.{freshBoard, withTimers, withTimerEnable, withClock}
+use Rattle.board.specs.Board.{line, exactDeadline, wired, soundParts, sound}
+use Rattle.board.specs.Calls.{boardAfter, movedBoard, advancedBoard, controllerWriteCall}
 use Rattle.board.specs.Demand.{source3}
 use Rattle.offsets.specs.Words.{timerWord, clockWord, liveWord}
 use Rattle.registers.specs.Reads.{readLive, readCountHigh, readChannel, secondsLatched, readLow, readHigh, readAt}
 use Rattle.offsets.specs.Writes.{timerWritten, clockWritten, writtenAt}
-use Rattle.registers.specs.Calls.{addressRefusal, readAccepted, writtenBoard, readCall}
-use Rattle.format.specs.Format.{frameRefusal, recordOf}
-use Rattle.perform.specs.Calls.{callAt}
-use Rattle.list.specs.Run.{settle, turnOf, stepped, Run, runOn, runOf}
+use Rattle.registers.specs.Calls.{addressRefusal, readCall, writeCall}
+use Rattle.format.specs.Format.{membersAt, frameRefusal, membersBytes, recordOf}
+use Rattle.perform.specs.Calls.{callOf}
+use Rattle.list.specs.Run.{refusalAt, turnOf, stepped, Run, runOn, runOf}
 
 -- ---- boards
 
@@ -78,14 +79,7 @@ abbrev inMode : ℕ → HardwareTimer
 inMode mode = timerControl (12 + mode) freshTimer
 
 abbrev running : HardwareTimer → Board
-running h =
-    record {
-      timers = h ∷ freshTimer ∷ freshTimer ∷ freshTimer ∷ [];
-      «timer_enable» = 1;
-      clock = freshBoard .clock;
-      latches = freshBoard .latches;
-      controller = freshBoard .controller;
-    }
+running h = withTimerEnable 1 (withTimers (h ∷ freshTimer ∷ freshTimer ∷ freshTimer ∷ []) freshBoard)
 
 abbrev channel0 : Board → HardwareTimer
 channel0 b = getD (b .timers) 0 freshTimer
@@ -111,10 +105,18 @@ settingG = clocked (withTime (2 ^ 64 - 1) 0 freshClock)
 abbrev settingH : ℕ → IrqOutput
 settingH enable = outputOf (record { pending = 0x0220; enable = enable; levels = 0 })
 
+-- the board after an accepted write
+abbrev written : ℕ → ℕ → Board → Board
+written address v b = boardAfter (writeCall address v b)
+
+-- the byte of an accepted read
+abbrev readByte : ℕ → Board → ℕ
+readByte address b = getD (readCall address b .members) 0 0
+
 -- byte i of the eight seconds bytes is i + 1
 seconds : List ℕ → Board → Board
 seconds [] b = b
-seconds (i ∷ more) b = seconds more (writtenBoard (cond (leb i 3) (0x08C + i) (0x084 + i)) (i + 1) b)
+seconds (i ∷ more) b = seconds more (written (cond (leb i 3) (0x08C + i) (0x084 + i)) (i + 1) b)
 
 settingI : Board
 settingI = seconds (7 ∷ 6 ∷ 5 ∷ 4 ∷ 3 ∷ 2 ∷ 1 ∷ []) (clocked (withControl 3 freshClock))
@@ -125,7 +127,7 @@ settingJ = runOf freshBoard [] 0
 -- the low count's byte 0 is read, then its last byte is written
 lowCount : Board
 lowCount =
-    writtenBoard 0x28B 0xFF (readAccepted 0x288 (running (withCounter 0x0102_0304_0506_0708 freshTimer)) .board)
+    written 0x28B 0xFF (boardAfter (readCall 0x288 (running (withCounter 0x0102_0304_0506_0708 freshTimer))))
 
 -- mode 1 with its match behind it, and enable clear
 abbrev resting : HardwareTimer
@@ -133,7 +135,7 @@ resting = timerControl 9 (withCounter 10 (withCompare 4 (withReload 4 freshTimer
 
 -- the line is high, and the pending bit of source 3 that it latched is cleared
 steady : Board
-steady = controllerWritten 1 8 (advancedBoard 30 settingA)
+steady = boardAfter (controllerWriteCall 1 8 (advancedBoard 30 settingA))
 
 -- document 01's worked run
 worked : Run
@@ -190,7 +192,7 @@ settings =
     && eqb (settingJ .outcome .calls) 0
     && eqb (settingJ .outcome .refusal) 0
     -- wrong: the low count latched
-    && eqb (readAccepted 0x28B lowCount .byte) 0xFF
+    && eqb (readByte 0x28B lowCount) 0xFF
     -- wrong: a disabled channel's compare moved, where the match disables it, and where it does not run
     && eqb (channel0 (advancedBoard 1 (settingC 4)) .compare) (2 ^ 64 - 2)
     && eqb (channel0 (advancedBoard 7 (running resting)) .compare) 4
@@ -199,7 +201,7 @@ settings =
     && line (advancedBoard 1 steady)
     && not (source3 (advancedBoard 1 steady))
     -- wrong: subsecond 1 kept when the clock is switched off
-    && eqb (writtenBoard 0x083 0 (clocked (withTime 0 1 freshClock)) .clock .subsecond) 0
+    && eqb (written 0x083 0 (clocked (withTime 0 1 freshClock)) .clock .subsecond) 0
     -- the worked run
     && eqb (worked .outcome .calls) 3
     && eqb (worked .outcome .refusal) 2
@@ -214,8 +216,8 @@ unfolding
     checkAlarm movedTime endAdvance advanceClock soundOffset soundAlarm clockParts alarmAhead soundClock
     clockDeadline signedDifference setTime timeKept changeControl writeControl marked shadowByte offsetFor
     commitSeconds writeSeconds timeNanoseconds withBit without sourceSet outputOf lowestFrom byteWritten
-    pendingCleared mapFrom foldFrom line exactDeadline wired soundParts sound advancedBoard controllerWritten
-    advanceCall outputCall timerWord clockWord liveWord readLive readCountHigh readChannel secondsLatched readLow
-    readHigh readAt timerWritten clockWritten writtenAt addressRefusal readAccepted writtenBoard readCall
-    frameRefusal recordOf callAt settle turnOf stepped runOn runOf
+    pendingCleared mapFrom foldFrom line exactDeadline wired soundParts sound movedBoard advancedBoard
+    timerWord clockWord liveWord readLive readCountHigh readChannel secondsLatched readLow
+    readHigh readAt timerWritten clockWritten writtenAt addressRefusal membersAt
+    frameRefusal membersBytes recordOf callOf refusalAt turnOf stepped runOn runOf
 settings-hold = refl

@@ -5,16 +5,16 @@ use mathlib.Core.Path.{_≡_}
 use mathlib.Core.List.{List, [], _∷_}
 use lib.ListN.{drop}
 use Rattle.wide.specs.Fields.{beAt}
-use Rattle.board.specs.Demand.{Call, advance, hostTime}
-use Rattle.format.specs.Format.{widthOf, tagAt, frameRefusal}
+use Rattle.board.specs.Demand.{DemandCall, advance, hostTime}
+use Rattle.format.specs.Format.{valueLength, tagAt, frameRefusal}
 
 -- the call at the front of some bytes
-abbrev pub FrontIs : List ℕ → Call → Type 0
+abbrev pub FrontIs : List ℕ → DemandCall → Type 0
 FrontIs l (advance c) = (frameRefusal l ≡ 0) × ((tagAt l ≡ 4) × (beAt l 3 8 ≡ c))
 FrontIs l (hostTime h) =
     (frameRefusal l ≡ 0) × ((tagAt l ≡ 1) × ((beAt l 3 8 ≡ h .seconds) × (beAt l 11 4 ≡ h .nanoseconds)))
 
 -- the bytes are these calls, one after another
-unfoldable pub ListIs : List ℕ → List Call → Type 0
+unfoldable pub ListIs : List ℕ → List DemandCall → Type 0
 ListIs l [] = l ≡ []
-ListIs l (a ∷ calls) = FrontIs l a × ListIs (drop (3 + widthOf (tagAt l)) l) calls
+ListIs l (a ∷ calls) = FrontIs l a × ListIs (drop (3 + valueLength (tagAt l)) l) calls

@@ -6,9 +6,18 @@ use lib.ListN.{length, drop}
 use lib.Dec.{ltb, eqb}
 use Rattle.board.specs.declared.Board.{Board}
 use Rattle.board.specs.Board.{sound}
-use Rattle.board.specs.Calls.{notSound}
-use Rattle.format.specs.Format.{answerTooLong, widthOf, tagAt, frameRefusal, recordOf}
-use Rattle.perform.specs.Calls.{Told, callAt}
+use Rattle.board.specs.Calls.{notSound, boardAfter}
+use Rattle.format.specs.Format.{
+  answerTooLong,
+  headerLength,
+  valueLength,
+  answerLength,
+  tagAt,
+  frameRefusal,
+  answerBytes,
+  recordOf,
+}
+use Rattle.perform.specs.Calls.{callAt}
 use Rattle.list.specs.declared.Outcome.{Outcome}
 
 -- ---- one call
@@ -19,18 +28,25 @@ pub data Turn : Type 0 where
   done : Board → ℕ → List ℕ → Turn
   refused : ℕ → Turn
 
--- 'the call's own; 11 answer longer than the buffer's rest'
-unfoldable pub settle : ℕ → Told → ℕ → Turn
-settle tag t room =
-    cond (eqb (t .refusal) 0)
-    (cond (ltb room (length (recordOf tag (t .value)))) (refused answerTooLong)
-    (done (t .board) (3 + widthOf tag) (recordOf tag (t .value))))
-    (refused (t .refusal))
+-- the first of two refusals that there is
+abbrev pub firstOf : ℕ → ℕ → ℕ
+firstOf m n = cond (eqb m 0) n m
 
--- the call at the front of a list, with so much room for its answer: the refusals in document 01's order
+-- the refusal of the call at the front of a list, 0 for none, with so much room for its answer: 'for each call: 2 one or
+-- two bytes left; 3 unknown tag; 4 wrong length; 5 value cut; the call's own; 11 answer longer than the buffer's rest'
+unfoldable pub refusalAt : Board → List ℕ → ℕ → ℕ
+refusalAt b l room =
+    firstOf (frameRefusal l)
+    (firstOf (callAt l b .refusal)
+    (cond (ltb room (headerLength + answerLength (tagAt l))) answerTooLong 0))
+
+-- what becomes of that call
 unfoldable pub turnOf : Board → List ℕ → ℕ → Turn
 turnOf b l room =
-    cond (eqb (frameRefusal l) 0) (settle (tagAt l) (callAt (tagAt l) l b) room) (refused (frameRefusal l))
+    cond (eqb (refusalAt b l room) 0)
+    (done (boardAfter (callAt l b)) (headerLength + valueLength (tagAt l))
+    (recordOf (tagAt l) (answerBytes (tagAt l) (callAt l b .members))))
+    (refused (refusalAt b l room))
 
 -- ---- a run
 
@@ -69,14 +85,14 @@ runOn zero (x ∷ rest) room s out =
       | refused n ↦ record { outcome = stepped s (refused n); answers = out }
     ]
 
--- before the first call
-abbrev pub startOf : Board → ℕ → Outcome
-startOf b refusal = record { board = b; calls = 0; used = 0; written = 0; refusal = refusal }
+-- a run that has done nothing
+abbrev pub nothingDone : Board → ℕ → Outcome
+nothingDone b refusal = record { board = b; calls = 0; used = 0; written = 0; refusal = refusal }
 
 -- 'Run: refusal 1, board not sound, nothing done.'
 unfoldable pub runOf : Board → List ℕ → ℕ → Run
 runOf b l room =
-    cond (sound b) (runOn 0 l room (startOf b 0) []) (record { outcome = startOf b notSound; answers = [] })
+    cond (sound b) (runOn 0 l room (nothingDone b 0) []) (record { outcome = nothingDone b notSound; answers = [] })
 
 -- 'the answers of the calls carried out, in order from its first byte, then its old bytes'
 unfoldable pub over : List ℕ → List ℕ → List ℕ

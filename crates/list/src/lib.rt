@@ -1,21 +1,18 @@
 // The call list: a run takes the calls of a list in order, writes an answer for each into a buffer, and stops at the
-// first refusal. A refusal follows from the bytes and the room alone, so an accepted call changes the board where it
-// lies.
+// first refusal. A refusal is found before its call is carried out, so an accepted call changes the board where it lies.
 ghost use mathlib.Core.Path.{_≡_};
+ghost use Prim.Native.Nat.{_+_};
 ghost use lib.ListN.{length};
-ghost use Rattle.list.specs.Run.{runOf, over};
-ghost use Rattle.list.specs.Refusals.{refusalAt, Sized};
+ghost use Rattle.format.specs.Format.{valueLength, answerLength, tagAt};
+ghost use Rattle.list.specs.Run.{refusalAt, runOf, over};
 use board::Board;
 use channel::ChannelNumber;
 use channel::Cycles;
-use controller::with_source;
 use format::Answer;
-use offsets::Registers;
 use offsets::writes::acknowledged;
 use registers::reads;
 use registers::writes;
-use wide::deadline::Deadline;
-use wide::fields;
+use registers::writes::WritePart;
 
 // The board after a run, the calls done, the list bytes that they used, the answer bytes, and the refusal, 0 for none.
 pub struct Outcome {
@@ -45,29 +42,27 @@ fn refused(refusal: u8) -> Front
     }
 }
 
-// The call at the front, with so much room for its answer.
-fn front_of(rest: &[u8], room: usize) -> Front
-    ensures { λ r. ⌜ (r .refusal ≡ refusalAt (now (rest .entry)) room)
-        × (refusalAt (now (rest .entry)) room ≡ 0 → Sized (now (rest .entry)) (r .length) (r .size)) ⌝ }
+// The call at the front, on a board and with so much room for its answer.
+fn front_of(board: Board, rest: &[u8], room: usize) -> Front
+    ensures { λ r. ⌜ (r .refusal ≡ refusalAt board (now (rest .entry)) room)
+        × (refusalAt board (now (rest .entry)) room ≡ 0 →
+        (r .length ≡ 3 + valueLength (tagAt (now (rest .entry)))) × (r .size ≡ answerLength (tagAt (now (rest .entry))))) ⌝ }
 {
-    let refusal = format::frame_refusal(rest);
-    if refusal != 0 {
-        return refused(refusal);
+    let frame = format::frame_of(rest);
+    if frame.refusal != 0 {
+        return refused(frame.refusal);
     }
-    let tag = rest[0];
-    let own = perform::own_refusal(tag, rest);
+    let own = perform::own_refusal(board, rest[0], rest);
     if own != 0 {
         return refused(own);
     }
-    let size = perform::answer_size(tag);
-    if room < format::HEADER + size {
+    if room < format::HEADER_LENGTH + frame.answer {
         return refused(format::ANSWER_TOO_LONG);
     }
-    // the header's length is the tag's, as the frame was not refused
     Front {
         refusal: 0,
-        length: format::HEADER + fields::get(rest, 1, 2) as usize,
-        size,
+        length: format::HEADER_LENGTH + frame.value,
+        size: frame.answer,
     }
 }
 
@@ -92,7 +87,7 @@ pub fn run(board: Board, list: &[u8], answers: &mut [u8]) -> Outcome
     let mut written = 0;
     while used < list.len() {
         let rest = &list[used..];
-        let front = front_of(rest, answers.len() - written);
+        let front = front_of(b, rest, answers.len() - written);
         if front.refusal != 0 {
             return Outcome {
                 board: b,
@@ -105,55 +100,68 @@ pub fn run(board: Board, list: &[u8], answers: &mut [u8]) -> Outcome
         let tag = rest[0];
         let mut answer = Answer::Empty;
         let mut cycles = Cycles(0);
+        let mut line = false;
+        // whether the line can have moved
+        let mut moved = true;
         match tag {
             // read
             2 => {
                 let offset = perform::offset_at(rest);
-                let timers = b.timers;
-                let shared = reads::shared_at(timers, b.timer_enable, offset);
                 // of the board itself: an array that is passed on to be indexed is copied
                 let i = reads::channel_index(offset);
                 let timer = b.timers[i];
-                let clock = b.clock;
-                let latches = b.latches;
-                let r = reads::reading_of(timer, shared, clock, latches, offset);
-                let after = r.latches;
-                b.latches = after;
-                b.clock.alarm.pending = r.pending;
-                b.clock.alarm.armed = r.armed;
-                answer = Answer::Byte(r.byte);
+                if reads::plain(offset) {
+                    let r = reads::plain_at(b, timer, offset);
+                    b.clock.alarm.pending = r.pending;
+                    b.clock.alarm.armed = r.armed;
+                    answer = Answer::Byte(r.byte);
+                    moved = r.rose;
+                } else {
+                    let r = reads::reading_at(b, timer, offset);
+                    let after = r.latches;
+                    b.latches = after;
+                    b.clock.alarm.pending = r.pending;
+                    b.clock.alarm.armed = r.armed;
+                    answer = Answer::Byte(r.byte);
+                    moved = r.rose;
+                }
             }
             // write
             3 => {
                 let offset = perform::offset_at(rest);
                 let value = perform::byte_at(rest, 5);
-                if offset == Registers::TIMER_LAST {
-                    let timers = b.timers;
-                    let cleared = acknowledged(timers, value);
-                    b.timers = cleared;
-                } else if offset < Registers::RTC_CTRL {
-                    let after = writes::enable_after(b.timer_enable, offset, value);
-                    b.timer_enable = after;
-                } else if offset < Registers::TIMER_CHANNEL_BASE {
-                    let clock = b.clock;
-                    let after = writes::clock_after(clock, offset, value);
-                    b.clock = after;
-                } else {
-                    let i = reads::channel_index(offset);
-                    let timer = b.timers[i];
-                    let after = writes::timer_after(timer, offset, value);
-                    b.timers[i] = after;
+                let part = writes::part_at(offset);
+                match part {
+                    WritePart::Nothing => {
+                        moved = false;
+                    }
+                    WritePart::Enable => {
+                        let after = writes::enable_after(b.timer_enable, offset, value);
+                        b.timer_enable = after;
+                        moved = false;
+                    }
+                    WritePart::Acknowledge => {
+                        let timers = b.timers;
+                        let cleared = acknowledged(timers, value);
+                        b.timers = cleared;
+                    }
+                    WritePart::Clock => {
+                        let clock = b.clock;
+                        let after = writes::clock_after(clock, offset, value);
+                        b.clock = after;
+                    }
+                    WritePart::Channel => {
+                        let i = reads::channel_index(offset);
+                        let timer = b.timers[i];
+                        let after = writes::timer_after(timer, offset, value);
+                        b.timers[i] = after;
+                        moved = writes::at_control(offset);
+                    }
                 }
             }
             // advance and skip
             4 | 6 => {
-                let mut high = false;
-                let mut soonest = Deadline::Never;
-                if tag == 6 {
-                    high = b.line();
-                    soonest = b.exact_deadline();
-                }
-                let p = perform::passing_of(tag, rest, high, soonest);
+                let p = perform::passing(b, tag, rest);
                 cycles = p.cycles;
                 if p.made {
                     let enable = b.timer_enable;
@@ -162,8 +170,10 @@ pub fn run(board: Board, list: &[u8], answers: &mut [u8]) -> Outcome
                     while i < count {
                         let timer = b.timers[i];
                         let selected = ChannelNumber(i as u8).selected(enable);
-                        let moved = timer.advance_cycles(selected, cycles);
-                        b.timers[i] = moved;
+                        if timer.runs(selected) {
+                            let after = timer.advance_cycles(true, cycles);
+                            b.timers[i] = after;
+                        }
                         i += 1;
                     }
                     let clock = b.clock;
@@ -177,9 +187,7 @@ pub fn run(board: Board, list: &[u8], answers: &mut [u8]) -> Outcome
             }
             // host time, source, and the controller's calls
             _ => {
-                let clock = b.clock;
-                let controller = b.controller;
-                let e = perform::effect_of(clock.host, controller, tag, rest);
+                let e = perform::effect(b, tag, rest);
                 b.clock.host.seconds = e.host.seconds;
                 b.clock.host.nanoseconds = e.host.nanoseconds;
                 let after = e.controller;
@@ -188,15 +196,16 @@ pub fn run(board: Board, list: &[u8], answers: &mut [u8]) -> Outcome
             }
         }
         // source 3 is set to the line
-        let line = b.line();
-        let controller = b.controller;
-        let set = with_source(controller, Board::LINE_SOURCE, line);
-        b.controller = set;
-        let told = perform::answered(tag, cycles, line, answer);
-        format::put_record(answers, written, tag, front.size, told);
+        if moved {
+            line = b.line();
+            let set = b.controller_wired(line);
+            b.controller = set;
+        }
+        let reply = perform::answered(tag, cycles, line, answer);
+        format::put_record(answers, written, tag, front.size, reply);
         calls += 1;
         used += front.length;
-        written += format::HEADER + front.size;
+        written += format::HEADER_LENGTH + front.size;
     }
     Outcome {
         board: b,

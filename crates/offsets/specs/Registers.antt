@@ -1,16 +1,8 @@
 -- Document 01, 'Registers and latches': where the registers are, 'decoded from the offset by ranges, four bytes each,
--- most significant first', and the board's fields that they change. The offsets are those of `timing.rs`.
+-- most significant first'. The offsets are those of `timing.rs`.
 use Prim.Native.Nat.{ℕ, _+_, _-_, _*_, _/_, _%_, _^_}
 use mathlib.Core.Bool.{Bool, _&&_}
-use lib.ListN.{getD, set}
 use lib.Dec.{leb}
-use Rattle.channel.specs.declared.HardwareTimer.{HardwareTimer}
-use Rattle.channel.specs.Channel.{freshTimer}
-use Rattle.board.specs.declared.Latch.{Latch}
-use Rattle.board.specs.declared.Latch.the-variants.{Empty}
-use Rattle.board.specs.declared.Latches.{Latches}
-use Rattle.board.specs.declared.Board.{Board}
-use Rattle.board.specs.Board.{withTimers}
 
 -- 'Offset = address + 0x180'
 abbrev pub base : ℕ
@@ -114,50 +106,3 @@ placeOf offset = (offset - channelsAt) % channelStride
 -- byte i of a register's word
 abbrev pub byteOfWord : ℕ → ℕ → ℕ
 byteOfWord i word = word / 256 ^ (3 - i) % 256
-
--- ---- fields
-
-abbrev pub channelAt : ℕ → Board → HardwareTimer
-channelAt n b = getD (b .timers) n freshTimer
-
-abbrev pub withChannel : ℕ → HardwareTimer → Board → Board
-withChannel n h b = withTimers (set (b .timers) n h) b
-
-abbrev pub withTimerEnable : ℕ → Board → Board
-withTimerEnable n b =
-    record {
-      timers = b .timers;
-      «timer_enable» = n;
-      clock = b .clock;
-      latches = b .latches;
-      controller = b .controller;
-    }
-
-abbrev pub withLatches : Latches → Board → Board
-withLatches ls b =
-    record {
-      timers = b .timers;
-      «timer_enable» = b .«timer_enable»;
-      clock = b .clock;
-      latches = ls;
-      controller = b .controller;
-    }
-
--- the latch of channel n's count
-abbrev pub countLatch : ℕ → Board → Latch
-countLatch n b = getD (b .latches .counts) n (record { high = Empty }) .high
-
-abbrev pub withCountLatch : ℕ → Latch → Board → Board
-withCountLatch n l b =
-    withLatches
-    (record {
-      counts = set (b .latches .counts) n (record { high = l });
-      low = b .latches .low;
-      high = b .latches .high;
-    })
-    b
-
--- the clock's latches
-abbrev pub withClockLatches : Latch → Latch → Board → Board
-withClockLatches low high b =
-    withLatches (record { counts = b .latches .counts; low = low; high = high }) b

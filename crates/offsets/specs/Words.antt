@@ -13,6 +13,7 @@ use Rattle.clock.specs.Clock.{rateOf, timeSeconds}
 use Rattle.clock.specs.Registers.{statusWord, timeNanoseconds}
 use Rattle.board.specs.declared.Board.{Board}
 use Rattle.board.specs.Loops.{foldFrom}
+use Rattle.board.specs.Fields.{channelAt}
 use Rattle.offsets.specs.Registers.{
   timerIdAt,
   timerEnableAt,
@@ -31,7 +32,6 @@ use Rattle.offsets.specs.Registers.{
   registerOf,
   channelOf,
   placeOf,
-  channelAt,
 }
 
 -- TIMER_ID

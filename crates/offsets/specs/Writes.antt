@@ -13,7 +13,7 @@ use Rattle.clock.specs.Clock.{rateOf}
 use Rattle.clock.specs.Registers.{mergeByte, writeControl, writeSeconds, writeAlarm, writeAlarmEnable, acknowledge}
 use Rattle.board.specs.declared.Board.{Board}
 use Rattle.board.specs.Loops.{mapFrom}
-use Rattle.board.specs.Board.{withTimers, withClock}
+use Rattle.board.specs.Fields.{withTimers, withTimerEnable, withClock, channelAt, withChannel}
 use Rattle.offsets.specs.Registers.{
   timerEnableAt,
   timerAckAt,
@@ -31,9 +31,6 @@ use Rattle.offsets.specs.Registers.{
   byteOf,
   channelOf,
   placeOf,
-  channelAt,
-  withChannel,
-  withTimerEnable,
 }
 
 -- a channel's pending is cleared where its bit is set

@@ -1,8 +1,8 @@
-// The parts of an offset, and the board's fields that registers read and change.
+// The parts of an offset, and the channel that one names.
 ghost use mathlib.Core.Path.{_≡_};
 ghost use Prim.Native.Nat.{_<_, _≤_};
-ghost use Rattle.offsets.specs.Registers.{byteOfWord, channelOf, placeOf, channelAt, withChannel};
-ghost use Rattle.offsets.specs.Registers.{withTimerEnable};
+ghost use Rattle.board.specs.Fields.{channelAt};
+ghost use Rattle.offsets.specs.Registers.{byteOfWord, channelOf, placeOf};
 use crate::Registers;
 use board::Board;
 use channel::ChannelNumber;
@@ -34,28 +34,11 @@ pub fn place_of(offset: u32) -> u32
     (offset - Registers::TIMER_CHANNEL_BASE) % Registers::TIMER_CHANNEL_STRIDE
 }
 
-// ---- one field of the board
-
+// A board's channel.
 pub fn channel_at(board: Board, number: ChannelNumber) -> HardwareTimer
     requires { ⌜ number .0 < 4 ⌝ }
     ensures { λ r. ⌜ r ≡ channelAt (number .0) board ⌝ }
 {
     let i = number.0 as usize;
     board.timers[i]
-}
-
-pub fn with_channel(mut board: Board, number: ChannelNumber, timer: HardwareTimer) -> Board
-    requires { ⌜ number .0 < 4 ⌝ }
-    ensures { λ r. ⌜ r ≡ withChannel (number .0) timer board ⌝ }
-{
-    let i = number.0 as usize;
-    board.timers[i] = timer;
-    board
-}
-
-pub fn with_timer_enable(mut board: Board, timer_enable: u8) -> Board
-    ensures { λ r. ⌜ r ≡ withTimerEnable «timer_enable» board ⌝ }
-{
-    board.timer_enable = timer_enable;
-    board
 }

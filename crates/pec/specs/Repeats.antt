@@ -2,9 +2,9 @@
 use Prim.Native.Nat.{ℕ, zero, suc}
 use mathlib.Core.List.{List}
 use lib.ListN.{length}
-use Rattle.board.specs.Board.{freshBoard}
+use Rattle.board.specs.Fields.{freshBoard}
 use Rattle.list.specs.declared.Outcome.{Outcome}
-use Rattle.list.specs.Run.{runOf, over, startOf}
+use Rattle.list.specs.Run.{runOf, over, nothingDone}
 
 -- what the last run gave, and what the buffer holds after it
 pub record Held : Type 0 where
@@ -13,7 +13,7 @@ pub record Held : Type 0 where
 
 -- a fresh board before any run, and the buffer as it is lent
 abbrev pub started : List ℕ → Held
-started buffer = record { outcome = startOf freshBoard 0; buffer = buffer }
+started buffer = record { outcome = nothingDone freshBoard 0; buffer = buffer }
 
 -- document 01's run of a list, over the board and into the buffer that are left
 unfoldable pub ran : List ℕ → Held → Held

@@ -2,7 +2,8 @@
 // enable from bit 16 on, levels from bit 0 on.
 ghost use mathlib.Core.Path.{_≡_};
 ghost use Rattle.controller.specs.Controller.{fresh, resetOf, pendingOf, enableMaskOf, enableMaskSet, sourceSet};
-ghost use Rattle.controller.specs.Controller.{sourceLevelsSet, pendingCleared, outputOf, byteRead, byteWritten, sizeOf};
+ghost use Rattle.controller.specs.Controller.{sourceLevelsSet, pendingCleared, outputOf, byteRead, byteWritten};
+ghost use Rattle.controller.specs.Controller.{mmioSize};
 ghost use Rattle.pec.specs.Packed.{controllerOf, packed, packedOutput};
 use controller::IrqController;
 use controller::SourceNumber;
@@ -129,7 +130,7 @@ pub extern "C" fn pec_irqc_write(word: u64, address: u32, value: u8) -> u64
 // `size`
 #[no_mangle]
 pub extern "C" fn pec_irqc_size(word: u64) -> u32
-    ensures { λ r. ⌜ r ≡ sizeOf (controllerOf word) ⌝ }
+    ensures { λ r. ⌜ r ≡ mmioSize (controllerOf word) ⌝ }
 {
     controller::size_of(unpack(word))
 }

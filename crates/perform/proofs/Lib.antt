@@ -1,2 +1,2 @@
-pub mod Answers
-pub mod Told
+pub mod Kept
+pub mod Calls

@@ -1,19 +1,20 @@
-// One call of a list on a sound board, in parts: its own refusal and the size of its answer, which the bytes alone
-// say, and what it changes and answers. A run has the board, and changes it where it lies.
+// One call of a list on a sound board, in parts: its own refusal, and what it changes and answers. A run has the board,
+// and changes it where it lies.
 ghost use mathlib.Core.Path.{_≡_};
 ghost use mathlib.Core.Bool.{true};
 ghost use Prim.Native.Nat.{_+_, _≤_};
 ghost use lib.ListN.{length};
 ghost use Rattle.wide.specs.Bits.{flagOf};
 ghost use Rattle.wide.specs.Fields.{beAt};
-ghost use Rattle.wide.specs.Deadline.{numberOf};
 ghost use Rattle.board.specs.Board.{sound};
-ghost use Rattle.board.specs.Calls.{isPresent, orZero};
+ghost use Rattle.board.specs.Calls.{deadlineCall};
+ghost use Rattle.board.specs.CodeCalls.{passingOf};
 ghost use Rattle.offsets.specs.Registers.{base};
-ghost use Rattle.format.specs.Format.{widthOf, valueBytes};
-ghost use Rattle.perform.specs.Calls.{deadlineTold, hostAt};
-ghost use Rattle.perform.specs.Parts.{ownRefusal, sizeOf, cyclesAt, answeredValue, partsOf, partsAt};
+ghost use Rattle.format.specs.Format.{valueLength, argumentsOf, answerBytes, valueBytes};
+ghost use Rattle.perform.specs.Calls.{callOf};
+ghost use Rattle.perform.specs.CodeCalls.{cyclesAt, answeredBytes, Lesser, EffectIs};
 use board::Board;
+use board::calls::Passing;
 use board::calls::host_time_refusal;
 use board::calls::source_refusal;
 use channel::Cycles;
@@ -22,15 +23,7 @@ use controller::IrqController;
 use controller::SourceNumber;
 use format::Answer;
 use offsets::Registers;
-use wide::deadline::Deadline;
 use wide::fields;
-use wide::number::Wide;
-
-// Whether an advance is made, and its cycles.
-pub struct Passing {
-    pub made: bool,
-    pub cycles: Cycles,
-}
 
 // What a call changes that changes host time or the controller at most, and its answer.
 pub struct Effect {
@@ -80,7 +73,7 @@ fn controller_address_at(rest: &[u8]) -> u32
 
 fn host_at(rest: &[u8]) -> HostTime
     requires { ⌜ 15 ≤ length (now rest) ⌝ }
-    ensures { λ r. ⌜ r ≡ hostAt (now (rest .entry)) ⌝ }
+    ensures { λ r. ⌜ r ≡ record { seconds = beAt (now (rest .entry)) 3 8; nanoseconds = beAt (now (rest .entry)) 11 4 } ⌝ }
 {
     HostTime {
         seconds: fields::get(rest, 3, 8),
@@ -90,10 +83,10 @@ fn host_at(rest: &[u8]) -> HostTime
 
 // ---- ahead of the call
 
-// The call's own refusal, 0 for none.
-pub fn own_refusal(tag: u8, rest: &[u8]) -> u8
-    requires { ⌜ 3 + widthOf tag ≤ length (now rest) ⌝ }
-    ensures { λ r. ⌜ r ≡ ownRefusal tag (now (rest .entry)) ⌝ }
+// The call's own refusal on a board, 0 for none.
+pub fn own_refusal(board: Board, tag: u8, rest: &[u8]) -> u8
+    requires { ⌜ 3 + valueLength tag ≤ length (now rest) ⌝ }
+    ensures { λ r. ⌜ r ≡ callOf tag (argumentsOf tag (now (rest .entry))) board .refusal ⌝ }
 {
     match tag {
         1 => host_time_refusal(host_at(rest)),
@@ -104,28 +97,12 @@ pub fn own_refusal(tag: u8, rest: &[u8]) -> u8
     }
 }
 
-// The bytes of the answer's members.
-pub fn answer_size(tag: u8) -> usize
-    ensures { λ r. ⌜ r ≡ sizeOf tag ⌝ }
-{
-    match tag {
-        2 => 1,
-        4 => 1,
-        5 => 25,
-        6 => 9,
-        8 => 1,
-        10 => 2,
-        _ => 0,
-    }
-}
-
 // ---- the call
 
-// The advance that advance or skip makes, by the line and the deadline of the board. Advance asks for neither.
-pub fn passing_of(tag: u8, rest: &[u8], line: bool, soonest: Deadline) -> Passing
-    requires { ⌜ 3 + widthOf tag ≤ length (now rest) ⌝ }
-    ensures { λ r. ⌜ (r .made ≡ isPresent (cyclesAt tag (now (rest .entry)) line (numberOf soonest)))
-        × (r .cycles .0 ≡ orZero (cyclesAt tag (now (rest .entry)) line (numberOf soonest))) ⌝ }
+// The advance that advance or skip makes.
+pub fn passing(board: Board, tag: u8, rest: &[u8]) -> Passing
+    requires { ⌜ (3 + valueLength tag ≤ length (now rest)) × (sound board ≡ true) ⌝ }
+    ensures { λ r. ⌜ r ≡ passingOf (cyclesAt tag (argumentsOf tag (now (rest .entry))) board) ⌝ }
 {
     if tag == 4 {
         return Passing {
@@ -133,28 +110,13 @@ pub fn passing_of(tag: u8, rest: &[u8], line: bool, soonest: Deadline) -> Passin
             cycles: Cycles(fields::get(rest, 3, 8)),
         };
     }
-    if line {
-        return Passing {
-            made: false,
-            cycles: Cycles(0),
-        };
-    }
-    let Deadline::At(exact) = soonest else {
-        return Passing {
-            made: false,
-            cycles: Cycles(0),
-        };
-    };
-    Passing {
-        made: true,
-        cycles: Cycles(exact.capped()),
-    }
+    board.skip_length()
 }
 
 // The answer of a call after which the line is as given. Advance and skip answer it, skip with the cycles too; another
 // call has its answer.
 pub fn answered(tag: u8, cycles: Cycles, line: bool, answer: Answer) -> Answer
-    ensures { λ r. ⌜ valueBytes r ≡ answeredValue tag (cycles .0) line (valueBytes answer) ⌝ }
+    ensures { λ r. ⌜ valueBytes r ≡ answeredBytes tag (cycles .0) line (valueBytes answer) ⌝ }
 {
     match tag {
         4 => Answer::Byte(flag(line)),
@@ -165,19 +127,22 @@ pub fn answered(tag: u8, cycles: Cycles, line: bool, answer: Answer) -> Answer
 
 pub fn deadline(board: Board) -> Answer
     requires { ⌜ sound board ≡ true ⌝ }
-    ensures { λ r. ⌜ valueBytes r ≡ deadlineTold board .value ⌝ }
+    ensures { λ r. ⌜ valueBytes r ≡ answerBytes 5 (deadlineCall board .members) ⌝ }
 {
-    let Deadline::At(exact) = board.exact_deadline() else {
-        return Answer::Deadline(0, Wide::from_word(0), 0);
-    };
-    Answer::Deadline(1, exact, exact.capped())
+    let members = board.deadline_members();
+    let exact = members.exact;
+    let word = members.word;
+    Answer::Deadline(flag(members.present), exact, word.0)
 }
 
 // The calls that change host time or the controller at most: host time, source, and those of the controller.
-pub fn effect_of(host: HostTime, controller: IrqController, tag: u8, rest: &[u8]) -> Effect
-    requires { ⌜ 3 + widthOf tag ≤ length (now rest) ⌝ }
-    ensures { λ r. ⌜ partsOf r ≡ partsAt tag (now (rest .entry)) host controller ⌝ }
+pub fn effect(board: Board, tag: u8, rest: &[u8]) -> Effect
+    requires { ⌜ (3 + valueLength tag ≤ length (now rest)) × Lesser tag ⌝ }
+    ensures { λ r. ⌜ EffectIs tag (argumentsOf tag (now (rest .entry))) board r ⌝ }
 {
+    let clock = board.clock;
+    let host = clock.host;
+    let controller = board.controller;
     match tag {
         1 => Effect {
             host: host_at(rest),

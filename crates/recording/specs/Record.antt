@@ -7,7 +7,7 @@ use lib.ListN.{length, getD}
 use lib.Dec.{eqb}
 use Rattle.wide.specs.Fields.{beAt}
 use Rattle.board.specs.declared.Board.{Board}
-use Rattle.board.specs.Board.{freshBoard}
+use Rattle.board.specs.Fields.{freshBoard, withTimerEnable}
 use Rattle.list.specs.declared.Outcome.{Outcome}
 use Rattle.list.specs.Run.{runOf, over}
 use Rattle.recording.specs.declared.Results.{Results}
@@ -19,14 +19,7 @@ Decides b P = (b ≡ true → P) × (P → b ≡ true)
 
 -- the fresh board with a timer enable
 unfoldable pub startOf : ℕ → Board
-startOf n =
-    record {
-      timers = freshBoard .timers;
-      «timer_enable» = n;
-      clock = freshBoard .clock;
-      latches = freshBoard .latches;
-      controller = freshBoard .controller;
-    }
+startOf n = withTimerEnable n freshBoard
 
 -- a run's results but the board and the answers
 abbrev pub resultsOf : Outcome → Results

@@ -12,7 +12,7 @@ use wide::flags::both;
 pub mod tally;
 
 // Bytes of a record before its list.
-pub const HEADER: usize = 12;
+pub const RECORD_HEADER_LENGTH: usize = 12;
 
 // The longest answer buffer.
 pub const BUFFER_LIMIT: usize = 32768;
@@ -58,7 +58,7 @@ pub fn fits(h: Header, room: usize) -> bool
     requires { ⌜ 12 ≤ room ⌝ }
     ensures { λ r. ⌜ Decides r (Fits h room) ⌝ }
 {
-    let rest = room - HEADER;
+    let rest = room - RECORD_HEADER_LENGTH;
     if rest < h.list {
         return false;
     }
@@ -149,12 +149,12 @@ fn same_part(a: &[u8], b: &[u8], from: usize, to: usize) -> bool
 pub fn leading(answers: &[u8], buffer: &[u8]) -> usize {
     let mut n = 0;
     let mut at = 0;
-    while format::HEADER <= answers.len() - at {
+    while format::HEADER_LENGTH <= answers.len() - at {
         let size = get(answers, at + 1, 2) as usize;
-        if answers.len() - at - format::HEADER < size {
+        if answers.len() - at - format::HEADER_LENGTH < size {
             return n;
         }
-        let to = at + format::HEADER + size;
+        let to = at + format::HEADER_LENGTH + size;
         if !same_part(answers, buffer, at, to) {
             return n;
         }

@@ -9,8 +9,8 @@ ghost use mathlib.Core.Path.{_≡_};
 ghost use lib.ListN.{length};
 ghost use Rattle.recording.specs.Record.{Fits};
 use crate::BUFFER_LIMIT;
-use crate::HEADER;
 use crate::Header;
+use crate::RECORD_HEADER_LENGTH;
 use crate::agrees;
 use crate::leading;
 use std::num::wrapping_add_usize;
@@ -102,7 +102,7 @@ fn replayed(h: Header, list: &[u8], answers: &[u8]) -> Tally
 pub fn replay_record(s: &[u8], at: usize, h: Header) -> Tally
     requires { ⌜ Fits h (length (now s) - at) × (at ≤ length (now s)) ⌝ }
 {
-    let list = at + HEADER;
+    let list = at + RECORD_HEADER_LENGTH;
     let answers = list + h.list;
     let end = answers + h.written;
     replayed(h, &s[list..answers], &s[answers..end])

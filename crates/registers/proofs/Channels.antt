@@ -1,5 +1,5 @@
--- A property of every channel is kept where each is changed by its number, and where one is changed, and so is what the
--- channels give together; and a byte written to a channel keeps its words words. Assumes nothing.
+-- A property of every channel is kept where each is changed by its number, and where one is changed, and so is what
+-- the channels give together; and a byte written to a channel keeps its words words. Assumes nothing.
 use Prim.Native.Nat.{ℕ, zero, suc, _-_, _^_, _<_}
 use native.Mathlib.Omega.{arith}
 use mathlib.Core.Path.{_≡_, refl}

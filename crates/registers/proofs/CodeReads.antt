@@ -3,6 +3,7 @@ use Prim.Native.Nat.{ℕ, _+_, _*_, _/_, _≤_}
 use native.Mathlib.Omega.{arith}
 use mathlib.Core.Path.{_≡_, refl, sym, ap, _∙_}
 use mathlib.Core.Bool.{Bool, true, false, cond, false≢true}
+use mathlib.Core.List.{[], _∷_}
 use lib.Dec.{eqb}
 use lib.ListN.{getD, set}
 use lib.Seq.{set-getD}
@@ -18,8 +19,8 @@ use Rattle.board.specs.declared.Latch.{Latch}
 use Rattle.board.specs.declared.Latch.the-variants.{Empty}
 use Rattle.board.specs.declared.Latches.{Latches}
 use Rattle.board.specs.declared.Board.{Board}
-use Rattle.board.specs.declared.calls.ByteAnswer.{ByteAnswer}
-use Rattle.board.specs.Board.{withClock, heldOf, heldValue, wired}
+use Rattle.board.specs.Fields.{withClock, withLatches, countLatch}
+use Rattle.board.specs.Board.{heldOf, heldValue}
 use Rattle.offsets.specs.Registers.{
   base,
   secondsLowAt,
@@ -29,14 +30,13 @@ use Rattle.offsets.specs.Registers.{
   byteOf,
   channelOf,
   placeOf,
-  countLatch,
-  withLatches,
 }
 use Rattle.offsets.specs.Words.{timerWord, liveWord}
 use Rattle.offsets.proofs.Ranges.{inside, below, bounds}
 use Rattle.registers.specs.declared.reads.Reading.{Reading}
 use Rattle.registers.specs.Reads.{
-  answered,
+  Read,
+  readByte,
   checked,
   readLive,
   freed,
@@ -48,7 +48,7 @@ use Rattle.registers.specs.Reads.{
   readHigh,
   readAt,
 }
-use Rattle.registers.specs.Calls.{readAccepted}
+use Rattle.registers.specs.Calls.{readCall}
 use Rattle.registers.specs.CodeReads.{
   channelIndex,
   atCountLow,
@@ -109,14 +109,14 @@ check-flags k =
 
 -- ---- a read at an offset
 
--- what a read answers, by its reading
-abbrev answer : Board → Reading → ByteAnswer
-answer b r = record { board = wired (afterReading r b); refusal = 0; byte = r .byte }
+-- what a read gives, by its reading
+abbrev given : Board → Reading → Read
+given b r = record { board = afterReading r b; byte = r .byte }
 
-cond-answer : (b : Board) (v : Bool) (x y : Reading) {p q : ByteAnswer} → p ≡ answer b x → q ≡ answer b y →
-    cond v p q ≡ answer b (cond v x y)
-cond-answer b true x y e f = e
-cond-answer b false x y e f = f
+cond-given : (b : Board) (v : Bool) (x y : Reading) {p q : Read} → p ≡ given b x → q ≡ given b y →
+    cond v p q ≡ given b (cond v x y)
+cond-given b true x y e f = e
+cond-given b false x y e f = f
 
 module _ (o : ℕ) (b : Board) where
   abbrev timer : HardwareTimer
@@ -140,27 +140,27 @@ module _ (o : ℕ) (b : Board) where
   word-parts k ls = either (inChannels o) (λ e. rw e) (λ e. rw e)
 
   live-parts : (ls : Latches) →
-      readLive o (withLatches ls b) ≡ answer b (live ls)
+      readLive o (withLatches ls b) ≡ given b (live ls)
   unfolding readLive
   live-parts ls =
       let k = checkAlarm (rateOf (b .clock)) (b .clock) in
-      ap (λ (w : ℕ). answered o w (checked (withLatches ls b))) (word-parts k ls)
-      ∙ ap (λ (h : Clock). answered o (wordAt timer k shared o) (withClock h (withLatches ls b)))
+      ap (λ (w : ℕ). readByte o w (checked (withLatches ls b))) (word-parts k ls)
+      ∙ ap (λ (h : Clock). readByte o (wordAt timer k shared o) (withClock h (withLatches ls b)))
       (sym (check-flags (b .clock)))
 
   -- no latch serves
-  read-none : (ls : Latches) → serving o ls ≡ Empty → readLive o (withLatches ls b) ≡ answer b (by ls)
+  read-none : (ls : Latches) → serving o ls ≡ Empty → readLive o (withLatches ls b) ≡ given b (by ls)
   unfolding readingBy
   read-none ls e = rw e (live-parts ls)
 
   -- the latch l serves; `after` are the latches after that
   read-by : (ls after : Latches) (l : Latch) → serving o ls ≡ l → after ≡ freedAt o ls →
-      cond (heldOf l) (answered o (heldValue l) (withLatches after b)) (readLive o (withLatches ls b))
-      ≡ answer b (by ls)
+      cond (heldOf l) (readByte o (heldValue l) (withLatches after b)) (readLive o (withLatches ls b))
+      ≡ given b (by ls)
   unfolding readingBy
   read-by ls after l e f =
       rw (e, f)
-      (cond-answer b (heldOf l) (latchReading (heldValue l) (b .clock) ls o) (live ls) refl (live-parts ls))
+      (cond-given b (heldOf l) (latchReading (heldValue l) (b .clock) ls o) (live ls) refl (live-parts ls))
 
   -- ---- the clock's seconds
 
@@ -169,7 +169,7 @@ module _ (o : ℕ) (b : Board) where
   unfolding freedAt latchFreed
   low-freed ls e = either (eqb (byteOf o) 3) (λ t. rw (t, e)) (λ t. rw t)
 
-  low-parts : (ls : Latches) → within 0x208 0x20B o ≡ true → readLow o (withLatches ls b) ≡ answer b (by ls)
+  low-parts : (ls : Latches) → within 0x208 0x20B o ≡ true → readLow o (withLatches ls b) ≡ given b (by ls)
   unfolding readLow serving
   low-parts ls e =
       read-by ls (withSeconds (freed o (ls .low)) (ls .high) ls) (ls .low) (rw e) (low-freed ls e)
@@ -185,7 +185,7 @@ module _ (o : ℕ) (b : Board) where
   high-freed ls d e = either (eqb (byteOf o) 3) (λ t. rw (t, d, e)) (λ t. rw t)
 
   high-parts : within 0x208 0x20B o ≡ false → within 0x20C 0x20F o ≡ true →
-      readHigh o b ≡ answer b (by (b .latches))
+      readHigh o b ≡ given b (by (b .latches))
   unfolding readHigh serving
   high-parts d e =
       let ls = b .latches in
@@ -232,7 +232,7 @@ module _ (o : ℕ) (b : Board) where
             (ap (λ (counts : _). record { counts = counts; low = b .latches .low; high = b .latches .high })
             (set-getD (b .latches .counts) (channelOf o) (record { high = Empty }))))
 
-        count-parts : within 0x0C 0x0F (placeOf o) ≡ true → readCountHigh o b ≡ answer b (by (b .latches))
+        count-parts : within 0x0C 0x0F (placeOf o) ≡ true → readCountHigh o b ≡ given b (by (b .latches))
         unfolding readCountHigh serving countServing
         count-parts q =
             read-by (b .latches) (withCount (channelOf o) (freed o (countLatch (channelOf o) b)) (b .latches))
@@ -242,15 +242,15 @@ module _ (o : ℕ) (b : Board) where
         unfolding atCountLow
         not-count p = rw (c, p)
 
-        channel-parts : readChannel o b ≡ answer b (by full)
+        channel-parts : readChannel o b ≡ given b (by full)
         unfolding readChannel
         channel-parts =
-            choose (λ (r : ByteAnswer). r ≡ answer b (by full)) (eqb (placeOf o) countLowAt)
+            choose (λ (r : Read). r ≡ given b (by full)) (eqb (placeOf o) countLowAt)
             (λ p. let l = eqb-true (placeOf o) countLowAt p in
             ap (readLive o) (sym (count-filled p))
             ∙ read-none full (none-serves full (high-at ∙ below 0x0C 0x0F (placeOf o) (omega (arith, l)))))
             (λ p. rw (none-filled (not-count p))
-            (choose (λ (r : ByteAnswer). r ≡ answer b (by (b .latches))) (within 0x0C 0x0F (placeOf o)) count-parts
+            (choose (λ (r : Read). r ≡ given b (by (b .latches))) (within 0x0C 0x0F (placeOf o)) count-parts
             (λ q. read-none (b .latches) (none-serves (b .latches) (high-at ∙ q)))))
 
   -- ---- every offset
@@ -266,7 +266,7 @@ module _ (o : ℕ) (b : Board) where
   before-channels : (last : ℕ) → o ≤ last → last ≤ 0x3FF → inChannels o ≡ false
   before-channels last p q = below 0x400 0x4FF o (omega (arith, p, q))
 
-  read-at-parts : readAt o b ≡ answer b (offsetReading o b)
+  read-at-parts : readAt o b ≡ given b (offsetReading o b)
   unfolding readAt readingOf
   read-at-parts =
       choose P (within 0x208 0x20B o)
@@ -278,19 +278,16 @@ module _ (o : ℕ) (b : Board) where
       (λ e. choose P (inChannels o) (λ c. channel-parts d e c)
       (λ n. read-none (b .latches) (none-serves d e (b .latches) (outside-high n)) ∙ sym (kept d (outside-low n)))))
     where
-      P : ByteAnswer → Type 0
-      P r = r ≡ answer b (by full)
+      P : Read → Type 0
+      P r = r ≡ given b (by full)
 
-      kept : within 0x208 0x20B o ≡ false → atCountLow o ≡ false → answer b (by full) ≡ answer b (by (b .latches))
-      kept d n = ap (λ (ls : Latches). answer b (by ls)) (none-filled d n)
+      kept : within 0x208 0x20B o ≡ false → atCountLow o ≡ false → given b (by full) ≡ given b (by (b .latches))
+      kept d n = ap (λ (ls : Latches). given b (by ls)) (none-filled d n)
 
--- an accepted read
+-- the call
 pub read-parts : (address : ℕ) (b : Board) →
-    readAccepted address b
-    ≡ record {
-      board = wired (afterReading (offsetReading (address + base) b) b);
-      refusal = 0;
-      byte = offsetReading (address + base) b .byte;
-    }
-unfolding readAccepted
-read-parts address b = read-at-parts (address + base) b
+    (readCall address b .board ≡ afterReading (offsetReading (address + base) b) b)
+    × (readCall address b .members ≡ offsetReading (address + base) b .byte ∷ [])
+read-parts address b =
+    let e = read-at-parts (address + base) b in
+    (ap (λ (r : Read). r .board) e, ap (λ (r : Read). r .byte ∷ []) e)

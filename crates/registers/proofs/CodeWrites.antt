@@ -10,7 +10,7 @@ use Rattle.wide.proofs.Choices.{choose, either}
 use Rattle.board.specs.declared.Board.{Board}
 use Rattle.offsets.specs.Registers.{within, inTimers, inClock, inChannels, registerOf, channelOf}
 use Rattle.offsets.specs.Writes.{timerWritten, writtenAt}
-use Rattle.offsets.proofs.Ranges.{inside, below, above, bounds}
+use Rattle.offsets.proofs.Ranges.{inside, above, bounds}
 use Rattle.registers.specs.declared.writes.WritePart.{WritePart}
 use Rattle.registers.specs.declared.writes.WritePart.the-variants.{Nothing, Enable, Acknowledge, Clock, Channel}
 use Rattle.registers.specs.CodeReads.{channelIndex}

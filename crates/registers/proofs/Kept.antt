@@ -2,34 +2,48 @@
 use Prim.Native.Nat.{ℕ, _+_, _<_}
 use native.Mathlib.Nat.{mod-lt}
 use native.Mathlib.Omega.{arith}
-use mathlib.Core.Path.{_≡_}
-use mathlib.Core.Bool.{Bool, true, cond, _&&_}
+use mathlib.Core.Path.{refl}
+use mathlib.Core.Bool.{Bool, cond, _&&_}
 use lib.Dec.{eqb}
 use Rattle.wide.specs.Bits.{bit}
 use Rattle.wide.proofs.Choices.{choose}
 use Rattle.channel.specs.Channel.{freshTimer}
 use Rattle.channel.specs.Registers.{countLowAt, byteWritten}
 use Rattle.clock.specs.declared.Clock.{Clock}
-use Rattle.clock.specs.Clock.{rateOf}
+use Rattle.clock.specs.Clock.{rateOf, checkAlarm}
 use Rattle.clock.specs.Registers.{mergeByte}
-use Rattle.clock.proofs.Soundness.{OwnSound, facts-sound as clock-sound, sound-fits}
-use Rattle.clock.proofs.Kept.{
-  check-kept,
-  control-kept,
-  seconds-kept,
-  alarm-kept,
-  enable-kept,
-  acknowledge-kept,
+use Rattle.clock.proofs.Rate.{
+  rate-above,
+  clock-rate,
+  SameRate,
+  at-rate,
+  check-rate,
+  control-rate,
+  seconds-rate,
+  alarm-rate,
+  enable-rate,
+  acknowledge-rate,
+}
+use Rattle.clock.proofs.Soundness.{
+  Sound,
+  OwnSound,
+  facts-sound as clock-sound,
+  sound-fits,
+  check-sound,
+  control-sound,
+  seconds-sound,
+  alarm-bytes-sound,
+  enable-sound,
+  acknowledge-sound,
 }
 use Rattle.board.specs.declared.Latches.{Latches}
 use Rattle.board.specs.declared.Board.{Board}
-use Rattle.board.specs.declared.calls.EmptyAnswer.{EmptyAnswer}
-use Rattle.board.specs.declared.calls.ByteAnswer.{ByteAnswer}
 use Rattle.board.specs.Loops.{All}
-use Rattle.board.specs.Board.{BoardFits, heldOf, wired, sound}
-use Rattle.board.specs.Calls.{refusalOf}
+use Rattle.board.specs.Fields.{withLatches, countLatch}
+use Rattle.board.specs.Board.{heldOf, wired}
 use Rattle.board.proofs.Soundness.{facts-sound, clock-facts}
-use Rattle.board.proofs.Steps.{Good, good, wired-level}
+use Rattle.board.proofs.Steps.{Good, wired-level}
+use Rattle.board.proofs.Kept.{Keeps}
 use Rattle.offsets.specs.Registers.{
   base,
   timerEnableAt,
@@ -49,11 +63,9 @@ use Rattle.offsets.specs.Registers.{
   byteOf,
   channelOf,
   placeOf,
-  countLatch,
-  withLatches,
 }
 use Rattle.registers.specs.Reads.{
-  checked,
+  Read,
   readLive,
   countHeld,
   readCountHigh,
@@ -64,7 +76,7 @@ use Rattle.registers.specs.Reads.{
   readAt,
 }
 use Rattle.offsets.specs.Writes.{clearedBy, timerWritten, clockWritten, writtenAt}
-use Rattle.registers.specs.Calls.{addressRefusal, readAccepted, writtenBoard, readCall, writeCall}
+use Rattle.registers.specs.Calls.{readCall, writeCall}
 use Rattle.registers.proofs.Channels.{
   GoodTimer,
   map-all,
@@ -78,22 +90,22 @@ use Rattle.registers.proofs.Channels.{
 
 -- ---- all of soundness but the level of source 3, which the end of a call sets
 
-record Parts (b : Board) : Type 0 where
+record Unwired (b : Board) : Type 0 where
   timers : All GoodTimer (b .timers)
   enable : b .«timer_enable» < 16
   clock : OwnSound (b .clock)
 
-good-parts : (b : Board) → Good b → Parts b
-good-parts b g =
+good-unwired : (b : Board) → Good b → Unwired b
+good-unwired b g =
     record {
       timers = all-good 0 (b .timers) (g .facts .timers) (g .fits .timers);
       enable = g .facts .enable;
       clock = clock-facts b (g .fits .clock) (facts-sound b (g .facts));
     }
 
-wired-good : (b : Board) → Parts b → Good (wired b)
+unwired-good : (b : Board) → Unwired b → Good (wired b)
 unfolding wired
-wired-good b p =
+unwired-good b p =
     record {
       fits = record {
         timers = good-fits (b .timers) (p .timers);
@@ -108,84 +120,116 @@ wired-good b p =
     }
 
 -- the latches have no part in it
-latches-parts : (b : Board) (ls : Latches) → Parts b → Parts (withLatches ls b)
-latches-parts b ls p = record { timers = p .timers; enable = p .enable; clock = p .clock }
+latches-unwired : (b : Board) (ls : Latches) → Unwired b → Unwired (withLatches ls b)
+latches-unwired b ls p = record { timers = p .timers; enable = p .enable; clock = p .clock }
 
 -- ---- a read
 
-abbrev Kept : ByteAnswer → Type 0
-Kept r = Good (r .board)
+-- the alarm check
+check-kept : (k : Clock) → OwnSound k → OwnSound (checkAlarm (rateOf k) k)
+check-kept k s =
+    at-rate Sound k (checkAlarm (rateOf k) k) (check-rate (rateOf k) k) (check-sound (rateOf k) k (s .parts))
+
+abbrev Kept : Read → Type 0
+Kept r = Unwired (r .board)
 
 module _ (offset : ℕ) where
-  live-good : (b : Board) → Parts b → Kept (readLive offset b)
+  live-unwired : (b : Board) → Unwired b → Kept (readLive offset b)
   unfolding readLive
-  live-good b p =
-      wired-good (checked b)
-      (record { timers = p .timers; enable = p .enable; clock = check-kept (b .clock) (p .clock) })
+  live-unwired b p =
+      record { timers = p .timers; enable = p .enable; clock = check-kept (b .clock) (p .clock) }
 
   -- by a latch, whatever it holds after, or live
-  latch-good : (b : Board) (v : Bool) (ls : Latches) (byte : ℕ) → Parts b →
-      Kept (cond v (record { board = wired (withLatches ls b); refusal = 0; byte = byte }) (readLive offset b))
-  latch-good b v ls byte p =
-      choose Kept v (λ _. wired-good (withLatches ls b) (latches-parts b ls p)) (λ _. live-good b p)
+  latch-unwired : (b : Board) (v : Bool) (ls : Latches) (byte : ℕ) → Unwired b →
+      Kept (cond v (record { board = withLatches ls b; byte = byte }) (readLive offset b))
+  latch-unwired b v ls byte p =
+      choose Kept v (λ _. latches-unwired b ls p) (λ _. live-unwired b p)
 
-  count-high-good : (b : Board) → Parts b → Kept (readCountHigh offset b)
+  count-high-unwired : (b : Board) → Unwired b → Kept (readCountHigh offset b)
   unfolding readCountHigh
-  count-high-good b p = latch-good b (heldOf (countLatch (channelOf offset) b)) _ _ p
+  count-high-unwired b p = latch-unwired b (heldOf (countLatch (channelOf offset) b)) _ _ p
 
-  channel-good : (b : Board) → Parts b → Kept (readChannel offset b)
+  channel-unwired : (b : Board) → Unwired b → Kept (readChannel offset b)
   unfolding readChannel
-  channel-good b p =
+  channel-unwired b p =
       choose Kept (eqb (placeOf offset) countLowAt)
-      (λ _. live-good (countHeld (channelOf offset) b) (latches-parts b _ p))
-      (λ _. choose Kept (within 0x0C 0x0F (placeOf offset)) (λ _. count-high-good b p) (λ _. live-good b p))
+      (λ _. live-unwired (countHeld (channelOf offset) b) (latches-unwired b _ p))
+      (λ _. choose Kept (within 0x0C 0x0F (placeOf offset)) (λ _. count-high-unwired b p) (λ _. live-unwired b p))
 
-  latched-parts : (b : Board) → Parts b → Parts (secondsLatched offset b)
+  latched-unwired : (b : Board) → Unwired b → Unwired (secondsLatched offset b)
   unfolding secondsLatched
-  latched-parts b p = choose Parts (eqb offset secondsLowAt) (λ _. latches-parts b _ p) (λ _. p)
+  latched-unwired b p = choose Unwired (eqb offset secondsLowAt) (λ _. latches-unwired b _ p) (λ _. p)
 
-  low-good : (b : Board) → Parts b → Kept (readLow offset b)
+  low-unwired : (b : Board) → Unwired b → Kept (readLow offset b)
   unfolding readLow
-  low-good b p = latch-good b (heldOf (b .latches .low)) _ _ p
+  low-unwired b p = latch-unwired b (heldOf (b .latches .low)) _ _ p
 
-  high-good : (b : Board) → Parts b → Kept (readHigh offset b)
+  high-unwired : (b : Board) → Unwired b → Kept (readHigh offset b)
   unfolding readHigh
-  high-good b p = latch-good b (heldOf (b .latches .high)) _ _ p
+  high-unwired b p = latch-unwired b (heldOf (b .latches .high)) _ _ p
 
-  read-at-good : (b : Board) → Parts b → Kept (readAt offset b)
+  read-at-unwired : (b : Board) → Unwired b → Kept (readAt offset b)
   unfolding readAt
-  read-at-good b p =
-      choose Kept (within 0x208 0x20B offset) (λ _. low-good (secondsLatched offset b) (latched-parts b p))
-      (λ _. choose Kept (within 0x20C 0x20F offset) (λ _. high-good b p)
-      (λ _. choose Kept (inChannels offset) (λ _. channel-good b p)
-      (λ _. live-good b p)))
+  read-at-unwired b p =
+      choose Kept (within 0x208 0x20B offset) (λ _. low-unwired (secondsLatched offset b) (latched-unwired b p))
+      (λ _. choose Kept (within 0x20C 0x20F offset) (λ _. high-unwired b p)
+      (λ _. choose Kept (inChannels offset) (λ _. channel-unwired b p)
+      (λ _. live-unwired b p)))
 
 -- ---- a write
 
 module _ (i v : ℕ) (four : i < 4) (byte : v < 256) (k : Clock) (s : OwnSound k) where
-  clock-written-sound : (register : ℕ) → OwnSound (clockWritten register i v k)
+  -- at the rate before it
+  abbrev S : Clock → Type 0
+  S = Sound (rateOf k)
+
+  written-sound : (register : ℕ) → S (clockWritten register i v k)
   unfolding clockWritten
-  clock-written-sound register =
-      choose OwnSound (eqb register clockControlAt) (λ _. control-kept k s i v)
-      (λ _. choose OwnSound (eqb register secondsLowAt) (λ _. seconds-kept k s (i + 4) v (omega arith) byte)
-      (λ _. choose OwnSound (eqb register secondsHighAt) (λ _. seconds-kept k s i v (omega arith) byte)
-      (λ _. choose OwnSound (eqb register alarmLowAt) (λ _. alarm-kept k s (i + 4) v (omega arith) byte)
-      (λ _. choose OwnSound (eqb register alarmHighAt) (λ _. alarm-kept k s i v (omega arith) byte)
-      (λ _. choose OwnSound (eqb register alarmEnableAt) (λ _. enable-kept k s i v)
-      (λ _. choose OwnSound (eqb register clockAckAt) (λ _. acknowledge-kept k s i v)
+  written-sound register =
+      choose S (eqb register clockControlAt) (λ _. control-sound (rateOf k) (clock-rate k) i v k s)
+      (λ _. choose S (eqb register secondsLowAt)
+      (λ _. seconds-sound (rateOf k) (clock-rate k) (i + 4) v (omega arith) byte k s)
+      (λ _. choose S (eqb register secondsHighAt)
+      (λ _. seconds-sound (rateOf k) (clock-rate k) i v (omega arith) byte k s)
+      (λ _. choose S (eqb register alarmLowAt)
+      (λ _. alarm-bytes-sound (rateOf k) (clock-rate k) (i + 4) v (omega arith) byte k s)
+      (λ _. choose S (eqb register alarmHighAt)
+      (λ _. alarm-bytes-sound (rateOf k) (clock-rate k) i v (omega arith) byte k s)
+      (λ _. choose S (eqb register alarmEnableAt) (λ _. enable-sound (rateOf k) i v k s)
+      (λ _. choose S (eqb register clockAckAt) (λ _. acknowledge-sound (rateOf k) i v k s)
       (λ _. s)))))))
 
-module _ (v : ℕ) (byte : v < 256) (b : Board) (p : Parts b) where
-  timer-parts : (register i : ℕ) → Parts (timerWritten register i v b)
+  -- and a byte leaves the rate
+  abbrev Q : Clock → Type 0
+  Q = SameRate k
+
+  written-rate : (register : ℕ) → Q (clockWritten register i v k)
+  unfolding clockWritten
+  written-rate register =
+      choose Q (eqb register clockControlAt) (λ _. control-rate (rateOf k) k (rate-above k) i v)
+      (λ _. choose Q (eqb register secondsLowAt) (λ _. seconds-rate (rateOf k) k (i + 4) v)
+      (λ _. choose Q (eqb register secondsHighAt) (λ _. seconds-rate (rateOf k) k i v)
+      (λ _. choose Q (eqb register alarmLowAt) (λ _. alarm-rate (rateOf k) k (i + 4) v)
+      (λ _. choose Q (eqb register alarmHighAt) (λ _. alarm-rate (rateOf k) k i v)
+      (λ _. choose Q (eqb register alarmEnableAt) (λ _. enable-rate i v k)
+      (λ _. choose Q (eqb register clockAckAt) (λ _. acknowledge-rate i v k)
+      (λ _. record { same = refl })))))))
+
+  clock-written-sound : (register : ℕ) → OwnSound (clockWritten register i v k)
+  clock-written-sound register =
+      at-rate Sound k (clockWritten register i v k) (written-rate register) (written-sound register)
+
+module _ (v : ℕ) (byte : v < 256) (b : Board) (p : Unwired b) where
+  timer-unwired : (register i : ℕ) → Unwired (timerWritten register i v b)
   unfolding timerWritten
-  timer-parts register i =
-      choose Parts (eqb register timerEnableAt)
+  timer-unwired register i =
+      choose Unwired (eqb register timerEnableAt)
       (λ _. record {
         timers = p .timers;
         enable = mod-lt (mergeByte i v (b .«timer_enable»)) (omega arith);
         clock = p .clock;
       })
-      (λ _. choose Parts (eqb register timerAckAt && eqb i 3)
+      (λ _. choose Unwired (eqb register timerAckAt && eqb i 3)
       (λ _. record {
         timers =
             map-all GoodTimer (λ k h. clearedBy (bit k v) h) (λ k h. cleared-good (bit k v) h) 0 (b .timers)
@@ -195,17 +239,17 @@ module _ (v : ℕ) (byte : v < 256) (b : Board) (p : Parts b) where
       })
       (λ _. p))
 
-  written-parts : (offset : ℕ) → Parts (writtenAt offset v b)
+  written-unwired : (offset : ℕ) → Unwired (writtenAt offset v b)
   unfolding writtenAt
-  written-parts offset =
-      choose Parts (inTimers offset) (λ _. timer-parts (registerOf offset) (byteOf offset))
-      (λ _. choose Parts (inClock offset)
+  written-unwired offset =
+      choose Unwired (inTimers offset) (λ _. timer-unwired (registerOf offset) (byteOf offset))
+      (λ _. choose Unwired (inClock offset)
       (λ _. record {
         timers = p .timers;
         enable = p .enable;
         clock = clock-written-sound (byteOf offset) v four byte (b .clock) (p .clock) (registerOf offset);
       })
-      (λ _. choose Parts (inChannels offset)
+      (λ _. choose Unwired (inChannels offset)
       (λ _. record {
         timers =
             set-all GoodTimer (byteWritten (registerOf (placeOf offset)) (byteOf offset) v)
@@ -221,34 +265,10 @@ module _ (v : ℕ) (byte : v < 256) (b : Board) (p : Parts b) where
 
 -- ---- the calls
 
-module _ (b : Board) (g : Good b) where
-  -- accepted
-  pub read-accepted-good : (address : ℕ) → Good (readAccepted address b .board)
-  unfolding readAccepted
-  read-accepted-good address = read-at-good (address + base) b (good-parts b g)
+pub read-keeps : (address : ℕ) → Keeps (readCall address)
+read-keeps address b g z =
+    unwired-good (readAt (address + base) b .board) (read-at-unwired (address + base) b (good-unwired b g))
 
-  pub written-good : (address v : ℕ) → v < 256 → Good (writtenBoard address v b)
-  unfolding writtenBoard
-  written-good address v byte =
-      wired-good (writtenAt (address + base) v b) (written-parts v byte b (good-parts b g) (address + base))
-
-  -- refused or not
-  pub read-good : (address : ℕ) → Good (readCall address b .board)
-  unfolding readCall
-  read-good address =
-      choose (λ (r : ByteAnswer). Good (r .board)) (eqb (refusalOf b (addressRefusal address)) 0)
-      (λ _. read-accepted-good address) (λ _. g)
-
-  pub write-good : (address v : ℕ) → v < 256 → Good (writeCall address v b .board)
-  unfolding writeCall
-  write-good address v byte =
-      choose (λ (r : EmptyAnswer). Good (r .board)) (eqb (refusalOf b (addressRefusal address)) 0)
-      (λ _. written-good address v byte) (λ _. g)
-
-module _ (b : Board) (f : BoardFits b) (s : sound b ≡ true) where
-  pub read-kept : (address : ℕ) → sound (readCall address b .board) ≡ true
-  read-kept address = facts-sound (readCall address b .board) (read-good b (good b f s) address .facts)
-
-  pub write-kept : (address v : ℕ) → v < 256 → sound (writeCall address v b .board) ≡ true
-  write-kept address v byte =
-      facts-sound (writeCall address v b .board) (write-good b (good b f s) address v byte .facts)
+pub write-keeps : (address v : ℕ) → v < 256 → Keeps (writeCall address v)
+write-keeps address v byte b g z =
+    unwired-good (writtenAt (address + base) v b) (written-unwired v byte b (good-unwired b g) (address + base))

@@ -5,7 +5,7 @@
 use Prim.Native.Nat.{ℕ, _≤_}
 use native.Mathlib.Omega.{arith}
 use mathlib.Core.Path.{_≡_, refl, sym, ap, _∙_}
-use mathlib.Core.Bool.{true, false, not, _&&_, Bool·beq, false≢true}
+use mathlib.Core.Bool.{true, false, not, _&&_, false≢true, Bool·beq}
 use lib.Dec.{eqb}
 use borrow.Author.Tests.{eqb-true, eqb-false, ne-eqb, not-true}
 use Rattle.wide.specs.Words.{lowWord, highWord}
@@ -17,16 +17,9 @@ use Rattle.clock.specs.Clock.{rateOf, timeSeconds, checkAlarm}
 use Rattle.board.specs.declared.Latch.the-variants.{Empty, Held}
 use Rattle.board.specs.declared.Latches.{Latches}
 use Rattle.board.specs.declared.Board.{Board}
+use Rattle.board.specs.Fields.{channelAt}
 use Rattle.board.specs.Board.{heldOf}
-use Rattle.offsets.specs.Registers.{
-  secondsLowAt,
-  inChannels,
-  registerOf,
-  byteOf,
-  placeOf,
-  byteOfWord,
-  channelAt,
-}
+use Rattle.offsets.specs.Registers.{secondsLowAt, inChannels, registerOf, byteOf, placeOf, byteOfWord}
 use Rattle.offsets.specs.Words.{timerWord}
 use Rattle.offsets.proofs.Ranges.{above, bounds}
 use Rattle.registers.specs.declared.reads.Reading.{Reading}
@@ -46,10 +39,7 @@ use Rattle.registers.specs.CodeReads.{
   readingBy,
   readingOf,
   offsetReading,
-  afterReading,
   plainAt,
-  plainOf,
-  afterPlain,
 }
 
 -- ---- a count's low word and its high word are different places
@@ -173,7 +163,3 @@ module _ (o : ℕ) (p : plainAt o ≡ true) where
 
   pub plain-latches : (b : Board) → offsetReading o b .latches ≡ b .latches
   plain-latches b = ap (λ (r : Reading). r .latches) (plain-reading b)
-
-  -- what such a read stores is what the reading stores
-  pub plain-after : (b : Board) → afterPlain (plainOf (offsetReading o b)) b ≡ afterReading (offsetReading o b) b
-  plain-after b = rw (plain-latches b)

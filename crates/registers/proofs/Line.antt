@@ -1,9 +1,9 @@
--- Where a read and a write leave the line as it was, and that source 3 of the controller then needs no setting. Assumes
--- nothing.
+-- Where a read and a write leave the line as it was, and that source 3 of the controller then needs no setting.
+-- Assumes nothing.
 use Prim.Native.Nat.{ℕ}
 use native.Mathlib.Omega.{arith}
 use mathlib.Core.Path.{_≡_, refl, sym, ap, _∙_}
-use mathlib.Core.Bool.{Bool, true, false, not, _&&_, _||_, Bool·beq, false≢true}
+use mathlib.Core.Bool.{Bool, true, false, not, _&&_, _||_, false≢true, Bool·beq}
 use borrow.Author.Tests.{ltb-false}
 use Rattle.wide.specs.Bits.{bit}
 use Rattle.wide.proofs.Choices.{choose}
@@ -12,15 +12,17 @@ use Rattle.channel.specs.Channel.{freshTimer, lineOf}
 use Rattle.channel.specs.Registers.{controlAt, byteWritten}
 use Rattle.channel.proofs.Law.{written-line}
 use Rattle.clock.specs.declared.Clock.{Clock}
+use Rattle.clock.specs.Clock.{rateOf, checkAlarm}
 use Rattle.clock.specs.Deadline.{clockLine}
 use Rattle.controller.specs.declared.IrqController.{IrqController}
 use Rattle.controller.proofs.Laws.{steady}
 use Rattle.board.specs.declared.Latches.{Latches}
 use Rattle.board.specs.declared.Board.{Board}
 use Rattle.board.specs.Channels.{anyLine}
+use Rattle.board.specs.Fields.{channelAt}
 use Rattle.board.specs.Board.{heldOf, line, wired, sound}
 use Rattle.board.proofs.Soundness.{sound-facts}
-use Rattle.offsets.specs.Registers.{registerOf, byteOf, placeOf, channelAt}
+use Rattle.offsets.specs.Registers.{registerOf, byteOf, placeOf}
 use Rattle.offsets.specs.Words.{timerWord}
 use Rattle.registers.specs.declared.reads.Reading.{Reading}
 use Rattle.registers.specs.declared.writes.WritePart.{WritePart}
@@ -28,8 +30,8 @@ use Rattle.registers.specs.declared.writes.WritePart.the-variants.{
   Nothing,
   Enable,
   Acknowledge,
-  Clock as ofClock,
   Channel,
+  Clock as ofClock,
 }
 use Rattle.registers.specs.CodeReads.{
   channelIndex,
@@ -63,19 +65,20 @@ write-still Channel o v b n =
 
 -- ---- a read
 
-same-flag : (v w : Bool) → not (Bool·beq v w) ≡ false → v ≡ w
-same-flag true true e = refl
-same-flag true false e = e
-same-flag false true e = sym e
-same-flag false false e = refl
+-- flags that do not differ are the same
+not-differ : (v w : Bool) → not (Bool·beq v w) ≡ false → v ≡ w
+not-differ true true e = refl
+not-differ true false e = absurd (false≢true (sym e))
+not-differ false true e = absurd (false≢true (sym e))
+not-differ false false e = refl
 
--- where the alarm's pending did not rise it is as it was
 reading-still : (h : HardwareTimer) (shared : ℕ) (k : Clock) (ls : Latches) (o : ℕ) →
     readingOf h shared k ls o .rose ≡ false → readingOf h shared k ls o .pending ≡ k .alarm .pending
 unfolding readingOf readingBy
 reading-still h shared k ls o =
     choose (λ (r : Reading). r .rose ≡ false → r .pending ≡ k .alarm .pending)
-    (heldOf (serving o (filled o (h .counter) k ls))) (λ _ _. refl) (λ _. same-flag _ (k .alarm .pending))
+    (heldOf (serving o (filled o (h .counter) k ls))) (λ _ _. refl)
+    (λ _. not-differ (checkAlarm (rateOf k) k .alarm .pending) (k .alarm .pending))
 
 pub read-still : (o : ℕ) (b : Board) → offsetReading o b .rose ≡ false →
     line (afterReading (offsetReading o b) b) ≡ line b

@@ -3,7 +3,7 @@
 use Prim.Native.Nat.{ℕ, _+_}
 use mathlib.Core.Path.{_≡_, refl}
 use mathlib.Core.Bool.{Bool, true, false, cond, not, _&&_}
-use mathlib.Core.List.{List, [], _∷_}
+use mathlib.Core.List.{List, [], _∷_, _++_}
 use lib.Dec.{eqb, leb}
 use Rattle.wide.specs.Fields.{withByte}
 use Rattle.channel.specs.Channel.{freshTimer, enabledOf, withCounter, withFlags}
@@ -26,9 +26,10 @@ use Rattle.clock.specs.Registers.{
 }
 use Rattle.board.specs.declared.Board.{Board}
 use Rattle.board.specs.Loops.{mapFrom, foldFrom}
-use Rattle.board.specs.Board.{freshBoard, withTimers, withClock, wired}
+use Rattle.board.specs.Fields.{freshBoard, withTimers, withClock, withChannel}
+use Rattle.board.specs.Board.{wired}
+use Rattle.board.specs.Calls.{boardAfter, answerOf}
 use Rattle.board.proofs.Kept.{fresh-sound}
-use Rattle.offsets.specs.Registers.{withChannel}
 use Rattle.offsets.specs.Words.{timerWord, clockWord, liveWord}
 use Rattle.registers.specs.Reads.{
   readLive,
@@ -40,18 +41,22 @@ use Rattle.registers.specs.Reads.{
   readAt,
 }
 use Rattle.offsets.specs.Writes.{timerWritten, clockWritten, writtenAt}
-use Rattle.registers.specs.Calls.{addressRefusal, readAccepted, writtenBoard, readCall}
+use Rattle.registers.specs.Calls.{addressRefusal, readCall, writeCall}
 
 -- ---- lists of accepted reads
 
 -- the bytes that reads at some addresses answer, one after another
 bytes : List ℕ → Board → List ℕ
 bytes [] b = []
-bytes (address ∷ more) b = readAccepted address b .byte ∷ bytes more (readAccepted address b .board)
+bytes (address ∷ more) b = readCall address b .members ++ bytes more (boardAfter (readCall address b))
 
 -- the board after a read
 after : ℕ → Board → Board
-after address b = readAccepted address b .board
+after address b = boardAfter (readCall address b)
+
+-- and after a write
+written : ℕ → ℕ → Board → Board
+written address v b = boardAfter (writeCall address v b)
 
 same : List ℕ → List ℕ → Bool
 same [] [] = true
@@ -67,7 +72,7 @@ counted = withChannel 0 (withCounter 0x0102_0304_0506_0708 freshTimer) freshBoar
 
 -- its low word's byte 0 is read, then a byte of each word is written: the last of the low, the first of the high
 moved : Board
-moved = writtenBoard 0x28C 0xEE (writtenBoard 0x28B 0xFF (after 0x288 counted))
+moved = written 0x28C 0xEE (written 0x28B 0xFF (after 0x288 counted))
 
 clocked : Clock → Board
 clocked k = withClock k freshBoard
@@ -86,7 +91,7 @@ reached =
 -- 'I set enable on, seven distinct seconds bytes': byte i of the eight is i + 1
 seconds : List ℕ → Board → Board
 seconds [] b = b
-seconds (i ∷ more) b = seconds more (writtenBoard (cond (leb i 3) (0x08C + i) (0x084 + i)) (i + 1) b)
+seconds (i ∷ more) b = seconds more (written (cond (leb i 3) (0x08C + i) (0x084 + i)) (i + 1) b)
 
 seven : Board
 seven = seconds (7 ∷ 6 ∷ 5 ∷ 4 ∷ 3 ∷ 2 ∷ 1 ∷ []) (clocked (withControl 3 freshClock))
@@ -108,7 +113,7 @@ rows =
     -- the high count is, until byte 3 is read
     && same (bytes (0x28C ∷ 0x28D ∷ 0x28E ∷ 0x28C ∷ 0x28F ∷ 0x28C ∷ []) moved) (1 ∷ 2 ∷ 3 ∷ 1 ∷ 4 ∷ 0xEE ∷ [])
     -- without byte 0 of the low word it is not
-    && same (bytes (0x289 ∷ 0x28C ∷ []) (writtenBoard 0x28C 0xEE counted)) (6 ∷ 0xEE ∷ [])
+    && same (bytes (0x289 ∷ 0x28C ∷ []) (written 0x28C 0xEE counted)) (6 ∷ 0xEE ∷ [])
     -- both words of the clock's seconds are, each until its own byte 3
     && same (bytes (0x089 ∷ 0x08B ∷ 0x089 ∷ 0x08C ∷ 0x08F ∷ 0x08C ∷ []) dated) (6 ∷ 8 ∷ 0 ∷ 1 ∷ 4 ∷ 0 ∷ [])
     -- a read by a latch makes no alarm check, a live one does
@@ -116,31 +121,31 @@ rows =
     && after 0x089 reached .clock .alarm .pending
     && same (bytes (0x087 ∷ []) reached) (1 ∷ [])
     -- so does a byte of the clock's control that changes nothing
-    && writtenBoard 0x080 0xFF reached .clock .alarm .pending
+    && written 0x080 0xFF reached .clock .alarm .pending
     -- seven bytes of the seconds do not commit, the eighth does
     && eqb (seven .clock .seconds) 0
     && eqb (seven .clock .shadow .mask) 254
     && eqb (seconds (0 ∷ []) seven .clock .seconds) 0x0102_0304_0506_0708
     -- byte 3 has the channels' bits
-    && eqb (writtenBoard 0x007 0xFF freshBoard .«timer_enable») 15
-    && eqb (writtenBoard 0x004 0xFF freshBoard .«timer_enable») 0
-    && same (bytes (0x00B ∷ []) (writtenBoard 0x00F 5 pendings)) (10 ∷ [])
-    && same (bytes (0x00B ∷ []) (writtenBoard 0x00E 5 pendings)) (15 ∷ [])
+    && eqb (written 0x007 0xFF freshBoard .«timer_enable») 15
+    && eqb (written 0x004 0xFF freshBoard .«timer_enable») 0
+    && same (bytes (0x00B ∷ []) (written 0x00F 5 pendings)) (10 ∷ [])
+    && same (bytes (0x00B ∷ []) (written 0x00E 5 pendings)) (15 ∷ [])
 
 rows-hold : rows ≡ true
-unfolding bytes after same counted moved clocked dated reached seconds seven pendings rows withByte enabledOf wordOf
-    controlWritten byteWritten shifted ownNanoseconds timeOf timeSeconds alarmReached checkAlarm signedDifference
-    setTime timeKept changeControl writeControl marked shadowByte offsetFor commitSeconds writeSeconds
-    timeNanoseconds mapFrom foldFrom wired timerWord clockWord liveWord readLive readCountHigh readChannel
-    secondsLatched readLow readHigh readAt timerWritten clockWritten writtenAt readAccepted writtenBoard
+unfolding bytes after written same counted moved clocked dated reached seconds seven pendings rows withByte enabledOf
+    wordOf controlWritten byteWritten shifted ownNanoseconds timeOf timeSeconds alarmReached checkAlarm
+    signedDifference setTime timeKept changeControl writeControl marked shadowByte offsetFor commitSeconds
+    writeSeconds timeNanoseconds mapFrom foldFrom wired timerWord clockWord liveWord readLive readCountHigh
+    readChannel secondsLatched readLow readHigh readAt timerWritten clockWritten writtenAt
 rows-hold = refl
 
 -- document 01's worked run: the fresh board's clock control is 1
-pub first-read : readCall 0x083 freshBoard .byte ≡ 1
-unfolding readCall addressRefusal readAccepted readAt readLive liveWord clockWord alarmReached checkAlarm
+pub first-read : answerOf (readCall 0x083) freshBoard .members ≡ 1 ∷ []
+unfolding answerOf addressRefusal readAt readLive liveWord clockWord alarmReached checkAlarm
 first-read = rw fresh-sound
 
 -- 'Read, write: 1; 6 address ≥ 0x380.'
-pub first-refused : readCall 0x380 freshBoard ≡ record { board = freshBoard; refusal = 6; byte = 0 }
-unfolding readCall addressRefusal
+pub first-refused : answerOf (readCall 0x380) freshBoard ≡ record { board = freshBoard; refusal = 6; members = [] }
+unfolding answerOf addressRefusal
 first-refused = rw fresh-sound

@@ -1,17 +1,14 @@
 -- What a sound board's registers ask of it: its clock's time can be read. Assumes nothing.
-use Prim.Native.Nat.{ℕ}
-use mathlib.Core.Path.{_≡_, refl}
-use mathlib.Core.Bool.{Bool, true, false, cond}
-use native.Mathlib.Omega.{arith}
+use mathlib.Core.Path.{_≡_}
+use mathlib.Core.Bool.{true}
 use Rattle.clock.specs.Clock.{rateOf, checkAlarm, alarmReached}
 use Rattle.clock.specs.declared.Clock.{Clock}
 use Rattle.clock.specs.Sound.{ClockFits, Timed}
-use Rattle.clock.proofs.Rate.{check-rate, at-rate}
+use Rattle.clock.proofs.Rate.{at-rate, check-rate}
 use Rattle.clock.proofs.Soundness.{sound-timed}
 use Rattle.wide.proofs.Choices.{choose}
 use Rattle.board.specs.declared.Board.{Board}
 use Rattle.board.specs.Board.{sound}
-use Rattle.board.specs.Calls.{refusalOf}
 use Rattle.board.proofs.Soundness.{clock-facts}
 
 pub sound-times : (b : Board) → ClockFits (b .clock) → sound b ≡ true → Timed (rateOf (b .clock)) (b .clock)
@@ -21,15 +18,7 @@ sound-times b f s = sound-timed (rateOf (b .clock)) (b .clock) (clock-facts b f 
 pub check-timed : (k : Clock) → Timed (rateOf k) k → Timed (rateOf (checkAlarm (rateOf k) k)) (checkAlarm (rateOf k) k)
 unfolding checkAlarm
 check-timed k t =
-    at-rate Timed (checkAlarm (rateOf k) k) k (check-rate (rateOf k) k)
+    at-rate Timed k (checkAlarm (rateOf k) k) (check-rate (rateOf k) k)
     (choose (Timed (rateOf k)) (alarmReached (rateOf k) k)
     (λ _. record { subsecond = t .subsecond; offset = t .offset; host = t .host })
     (λ _. t))
-
--- no refusal: the board is sound
-pub accepted-sound : (b : Board) (own : ℕ) → refusalOf b own ≡ 0 → sound b ≡ true
-accepted-sound b own = accepted (sound b)
-  where
-    accepted : (v : Bool) → cond v own 1 ≡ 0 → v ≡ true
-    accepted true e = refl
-    accepted false e = absurd (omega arith)

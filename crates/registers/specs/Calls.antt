@@ -1,15 +1,13 @@
--- The direct calls read and write: what each answers of a board, refusals in document 01's order.
+-- The calls read and write, in the shape of the board's other calls.
 use Prim.Native.Nat.{ℕ, _+_}
 use mathlib.Core.Bool.{cond}
-use lib.Dec.{leb, eqb}
+use mathlib.Core.List.{[], _∷_}
+use lib.Dec.{leb}
 use Rattle.board.specs.declared.Board.{Board}
-use Rattle.board.specs.declared.calls.EmptyAnswer.{EmptyAnswer}
-use Rattle.board.specs.declared.calls.ByteAnswer.{ByteAnswer}
-use Rattle.board.specs.Board.{wired}
-use Rattle.board.specs.Calls.{refusalOf, emptyAnswer}
+use Rattle.board.specs.Calls.{Call}
 use Rattle.offsets.specs.Registers.{base}
-use Rattle.registers.specs.Reads.{readAt}
 use Rattle.offsets.specs.Writes.{writtenAt}
+use Rattle.registers.specs.Reads.{readAt}
 
 abbrev pub addressTooLarge : ℕ
 addressTooLarge = 6
@@ -18,22 +16,18 @@ addressTooLarge = 6
 unfoldable pub addressRefusal : ℕ → ℕ
 addressRefusal address = cond (leb 0x380 address) addressTooLarge 0
 
--- an accepted read: the board after it, and the byte
-unfoldable pub readAccepted : ℕ → Board → ByteAnswer
-readAccepted address b = readAt (address + base) b
+-- ---- 02 read
 
--- the board after an accepted write
-unfoldable pub writtenBoard : ℕ → ℕ → Board → Board
-writtenBoard address v b = wired (writtenAt (address + base) v b)
+abbrev pub readCall : ℕ → Board → Call
+readCall address b =
+    record {
+      refusal = addressRefusal address;
+      board = readAt (address + base) b .board;
+      members = readAt (address + base) b .byte ∷ [];
+    }
 
--- 'Direct calls refuse alike and return the board given, every answer member 0.'
-abbrev pub byteAnswer : Board → ℕ → ByteAnswer → ByteAnswer
-byteAnswer b refusal after = cond (eqb refusal 0) after (record { board = b; refusal = refusal; byte = 0 })
+-- ---- 03 write
 
--- 02 read
-unfoldable pub readCall : ℕ → Board → ByteAnswer
-readCall address b = byteAnswer b (refusalOf b (addressRefusal address)) (readAccepted address b)
-
--- 03 write
-unfoldable pub writeCall : ℕ → ℕ → Board → EmptyAnswer
-writeCall address v b = emptyAnswer b (refusalOf b (addressRefusal address)) (writtenBoard address v b)
+abbrev pub writeCall : ℕ → ℕ → Board → Call
+writeCall address v b =
+    record { refusal = addressRefusal address; board = writtenAt (address + base) v b; members = [] }

@@ -1,6 +1,6 @@
 -- Not document 01's sentences: what the code computes of a read, from one channel, the clock, the latches and the word
--- that all channels share. The rule is `readAt` of Reads.antt, and `read-parts` of proofs/CodeReads.antt shows that the
--- read here is the rule's.
+-- that all channels share. The rule is `readAt` of Reads.antt, and `read-parts` of proofs/CodeReads.antt shows that
+-- the read here is the rule's.
 use Prim.Native.Nat.{ℕ}
 use mathlib.Core.Bool.{Bool, false, not, cond, _&&_, Bool·beq}
 use lib.ListN.{getD, set}
@@ -15,6 +15,7 @@ use Rattle.board.specs.declared.Latch.{Latch}
 use Rattle.board.specs.declared.Latch.the-variants.{Empty, Held}
 use Rattle.board.specs.declared.Latches.{Latches}
 use Rattle.board.specs.declared.Board.{Board}
+use Rattle.board.specs.Fields.{withClock, withLatches, channelAt}
 use Rattle.board.specs.Board.{heldOf, heldValue}
 use Rattle.offsets.specs.Registers.{
   secondsLowAt,
@@ -28,7 +29,6 @@ use Rattle.offsets.specs.Registers.{
   channelOf,
   placeOf,
   byteOfWord,
-  channelAt,
 }
 use Rattle.offsets.specs.Words.{timerWord, clockWord}
 use Rattle.registers.specs.declared.reads.Reading.{Reading}
@@ -150,21 +150,16 @@ offsetReading offset b =
 -- the board with a reading's latches and flags
 abbrev pub afterReading : Reading → Board → Board
 afterReading r b =
-    record {
-      timers = b .timers;
-      «timer_enable» = b .«timer_enable»;
-      clock =
-          withAlarm
-          (record {
-            enable = b .clock .alarm .enable;
-            seconds = b .clock .alarm .seconds;
-            pending = r .pending;
-            armed = r .armed;
-          })
-          (b .clock);
-      latches = r .latches;
-      controller = b .controller;
-    }
+    withClock
+    (withAlarm
+    (record {
+      enable = b .clock .alarm .enable;
+      seconds = b .clock .alarm .seconds;
+      pending = r .pending;
+      armed = r .armed;
+    })
+    (b .clock))
+    (withLatches (r .latches) b)
 
 -- ---- without the latches
 
@@ -177,9 +172,3 @@ plainAt offset =
 -- a reading but for the latches
 abbrev pub plainOf : Reading → PlainReading
 plainOf r = record { byte = r .byte; pending = r .pending; armed = r .armed; rose = r .rose }
-
--- the board with its flags
-abbrev pub afterPlain : PlainReading → Board → Board
-afterPlain r b =
-    afterReading
-    (record { byte = r .byte; latches = b .latches; pending = r .pending; armed = r .armed; rose = r .rose }) b

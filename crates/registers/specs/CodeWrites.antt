@@ -7,7 +7,7 @@ use lib.Dec.{ltb, eqb}
 use Rattle.channel.specs.Registers.{byteWritten}
 use Rattle.clock.specs.Registers.{mergeByte}
 use Rattle.board.specs.declared.Board.{Board}
-use Rattle.board.specs.Board.{withTimers, withClock}
+use Rattle.board.specs.Fields.{withTimers, withTimerEnable, withClock, channelAt, withChannel}
 use Rattle.offsets.specs.Registers.{
   timerEnableAt,
   timerAckAt,
@@ -17,17 +17,14 @@ use Rattle.offsets.specs.Registers.{
   registerOf,
   byteOf,
   placeOf,
-  channelAt,
-  withChannel,
-  withTimerEnable,
 }
 use Rattle.offsets.specs.Writes.{acknowledged, clockWritten}
 use Rattle.registers.specs.declared.writes.WritePart.{WritePart}
 use Rattle.registers.specs.declared.writes.WritePart.the-variants.{Nothing, Enable, Acknowledge, Clock, Channel}
 use Rattle.registers.specs.CodeReads.{channelIndex}
 
--- the part that a byte written at an offset changes: TIMER_ENABLE, the byte of TIMER_ACK that has the channels' bits, a
--- register of the clock, or a channel's
+-- the part that a byte written at an offset changes: TIMER_ENABLE, the byte of TIMER_ACK that has the channels' bits,
+-- a register of the clock, or a channel's
 unfoldable pub partOf : ℕ → WritePart
 partOf offset =
     cond (inRegister timerEnableAt offset) Enable

@@ -1,5 +1,4 @@
--- Document 01, 'Registers and latches': a read with the latches, as `PeCTimingDevice::read` makes it. A read answers a
--- byte and the board after it.
+-- Document 01, 'Registers and latches': a read with the latches, as `PeCTimingDevice::read` makes it.
 use Prim.Native.Nat.{ℕ}
 use mathlib.Core.Bool.{cond}
 use lib.Dec.{eqb}
@@ -9,8 +8,8 @@ use Rattle.clock.specs.Clock.{rateOf, timeSeconds, checkAlarm}
 use Rattle.board.specs.declared.Latch.{Latch}
 use Rattle.board.specs.declared.Latch.the-variants.{Empty, Held}
 use Rattle.board.specs.declared.Board.{Board}
-use Rattle.board.specs.declared.calls.ByteAnswer.{ByteAnswer}
-use Rattle.board.specs.Board.{withClock, heldOf, heldValue, wired}
+use Rattle.board.specs.Fields.{withClock, channelAt, countLatch, withCountLatch, withClockLatches}
+use Rattle.board.specs.Board.{heldOf, heldValue}
 use Rattle.offsets.specs.Registers.{
   secondsLowAt,
   secondsHighAt,
@@ -20,26 +19,27 @@ use Rattle.offsets.specs.Registers.{
   channelOf,
   placeOf,
   byteOfWord,
-  channelAt,
-  countLatch,
-  withCountLatch,
-  withClockLatches,
 }
 use Rattle.offsets.specs.Words.{liveWord}
 
 -- ---- one byte
 
--- the byte of a word that a read at an offset answers; b is the board after the read
-abbrev pub answered : ℕ → ℕ → Board → ByteAnswer
-answered offset word b = record { board = wired b; refusal = 0; byte = byteOfWord (byteOf offset) word }
+-- what a read gives: the board after it, before source 3 is set to the line, and the byte
+pub record Read : Type 0 where
+  pub board : Board
+  pub byte : ℕ
+
+-- the byte of a word at an offset; b is the board after the read
+abbrev pub readByte : ℕ → ℕ → Board → Read
+readByte offset word b = record { board = b; byte = byteOfWord (byteOf offset) word }
 
 -- the alarm check is made
 abbrev pub checked : Board → Board
 checked b = withClock (checkAlarm (rateOf (b .clock)) (b .clock)) b
 
 -- 'The alarm check precedes a read that no latch serves.'
-unfoldable pub readLive : ℕ → Board → ByteAnswer
-readLive offset b = answered offset (liveWord offset (checked b)) (checked b)
+unfoldable pub readLive : ℕ → Board → Read
+readLive offset b = readByte offset (liveWord offset (checked b)) (checked b)
 
 -- 'freed after byte 3'
 abbrev pub freed : ℕ → Latch → Latch
@@ -52,15 +52,15 @@ abbrev pub countHeld : ℕ → Board → Board
 countHeld n b = withCountLatch n (Held (highWord (channelAt n b .counter))) b
 
 -- 'freed after byte 3 of the high word. .. Where a latch is empty the live register is read instead.'
-unfoldable pub readCountHigh : ℕ → Board → ByteAnswer
+unfoldable pub readCountHigh : ℕ → Board → Read
 readCountHigh offset b =
     cond (heldOf (countLatch (channelOf offset) b))
-    (answered offset (heldValue (countLatch (channelOf offset) b))
+    (readByte offset (heldValue (countLatch (channelOf offset) b))
     (withCountLatch (channelOf offset) (freed offset (countLatch (channelOf offset) b)) b))
     (readLive offset b)
 
 -- 'Reading byte 0 of a count's low word latches only its high word'
-unfoldable pub readChannel : ℕ → Board → ByteAnswer
+unfoldable pub readChannel : ℕ → Board → Read
 readChannel offset b =
     cond (eqb (placeOf offset) countLowAt) (readLive offset (countHeld (channelOf offset) b))
     (cond (inRegister countHighAt (placeOf offset)) (readCountHigh offset b)
@@ -77,25 +77,25 @@ secondsLatched offset b =
     b
 
 -- 'each freed after its own byte 3'
-unfoldable pub readLow : ℕ → Board → ByteAnswer
+unfoldable pub readLow : ℕ → Board → Read
 readLow offset b =
     cond (heldOf (b .latches .low))
-    (answered offset (heldValue (b .latches .low))
+    (readByte offset (heldValue (b .latches .low))
     (withClockLatches (freed offset (b .latches .low)) (b .latches .high) b))
     (readLive offset b)
 
 -- the same of the high word
-unfoldable pub readHigh : ℕ → Board → ByteAnswer
+unfoldable pub readHigh : ℕ → Board → Read
 readHigh offset b =
     cond (heldOf (b .latches .high))
-    (answered offset (heldValue (b .latches .high))
+    (readByte offset (heldValue (b .latches .high))
     (withClockLatches (b .latches .low) (freed offset (b .latches .high)) b))
     (readLive offset b)
 
 -- ---- every offset
 
 -- the read at an offset
-unfoldable pub readAt : ℕ → Board → ByteAnswer
+unfoldable pub readAt : ℕ → Board → Read
 readAt offset b =
     cond (inRegister secondsLowAt offset) (readLow offset (secondsLatched offset b))
     (cond (inRegister secondsHighAt offset) (readHigh offset b)

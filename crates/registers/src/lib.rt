@@ -1,9 +1,10 @@
 // The board's registers, as functions on the board: the direct calls read and write. Each tests soundness first, and a
 // refused call returns the board given.
 ghost use mathlib.Core.Path.{_≡_};
-ghost use mathlib.Core.Bool.{true};
-ghost use Rattle.board.specs.Board.{sound};
-ghost use Rattle.registers.specs.Calls.{addressRefusal, readAccepted, writtenBoard, readCall, writeCall};
+ghost use Rattle.board.specs.Calls.{answerOf, emptyAnswer, byteAnswer};
+ghost use Rattle.registers.specs.Calls.{addressRefusal, readCall, writeCall};
+ghost use Rattle.registers.specs.CodeReads.{afterReading};
+use crate::reads::Reading;
 use crate::reads::channel_index;
 use crate::reads::reading_at;
 use crate::writes::written_at;
@@ -25,59 +26,52 @@ pub fn address_refusal(address: u16) -> u8
     0
 }
 
-// What an accepted read answers.
-fn read_accepted(board: Board, address: u16) -> ByteAnswer
-    requires { ⌜ sound board ≡ true ⌝ }
-    ensures { λ r. ⌜ r ≡ readAccepted address board ⌝ }
+// The board with a reading's latches and flags.
+fn after_reading(board: Board, reading: Reading) -> Board
+    ensures { λ r. ⌜ r ≡ afterReading reading board ⌝ }
 {
-    let offset = address as u32 + Registers::BASE;
-    let mut b = board;
-    let i = channel_index(offset);
-    let timer = b.timers[i];
-    let r = reading_at(b, timer, offset);
-    let after = r.latches;
-    b.latches = after;
-    b.clock.alarm.pending = r.pending;
-    b.clock.alarm.armed = r.armed;
-    let board = b.wired();
-    ByteAnswer {
-        board,
-        refusal: 0,
-        byte: r.byte,
-    }
-}
-
-// The board after an accepted write.
-fn written(board: Board, address: u16, value: u8) -> Board
-    requires { ⌜ sound board ≡ true ⌝ }
-    ensures { λ r. ⌜ r ≡ writtenBoard address value board ⌝ }
-{
-    written_at(board, address as u32 + Registers::BASE, value).wired()
+    let latches = reading.latches;
+    let mut after = board.with_latches(latches);
+    after.clock.alarm.pending = reading.pending;
+    after.clock.alarm.armed = reading.armed;
+    after
 }
 
 // The byte at an address.
 pub fn read(board: Board, address: u16) -> ByteAnswer
-    ensures { λ r. ⌜ r ≡ readCall address board ⌝ }
+    ensures { λ r. ⌜ r ≡ byteAnswer (answerOf (readCall address) board) ⌝ }
 {
-    let refusal = board.refused(address_refusal(address));
-    if refusal == 0 {
-        return read_accepted(board, address);
+    let refusal = board.refusal_of(address_refusal(address));
+    if refusal != 0 {
+        return ByteAnswer {
+            board,
+            refusal,
+            byte: 0,
+        };
     }
+    let offset = address as u32 + Registers::BASE;
+    let i = channel_index(offset);
+    let timer = board.timers[i];
+    let reading = reading_at(board, timer, offset);
+    let after = after_reading(board, reading).wired();
     ByteAnswer {
-        board,
-        refusal,
-        byte: 0,
+        board: after,
+        refusal: 0,
+        byte: reading.byte,
     }
 }
 
 // A byte written at an address.
 pub fn write(board: Board, address: u16, value: u8) -> EmptyAnswer
-    ensures { λ r. ⌜ r ≡ writeCall address value board ⌝ }
+    ensures { λ r. ⌜ r ≡ emptyAnswer (answerOf (writeCall address value) board) ⌝ }
 {
-    let refusal = board.refused(address_refusal(address));
-    if refusal == 0 {
-        let board = written(board, address, value);
-        return EmptyAnswer { board, refusal: 0 };
+    let refusal = board.refusal_of(address_refusal(address));
+    if refusal != 0 {
+        return EmptyAnswer { board, refusal };
     }
-    EmptyAnswer { board, refusal }
+    let after = written_at(board, address as u32 + Registers::BASE, value).wired();
+    EmptyAnswer {
+        board: after,
+        refusal: 0,
+    }
 }

@@ -15,8 +15,6 @@ use offsets::Registers;
 use offsets::fields::channel_at;
 use offsets::fields::channel_of;
 use offsets::fields::place_of;
-use offsets::fields::with_channel;
-use offsets::fields::with_timer_enable;
 use offsets::writes::acknowledged;
 use offsets::writes::clock_written;
 
@@ -89,14 +87,14 @@ pub(crate) fn written_at(board: Board, offset: u32, value: u8) -> Board
     match part {
         WritePart::Nothing => board,
         WritePart::Enable => {
-            with_timer_enable(board, enable_after(board.timer_enable, offset, value))
+            board.with_timer_enable(enable_after(board.timer_enable, offset, value))
         }
         WritePart::Acknowledge => board.with_timers(acknowledged(timers, value)),
         WritePart::Clock => board.with_clock(clock_after(clock, offset, value)),
         WritePart::Channel => {
             let number = channel_of(offset);
             let timer = channel_at(board, number);
-            with_channel(board, number, timer_after(timer, offset, value))
+            board.with_channel(number, timer_after(timer, offset, value))
         }
     }
 }

@@ -21,7 +21,7 @@ fn replay(s: &[u8]) -> Tally {
     let mut at = 0;
     while at < s.len() {
         let room = s.len() - at;
-        if room < recording::HEADER {
+        if room < recording::RECORD_HEADER_LENGTH {
             return joined(t, none(1));
         }
         let h = recording::header_at(s, at);
@@ -29,7 +29,7 @@ fn replay(s: &[u8]) -> Tally {
             return joined(t, none(1));
         }
         t = joined(t, replay_record(s, at, h));
-        at += recording::HEADER + (h.list + h.written);
+        at += recording::RECORD_HEADER_LENGTH + (h.list + h.written);
     }
     t
 }

@@ -4,4 +4,5 @@ pub mod BigEndian
 pub mod Bits
 pub mod Quotients
 pub mod TwoWords
+pub mod Forms
 mod Products

@@ -22,6 +22,7 @@ pub mod deadline;
 pub mod fields;
 pub mod generate;
 mod host_time;
+pub mod kinds;
 pub mod list;
 #[cfg(feature = "proved")]
 pub mod proved;

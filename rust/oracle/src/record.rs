@@ -4,7 +4,7 @@
 use std::collections::BTreeSet;
 
 use crate::board::Board;
-use crate::call::{answer_length, refusal, value_length, Call, HEADER};
+use crate::call::{answer_length, refusal, tags, value_length, Call, HEADER};
 use crate::fields::Fields;
 use crate::generate::{self, Random};
 use crate::list::{self, Outcome};
@@ -16,9 +16,6 @@ pub const BUFFER_LIMIT: usize = 32_768;
 
 /// The longest answer buffer of a mixed list; a list made to pass its buffer stays short by it.
 const MIXED_BUFFER: usize = 4_096;
-
-/// The tags, in order.
-const TAGS: [u8; 10] = [0x01, 0x02, 0x03, 0x04, 0x05, 0x06, 0x07, 0x08, 0x09, 0x0A];
 
 /// A list to run on the fresh board with a timer enable, and the length of the buffer for its answers.
 pub struct Start {
@@ -375,7 +372,7 @@ fn refused_ends(random: &mut Random) -> Vec<(Vec<u8>, bool)> {
         let length = random.pick(&[0, 2, 8, 0xFF]);
         ends.push((vec![tag, 0, length], true));
     }
-    for tag in TAGS {
+    for tag in tags() {
         let right = value_length(tag).expect("the tag is known") as u16;
         // 4: a length about the right one, its value there or not.
         for length in (0..=13)
@@ -435,7 +432,7 @@ fn short_buffers(random: &mut Random) -> Vec<Start> {
     let mut starts = Vec::new();
     for _ in 0..4 {
         let mut calls = Vec::new();
-        for tag in TAGS {
+        for tag in tags() {
             let call = loop {
                 let call = accepted(random);
                 if call.tag() == tag {

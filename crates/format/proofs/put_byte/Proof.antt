@@ -1,5 +1,6 @@
 -- `put_byte` meets its contract. Assumes nothing.
-use Rattle.format.specs.Format.{valueBytes}
+use mathlib.Core.List.{append-nil}
+use Rattle.format.specs.Format.{membersBytes, valueBytes}
 use borrow.Author.Needs.{needs}
 use Rattle.format.proofs.put_byte.Statement.{statement}
 use Rattle.format.proofs.put_byte.Tie as tie
@@ -11,8 +12,8 @@ same-length : tie.Need-same-length
 same-length c = search needs
 
 returns : tie.Need-returns
-unfolding valueBytes
-returns c = c .before .before .put .ensures
+unfolding membersBytes valueBytes
+returns c = rw append-nil (c .before .before .put .ensures)
 
 pub put-byte-spec : {M : Type 1} → statement M
 put-byte-spec = tie.close (tie.spec put-requires same-length returns)

@@ -1,10 +1,10 @@
 -- `put_deadline` meets its contract. Assumes nothing.
-use mathlib.Core.List.{_++_}
+use mathlib.Core.List.{_++_, append-assoc, append-nil}
 use lib.ListN.{length-append}
 use Rattle.wide.specs.Number.{valueOf}
 use Rattle.wide.specs.Fields.{be}
 use Rattle.wide.proofs.BigEndian.{length-be}
-use Rattle.format.specs.Format.{valueBytes}
+use Rattle.format.specs.Format.{membersBytes, valueBytes}
 use Rattle.format.proofs.Frames.{sets-then}
 use borrow.Author.Needs.{needs}
 use Rattle.format.proofs.put_deadline.Statement.{statement}
@@ -29,7 +29,7 @@ same-length : tie.Need-same-length
 same-length c = search needs
 
 returns : tie.Need-returns
-unfolding valueBytes
+unfolding membersBytes valueBytes
 returns c =
     let q = c .before .before .before .before .before .before in
     let p = q .before .before .before .before .before .before .before in
@@ -39,6 +39,8 @@ returns c =
       c .before .before .before .before .before .before .put-wide .ensures,
       c .before .before .before .before .before .before .before .before .before .before .put .ensures,
       sets-then (a .buf .now) (a .at) 1 (be 1 (a .present)) (be 16 (valueOf (a .exact))) (length-be 1 (a .present)),
+      append-nil,
+      ← append-assoc,
     )
     (sets-then (a .buf .now) (a .at) 17 (be 1 (a .present) ++ be 16 (valueOf (a .exact))) (be 8 (a .word))
     (simp (length-append, length-be)))

@@ -1,7 +1,8 @@
 -- `put_pair` meets its contract. Assumes nothing.
+use mathlib.Core.List.{append-nil}
 use Rattle.wide.specs.Fields.{be}
 use Rattle.wide.proofs.BigEndian.{length-be}
-use Rattle.format.specs.Format.{valueBytes}
+use Rattle.format.specs.Format.{membersBytes, valueBytes}
 use Rattle.format.proofs.Frames.{sets-then}
 use borrow.Author.Needs.{needs}
 use Rattle.format.proofs.put_pair.Statement.{statement}
@@ -20,10 +21,10 @@ same-length : tie.Need-same-length
 same-length c = search needs
 
 returns : tie.Need-returns
-unfolding valueBytes
+unfolding membersBytes valueBytes
 returns c =
     let a = c .before .before .before .before .before .before .before .before .before .args in
-    rw (c .before .before .put2 .ensures, c .before .before .before .before .before .before .put .ensures)
+    rw (c .before .before .put2 .ensures, c .before .before .before .before .before .before .put .ensures, append-nil)
     (sets-then (a .buf .now) (a .at) 1 (be 1 (a .a)) (be 1 (a .b)) (length-be 1 (a .a)))
 
 pub put-pair-spec : {M : Type 1} → statement M

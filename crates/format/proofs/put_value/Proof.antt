@@ -3,7 +3,7 @@ use Prim.Native.Nat.{_+_, _≤_}
 use native.Mathlib.Omega.{arith}
 use lib.ListN.{length}
 use Rattle.wide.specs.Fields.{be}
-use Rattle.format.specs.Format.{valueBytes}
+use Rattle.format.specs.Format.{membersBytes, valueBytes}
 use borrow.Author.Needs.{needs}
 use Rattle.format.proofs.put_value.Statement.{statement}
 use Rattle.format.proofs.put_value.Tie as tie
@@ -15,7 +15,7 @@ enum-known-answer : tie.Need-enum-known-answer
 enum-known-answer c = search needs
 
 put-byte-requires : tie.Need-put-byte-requires
-unfolding valueBytes be
+unfolding membersBytes valueBytes be
 put-byte-requires c κs =
     let room : c .before .before .before .before .before .args .at + 1 ≤ length
     (c .before .before .before .before .before .args .buf .now) =
@@ -26,7 +26,7 @@ enum-known-answer-2 : tie.Need-enum-known-answer-2
 enum-known-answer-2 c = search needs
 
 put-deadline-requires : tie.Need-put-deadline-requires
-unfolding valueBytes be
+unfolding membersBytes valueBytes be
 put-deadline-requires c κs =
     let room : c .before .before .before .before .before .args .at + 25 ≤ length
     (c .before .before .before .before .before .args .buf .now) =
@@ -37,7 +37,7 @@ enum-known-answer-3 : tie.Need-enum-known-answer-3
 enum-known-answer-3 c = search needs
 
 put-skip-requires : tie.Need-put-skip-requires
-unfolding valueBytes be
+unfolding membersBytes valueBytes be
 put-skip-requires c κs =
     let room : c .before .before .before .before .before .args .at + 9 ≤ length
     (c .before .before .before .before .before .args .buf .now) =
@@ -48,7 +48,7 @@ enum-known-answer-4 : tie.Need-enum-known-answer-4
 enum-known-answer-4 c = search needs
 
 put-pair-requires : tie.Need-put-pair-requires
-unfolding valueBytes be
+unfolding membersBytes valueBytes be
 put-pair-requires c κs =
     let room : c .before .before .before .before .before .args .at + 2 ≤ length
     (c .before .before .before .before .before .args .buf .now) =

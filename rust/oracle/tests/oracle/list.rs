@@ -1,7 +1,7 @@
 //! The call list: decoding, the order of the refusals, the answer buffer.
 
 use oracle::board::Board;
-use oracle::call::{answer_length, value_length, Call, HEADER};
+use oracle::call::{answer_length, tags, value_length, Answer, Call, HEADER};
 use oracle::fields::Fields;
 use oracle::list::{run, Outcome};
 
@@ -30,6 +30,7 @@ fn refusal(list: &[u8]) -> u8 {
 
 #[test]
 fn tags_and_lengths_are_document_01s() {
+    assert!(tags().eq(LENGTHS.map(|lengths| lengths.0)));
     for tag in 0..=255 {
         let known = LENGTHS.iter().find(|lengths| lengths.0 == tag);
         assert_eq!(value_length(tag), known.map(|lengths| lengths.1));
@@ -99,6 +100,45 @@ fn calls_are_decoded_big_endian() {
     for (call, bytes) in calls {
         assert_eq!(call.encode(), bytes);
         assert_eq!(Call::decode(bytes[0], &bytes[HEADER..]), call);
+    }
+}
+
+#[test]
+fn answers_are_encoded_big_endian() {
+    let record = |tag: u8, value: &[u8]| [&[tag, 0, value.len() as u8], value].concat();
+    let counted: Vec<u8> = (1..=25).collect();
+    let deadline = Answer::Deadline {
+        present: true,
+        exact: 0x0203_0405_0607_0809_0A0B_0C0D_0E0F_1011,
+        capped: 0x1213_1415_1617_1819,
+    };
+    let skip = Answer::Skip {
+        passed: 0x0203_0405_0607_0809,
+        line: true,
+    };
+    let output = Answer::Output { valid: true, number: 2 };
+    let answers = [
+        (Answer::Empty, record(0x01, &[])),
+        (Answer::Byte(2), record(0x02, &[2])),
+        (Answer::Empty, record(0x03, &[])),
+        (Answer::Line(true), record(0x04, &[1])),
+        (deadline, record(0x05, &counted)),
+        (skip, record(0x06, &[2, 3, 4, 5, 6, 7, 8, 9, 1])),
+        (Answer::Empty, record(0x07, &[])),
+        (Answer::Byte(2), record(0x08, &[2])),
+        (Answer::Empty, record(0x09, &[])),
+        (output, record(0x0A, &[1, 2])),
+    ];
+    for (call, (answer, bytes)) in CALLS.into_iter().zip(answers) {
+        let tag = bytes[0];
+        assert_eq!(call.tag(), tag);
+        let mut stored = vec![0xEE; bytes.len()];
+        answer.store(tag, &mut stored);
+        assert_eq!(stored, bytes);
+        // The zero answer has the same form.
+        let mut stored = vec![0xEE; bytes.len()];
+        call.zero_answer().store(tag, &mut stored);
+        assert_eq!(stored, record(tag, &vec![0; bytes.len() - HEADER]));
     }
 }
 

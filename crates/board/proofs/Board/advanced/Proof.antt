@@ -1,6 +1,6 @@
 -- `Board::advanced` meets its contract. Assumes nothing.
 use native.Mathlib.Omega.{arith}
-use Rattle.board.specs.Calls.{advancedBoard}
+use Rattle.board.specs.Calls.{movedBoard, advancedBoard}
 use Rattle.clock.specs.Clock.{rateOf}
 use Rattle.clock.proofs.Soundness.{sound-timed}
 use Rattle.board.proofs.Soundness.{sound-facts, clock-facts}
@@ -28,7 +28,7 @@ wired-requires : tie.Need-wired-requires
 wired-requires c κs = search needs
 
 returns : tie.Need-returns
-unfolding advancedBoard
+unfolding advancedBoard movedBoard
 returns c =
     rw (
       c .wired .ensures,

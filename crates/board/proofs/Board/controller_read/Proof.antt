@@ -1,27 +1,34 @@
 -- `Board::controller_read` meets its contract. Assumes nothing.
-use mathlib.Core.Path.{sym, _∙_}
-use Rattle.board.specs.Calls.{controllerReadCall}
+use mathlib.Core.Path.{sym, ap, _∙_}
+use borrow.Author.Tests.{ne-eqb}
+use Rattle.board.specs.Calls.{byteAnswer, controllerReadCall}
 use Rattle.board.proofs.Soundness.{wired-sound}
+use Rattle.board.proofs.Answers.{answer-refused, answer-accepted, accepted-sound}
 use borrow.Author.Needs.{needs}
 use Rattle.board.proofs.Board.controller_read.Statement.{statement}
 use Rattle.board.proofs.Board.controller_read.Tie as tie
 
-sound-requires : tie.Need-sound-requires
-sound-requires c κs = search needs
+refusal-of-requires : tie.Need-refusal-of-requires
+refusal-of-requires c κs = search needs
+
+returns : tie.Need-returns
+returns c = ap byteAnswer
+    (sym
+    (answer-refused (controllerReadCall (c .before .before .args .address)) (c .before .before .args .self) (c .before .refusal-of .result)
+    (c .before .refusal-of .ensures .0)
+    (ne-eqb _ _ (c .if1 .taken))))
 
 read-of-requires : tie.Need-read-of-requires
 read-of-requires c κs = search needs
 
-returns : tie.Need-returns
-unfolding controllerReadCall
-returns c =
-    let b = c .before .before .before .before .args .self in
-    let s = sym (c .before .before .sound .ensures .0) ∙ c .before .if1 .taken in
-    rw (s, wired-sound b s, c .read-of .ensures)
-
 returns-2 : tie.Need-returns-2
-unfolding controllerReadCall
-returns-2 c = rw (sym (c .before .sound .ensures .0) ∙ c .if1 .left)
+returns-2 c = let a = c .before .before .before .before .args in
+    let z = sym (c .before .before .before .refusal-of .ensures .0) ∙ c .before .before .if1 .left in
+    rw (
+      answer-accepted (controllerReadCall (a .address)) (a .self) z,
+      wired-sound (a .self) (accepted-sound (a .self) 0 z),
+      c .read-of .ensures,
+    )
 
 pub controller-read-spec : {M : Type 1} → statement M
-controller-read-spec = tie.close (tie.spec sound-requires read-of-requires returns returns-2)
+controller-read-spec = tie.close (tie.spec refusal-of-requires returns read-of-requires returns-2)

@@ -1,65 +1,40 @@
 -- `Board::deadline` meets its contract. Assumes nothing.
+use native.Mathlib.Omega.{arith}
 use mathlib.Core.Path.{sym, ap, _∙_}
-use Rattle.wide.specs.Deadline.{numberOf}
-use Rattle.board.proofs.Answers.{deadline-none, deadline-some, deadline-refused}
+use borrow.Author.Tests.{ne-eqb}
+use Rattle.board.specs.Calls.{deadlineAnswer, deadlineCall}
+use Rattle.board.proofs.Answers.{accepted-sound, deadline-refuses, deadline-answers, answer-promises}
+use Rattle.wide.proofs.Forms.{value-wide}
 use borrow.Author.Needs.{needs}
 use Rattle.board.proofs.Board.deadline.Statement.{statement}
 use Rattle.board.proofs.Board.deadline.Tie as tie
 
-sound-requires : tie.Need-sound-requires
-sound-requires c κs = search needs
-
-exact-deadline-requires : tie.Need-exact-deadline-requires
-exact-deadline-requires c κs = sym (c .before .sound .ensures .0) ∙ c .if1 .taken
-
-enum-known-exact : tie.Need-enum-known-exact
-enum-known-exact c = search needs
-
-enum-told : tie.Need-enum-told
-enum-told c = search needs
+refusal-of-requires : tie.Need-refusal-of-requires
+refusal-of-requires c κs = search needs
 
 from-word-requires : tie.Need-from-word-requires
 from-word-requires c κs = search needs
 
 returns : tie.Need-returns
-returns c =
-    let s = c .before .before .before .before .before in
-    deadline-none (s .before .args .self) (c .from-word .result) (s .sound .ensures .1)
-    (sym (s .sound .ensures .0) ∙ c .before .before .before .before .if1 .taken)
-    (sym (c .before .before .before .exact-deadline .ensures) ∙ ap numberOf (c .before .enum-told .given .1))
-    (c .from-word .ensures)
+returns c = let s = c .before .before .before in
+    let e =
+    deadline-refuses (s .args .self) (c .before .before .refusal-of .result) (c .from-word .result)
+    (c .before .before .refusal-of .ensures .0) (ne-eqb _ _ (c .before .if1 .taken))
+    (value-wide (c .from-word .result) 0 (omega (arith, c .from-word .ok)) (c .from-word .ensures)) in
+    (e, answer-promises (s .args .self) (c .before .before .refusal-of .ensures .1) _ e)
 
-capped-requires : tie.Need-capped-requires
-capped-requires c κs = search needs
+deadline-members-requires : tie.Need-deadline-members-requires
+deadline-members-requires c κs = accepted-sound (c .before .before .args .self) 0 (sym (c .before .refusal-of .ensures .0) ∙ c .if1 .left)
 
 returns-2 : tie.Need-returns-2
-returns-2 c =
-    let s = c .before .before .before .before .before .before in
-    deadline-some (s .before .args .self) (c .before .before .exact .given .0 .0) (s .sound .ensures .1)
-    (sym (s .sound .ensures .0) ∙ c .before .before .before .before .before .if1 .taken)
-    (sym (c .before .before .before .before .exact-deadline .ensures)
-    ∙ ap numberOf (c .before .before .exact .given .1))
-    (c .capped .result) (c .capped .ensures)
-
-from-word-requires-2 : tie.Need-from-word-requires-2
-from-word-requires-2 c κs = search needs
-
-returns-3 : tie.Need-returns-3
-returns-3 c =
-    deadline-refused (c .before .before .before .args .self) (c .from-word2 .result)
-    (sym (c .before .before .sound .ensures .0) ∙ c .before .if1 .left) (c .from-word2 .ensures)
+returns-2 c = let s = c .before .before .before .before .before in
+    let f = c .before .before .before .before .refusal-of in
+    let e =
+    deadline-answers (s .args .self) (sym (f .ensures .0) ∙ c .before .before .before .if1 .left)
+    (c .before .before .deadline-members .result) (c .before .before .deadline-members .ensures) in
+    (e, answer-promises (s .args .self) (f .ensures .1) _ e)
 
 pub deadline-spec : {M : Type 1} → statement M
 deadline-spec =
     tie.close
-    (tie.spec
-    sound-requires
-    exact-deadline-requires
-    enum-known-exact
-    enum-told
-    from-word-requires
-    returns
-    capped-requires
-    returns-2
-    from-word-requires-2
-    returns-3)
+    (tie.spec refusal-of-requires from-word-requires returns deadline-members-requires returns-2)

@@ -1,5 +1,8 @@
 -- `Board::source` meets its contract. Assumes nothing.
-use Rattle.board.specs.Calls.{sourceCall}
+use mathlib.Core.Path.{sym, ap, _∙_}
+use borrow.Author.Tests.{ne-eqb}
+use Rattle.board.specs.Calls.{refusalOf, emptyAnswer, sourceCall}
+use Rattle.board.proofs.Answers.{answer-refused, answer-accepted}
 use borrow.Author.Needs.{needs}
 use Rattle.board.proofs.Board.source.Statement.{statement}
 use Rattle.board.proofs.Board.source.Tie as tie
@@ -7,25 +10,45 @@ use Rattle.board.proofs.Board.source.Tie as tie
 source-refusal-requires : tie.Need-source-refusal-requires
 source-refusal-requires c κs = search needs
 
-refused-requires : tie.Need-refused-requires
-refused-requires c κs = search needs
-
-sourced-requires : tie.Need-sourced-requires
-sourced-requires c κs = search needs
-
-answered-requires : tie.Need-answered-requires
-answered-requires c κs = search needs
+refusal-of-requires : tie.Need-refusal-of-requires
+refusal-of-requires c κs = search needs
 
 returns : tie.Need-returns
-unfolding sourceCall
-returns c = rw (
-  c .answered .ensures,
-  c .before .sourced .ensures,
-  c .before .before .refused .ensures,
-  c .before .before .before .source-refusal .ensures,
-)
+returns c = ap emptyAnswer
+    (sym
+    (answer-refused (sourceCall (c .before .before .before .args .number .0) (c .before .before .before .args .level)) (c .before .before .before .args .self) (c .before .refusal-of .result)
+    (c .before .refusal-of .ensures .0 ∙ ap (refusalOf (c .before .before .before .args .self)) (c .before .before .source-refusal .ensures))
+    (ne-eqb _ _ (c .if1 .taken))))
+
+with-source-requires : tie.Need-with-source-requires
+with-source-requires c κs = search needs
+
+with-controller-requires : tie.Need-with-controller-requires
+with-controller-requires c κs = search needs
+
+wired-requires : tie.Need-wired-requires
+wired-requires c κs = search needs
+
+returns-2 : tie.Need-returns-2
+returns-2 c = let a = c .before .before .before .before .before .before .before .args in
+    let z = ap (refusalOf (a .self)) (sym (c .before .before .before .before .before .before .source-refusal .ensures))
+    ∙ sym (c .before .before .before .before .before .refusal-of .ensures .0)
+    ∙ c .before .before .before .before .if1 .left in
+    rw (
+      answer-accepted (sourceCall (a .number .0) (a .level)) (a .self) z,
+      c .wired .ensures,
+      c .before .with-controller .ensures,
+      c .before .before .with-source .ensures,
+    )
 
 pub source-spec : {M : Type 1} → statement M
 source-spec =
     tie.close
-    (tie.spec source-refusal-requires refused-requires sourced-requires answered-requires returns)
+    (tie.spec
+    source-refusal-requires
+    refusal-of-requires
+    returns
+    with-source-requires
+    with-controller-requires
+    wired-requires
+    returns-2)

@@ -19,7 +19,7 @@ end-advance-requires c κs =
     let n = a .cycles .0 in
     let k = a .self in
     timed-same (c .moved-time .ensures)
-    (at-rate Timed (movedTime (rateOf k) n k) k (moved-rate (rateOf k) k n)
+    (at-rate Timed k (movedTime (rateOf k) n k) (moved-rate (rateOf k) k n)
     (moved-timed (rateOf k) k (c .before .pre) n))
 
 rebuilt-requires : tie.Need-rebuilt-requires
@@ -32,7 +32,7 @@ returns c =
     let k = c .before .before .before .args .self in
     c .rebuilt .ensures ∙ c .before .end-advance .ensures
     ∙ ap (λ (j : Clock). endAdvance (rateOf j) n j) (c .before .before .moved-time .ensures)
-    ∙ ap (λ (rate : ℕ). endAdvance rate n (movedTime (rateOf k) n k)) (moved-rate (rateOf k) k n)
+    ∙ ap (λ (rate : ℕ). endAdvance rate n (movedTime (rateOf k) n k)) (moved-rate (rateOf k) k n .same)
 
 pub advance-spec : {M : Type 1} → statement M
 advance-spec =

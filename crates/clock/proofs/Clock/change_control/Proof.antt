@@ -3,7 +3,7 @@ use Prim.Native.Nat.{ℕ}
 use mathlib.Core.Path.{ap, _∙_}
 use Rattle.clock.specs.declared.Clock.{Clock}
 use Rattle.clock.proofs.Ranges.{timed-same, kept-timed, control-timed}
-use Rattle.clock.proofs.Rate.{kept-rate, at-rate}
+use Rattle.clock.proofs.Rate.{rate-above, at-rate, kept-rate}
 use Rattle.clock.specs.Clock.{rateOf, checkAlarm}
 use Rattle.clock.specs.Fields.{withControl}
 use Rattle.clock.specs.Registers.{timeKept, changeControl}
@@ -27,7 +27,9 @@ check-alarm-requires c κs =
     let t = kept-timed (rateOf k) k (c .before .before .pre) n in
     timed-same (c .with-control .ensures)
     (control-timed (rateOf (x .result)) (x .result)
-    (timed-same (x .ensures) (at-rate Timed (timeKept (rateOf k) n k) k (kept-rate (rateOf k) k n) t)) n)
+    (timed-same (x .ensures)
+    (at-rate Timed k (timeKept (rateOf k) n k) (kept-rate (rateOf k) k (rate-above k) n) t))
+    n)
 
 returns : tie.Need-returns
 unfolding changeControl
@@ -37,7 +39,8 @@ returns c =
     c .check-alarm .ensures
     ∙ ap (λ (j : Clock). checkAlarm (rateOf j) j) (c .before .with-control .ensures)
     ∙ ap (λ (j : Clock). checkAlarm (rateOf j) (withControl n j)) (c .before .before .time-kept .ensures)
-    ∙ ap (λ (rate : ℕ). checkAlarm rate (withControl n (timeKept (rateOf k) n k))) (kept-rate (rateOf k) k n)
+    ∙ ap (λ (rate : ℕ). checkAlarm rate (withControl n (timeKept (rateOf k) n k)))
+    (kept-rate (rateOf k) k (rate-above k) n .same)
 
 pub change-control-spec : {M : Type 1} → statement M
 change-control-spec =

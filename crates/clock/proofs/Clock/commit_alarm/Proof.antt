@@ -4,7 +4,7 @@ use Rattle.clock.specs.declared.Clock.{Clock}
 use Rattle.clock.proofs.Ranges.{timed-same, alarm-timed, alarm-shadow-timed}
 use Rattle.clock.specs.Fields.{withAlarmShadow}
 use Rattle.clock.specs.Clock.{rateOf, checkAlarm}
-use Rattle.clock.specs.Registers.{emptied, armedAt, commitAlarm}
+use Rattle.clock.specs.Registers.{unmarked, armedAt, commitAlarm}
 use borrow.Author.Needs.{needs}
 use Rattle.clock.proofs.Clock.commit_alarm.Statement.{statement}
 use Rattle.clock.proofs.Clock.commit_alarm.Tie as tie
@@ -23,7 +23,7 @@ check-alarm-requires c κs =
     (alarm-shadow-timed (rateOf (x .result)) (x .result)
     (timed-same (x .ensures)
     (alarm-timed (rateOf (a .self)) (a .self) (c .before .before .pre) (armedAt (a .shadow .value) (a .self .alarm))))
-    (emptied (a .shadow)))
+    (unmarked (a .shadow)))
 
 returns : tie.Need-returns
 unfolding commitAlarm
@@ -32,7 +32,7 @@ returns c =
     c .check-alarm .ensures
     ∙ ap (λ (k : Clock). checkAlarm (rateOf k) k)
     (c .before .with-alarm-shadow .ensures
-    ∙ ap (λ (k : Clock). withAlarmShadow (emptied (a .shadow)) k) (c .before .before .with-alarm .ensures))
+    ∙ ap (λ (k : Clock). withAlarmShadow (unmarked (a .shadow)) k) (c .before .before .with-alarm .ensures))
 
 pub commit-alarm-spec : {M : Type 1} → statement M
 commit-alarm-spec =

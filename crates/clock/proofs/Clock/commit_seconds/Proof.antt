@@ -3,10 +3,10 @@ use Prim.Native.Nat.{ℕ}
 use mathlib.Core.Path.{ap, _∙_}
 use Rattle.clock.specs.declared.Clock.{Clock}
 use Rattle.clock.proofs.Ranges.{timed-same, offset-for-timed, time-timed, shadow-timed}
-use Rattle.clock.proofs.Rate.{rate-above, offset-for-rate, at-rate}
+use Rattle.clock.proofs.Rate.{rate-above, at-rate, offset-for-rate}
 use Rattle.clock.specs.Fields.{withTime, withShadow}
 use Rattle.clock.specs.Clock.{rateOf, checkAlarm}
-use Rattle.clock.specs.Registers.{emptied, offsetFor, commitSeconds}
+use Rattle.clock.specs.Registers.{unmarked, offsetFor, commitSeconds}
 use Rattle.clock.specs.Sound.{Timed}
 use borrow.Author.Needs.{needs}
 use Rattle.clock.proofs.Clock.commit_seconds.Statement.{statement}
@@ -33,8 +33,9 @@ check-alarm-requires c κs =
     (shadow-timed (rateOf (y .result)) (y .result)
     (timed-same (y .ensures)
     (time-timed (rateOf (x .result)) (x .result)
-    (timed-same (x .ensures) (at-rate Timed (offsetFor s k) k (offset-for-rate k s) t)) s 0 (rate-above (x .result))))
-    (emptied (a .shadow)))
+    (timed-same (x .ensures) (at-rate Timed k (offsetFor s k) (offset-for-rate (rateOf k) k s) t)) s 0
+    (rate-above (x .result))))
+    (unmarked (a .shadow)))
 
 returns : tie.Need-returns
 unfolding commitSeconds
@@ -44,11 +45,11 @@ returns c =
     c .check-alarm .ensures
     ∙ ap (λ (k : Clock). checkAlarm (rateOf k) k)
     (c .before .with-shadow .ensures
-    ∙ ap (λ (k : Clock). withShadow (emptied (a .shadow)) k)
+    ∙ ap (λ (k : Clock). withShadow (unmarked (a .shadow)) k)
     (c .before .before .with-time .ensures
     ∙ ap (λ (k : Clock). withTime s 0 k) (c .before .before .before .offset-for .ensures)))
-    ∙ ap (λ (rate : ℕ). checkAlarm rate (withShadow (emptied (a .shadow)) (withTime s 0 (offsetFor s (a .self)))))
-    (offset-for-rate (a .self) s)
+    ∙ ap (λ (rate : ℕ). checkAlarm rate (withShadow (unmarked (a .shadow)) (withTime s 0 (offsetFor s (a .self)))))
+    (offset-for-rate (rateOf (a .self)) (a .self) s .same)
 
 pub commit-seconds-spec : {M : Type 1} → statement M
 commit-seconds-spec =

@@ -19,6 +19,12 @@ with-byte-requires c κs = search needs
 cast-a : tie.Need-cast-a
 cast-a c = search needs
 
+rem-a : tie.Need-rem-a
+rem-a c = search needs
+
+cast-a-2 : tie.Need-cast-a-2
+cast-a-2 c = search needs
+
 with-alarm-requires : tie.Need-with-alarm-requires
 with-alarm-requires c κs = search needs
 
@@ -32,4 +38,4 @@ returns c =
 pub write-alarm-enable-spec : {M : Type 1} → statement M
 write-alarm-enable-spec =
     tie.close
-    (tie.spec cast-with-byte sub-with-byte with-byte-requires cast-a with-alarm-requires returns)
+    (tie.spec cast-with-byte sub-with-byte with-byte-requires cast-a rem-a cast-a-2 with-alarm-requires returns)

@@ -19,6 +19,12 @@ with-byte-requires c κs = search needs
 cast-change-control : tie.Need-cast-change-control
 cast-change-control c = search needs
 
+rem-change-control : tie.Need-rem-change-control
+rem-change-control c = search needs
+
+cast-change-control-2 : tie.Need-cast-change-control-2
+cast-change-control-2 c = search needs
+
 change-control-requires : tie.Need-change-control-requires
 change-control-requires c κs = search needs
 
@@ -36,5 +42,7 @@ write-control-spec =
     sub-with-byte
     with-byte-requires
     cast-change-control
+    rem-change-control
+    cast-change-control-2
     change-control-requires
     returns)

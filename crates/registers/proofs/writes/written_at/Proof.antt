@@ -1,6 +1,5 @@
 -- `writes::written_at` meets its contract. Assumes nothing.
 use mathlib.Core.Path.{sym, _∙_}
-use Rattle.offsets.specs.Registers.{inChannels}
 use Rattle.offsets.proofs.Ranges.{inside}
 use Rattle.registers.proofs.CodeWrites.{channel-range, channel-index, written-is}
 use borrow.Author.Needs.{needs}

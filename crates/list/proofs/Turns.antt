@@ -1,0 +1,122 @@
+-- What becomes of the call at the front of a list: by its refusal, as the code computes it. Assumes nothing.
+use Prim.Native.Nat.{ℕ, _+_, _≤_, _<_}
+use native.Mathlib.Omega.{arith}
+use mathlib.Core.Path.{_≡_, refl, sym, ap, _∙_}
+use mathlib.Core.Bool.{false, false≢true}
+use mathlib.Core.List.{List, [], _∷_}
+use lib.ListN.{length, getD}
+use lib.Dec.{ltb, eqb}
+use borrow.Author.Tests.{ltb-false, lt-ltb, le-ltb, eqb-true, eq-eqb}
+use Rattle.wide.proofs.Choices.{choose, either}
+use Rattle.board.specs.declared.Board.{Board}
+use Rattle.board.specs.Calls.{boardAfter}
+use Rattle.board.proofs.Steps.{Good}
+use Rattle.format.specs.Format.{valueLength, answerLength, tagAt, argumentsOf, frameRefusal, answerBytes, recordOf}
+use Rattle.format.proofs.Frames.{framed, members-below, record-length, answer-length}
+use Rattle.perform.specs.Calls.{argument, callAt}
+use Rattle.perform.proofs.Kept.{call-keeps}
+use Rattle.list.specs.declared.Outcome.{Outcome}
+use Rattle.list.specs.Run.{Turn, done, refused, refusalAt, turnOf, stepped}
+
+module _ (b : Board) (l : List ℕ) (room : ℕ) where
+  -- ---- the refusal, by what the code computes of it
+
+  pub refused-frame : (n : ℕ) → n ≡ frameRefusal l → eqb n 0 ≡ false → n ≡ refusalAt b l room
+  unfolding refusalAt
+  refused-frame n p q = rw (← p, q)
+
+  pub refused-own : frameRefusal l ≡ 0 → (n : ℕ) → n ≡ callAt l b .refusal → eqb n 0 ≡ false → n ≡ refusalAt b l room
+  unfolding refusalAt
+  refused-own f n p q = rw (f, ← p, q)
+
+  module _ (f : frameRefusal l ≡ 0) (o : callAt l b .refusal ≡ 0) (size : ℕ) (e : size ≡ answerLength (tagAt l)) where
+    pub refused-room : room < 3 + size → 11 ≡ refusalAt b l room
+    unfolding refusalAt
+    refused-room h = rw (f, o, ← e, lt-ltb _ _ h)
+
+    pub unrefused : 3 + size ≤ room → 0 ≡ refusalAt b l room
+    unfolding refusalAt
+    unrefused h = rw (f, o, ← e, le-ltb _ _ h)
+
+  -- a refusal that is not 0 leaves nothing to say of a call that is not refused
+  pub refused-front : {n r : ℕ} {P : Type 0} → r ≡ n → n ≡ refusalAt b l room → eqb n 0 ≡ false →
+      (r ≡ refusalAt b l room) × (refusalAt b l room ≡ 0 → P)
+  refused-front e p q = (e ∙ p, λ z. absurd (false≢true (sym q ∙ eq-eqb _ 0 (p ∙ z))))
+
+  -- what it says of a call that it is not refused
+  pub record Clear : Type 0 where
+    pub frame : frameRefusal l ≡ 0
+    pub own : callAt l b .refusal ≡ 0
+    pub fits : 3 + answerLength (tagAt l) ≤ room
+
+  pub clear : refusalAt b l room ≡ 0 → Clear
+  unfolding refusalAt
+  clear z =
+      either (eqb (frameRefusal l) 0)
+      (λ f. either (eqb (callAt l b .refusal) 0)
+      (λ o. either (ltb room (3 + answerLength (tagAt l)))
+      (λ r. let e : _≡_ {A = ℕ} 11 0 = rw (f, o, r) at z in absurd (omega arith))
+      (λ r. record { frame = eqb-true _ 0 f; own = eqb-true _ 0 o; fits = ltb-false _ _ r }))
+      (λ o. let e : callAt l b .refusal ≡ 0 = rw (f, o) at z in absurd (false≢true (sym o ∙ eq-eqb _ 0 e))))
+      (λ f. let e : frameRefusal l ≡ 0 = rw f at z in absurd (false≢true (sym f ∙ eq-eqb _ 0 e)))
+
+  -- ---- what becomes of the call
+
+  pub turn-refused : (n : ℕ) → n ≡ refusalAt b l room → eqb n 0 ≡ false → turnOf b l room ≡ refused n
+  unfolding turnOf
+  turn-refused n p q = rw (← p, q)
+
+  pub turn-done : refusalAt b l room ≡ 0 →
+      turnOf b l room
+      ≡ done (boardAfter (callAt l b)) (3 + valueLength (tagAt l))
+      (recordOf (tagAt l) (answerBytes (tagAt l) (callAt l b .members)))
+  unfolding turnOf
+  turn-done z = rw z
+
+  -- the record of the answer has the length that its tag says
+  pub record-size : length (recordOf (tagAt l) (answerBytes (tagAt l) (callAt l b .members))) ≡ 3 + answerLength (tagAt l)
+  record-size =
+      record-length (tagAt l) (answerBytes (tagAt l) (callAt l b .members))
+      ∙ ap (λ (n : ℕ). 3 + n) (answer-length (tagAt l) (callAt l b .members))
+
+  -- a call that is done is a call of the list that is not refused, and its answer has room; a call that is refused has a
+  -- number
+  pub Placed : Turn → Type 0
+  Placed (done b′ n a) =
+      Clear × ((n ≡ 3 + valueLength (tagAt l)) × ((length a ≤ room) × (b′ ≡ boardAfter (callAt l b))))
+  Placed (refused n) = eqb n 0 ≡ false
+
+  pub turn-placed : Placed (turnOf b l room)
+  unfolding turnOf Placed
+  turn-placed =
+      choose Placed (eqb (refusalAt b l room) 0)
+      (λ e. let k = clear (eqb-true _ 0 e) in
+      (k, (refl, (omega (arith, record-size, k .fits), refl))))
+      (λ e. e)
+
+-- it takes at least three bytes, all of the list
+pub done-fits : (b : Board) (l : List ℕ) (room : ℕ) (b′ : Board) (n : ℕ) (a : List ℕ) →
+    turnOf b l room ≡ done b′ n a → (3 ≤ n) × ((n ≤ length l) × (length a ≤ room))
+unfolding Placed
+done-fits b l room b′ n a e =
+    let p : Placed b l room (done b′ n a) = rw e at (turn-placed b l room) in
+    (omega (arith, p .1 .0), (omega (arith, p .1 .0, framed l (p .0 .frame) .0), p .1 .1 .0))
+
+-- ---- the board stays sound
+
+module _ (l : List ℕ) (bytes : (i : ℕ) → getD l i 0 < 256) (b : Board) (g : Good b) where
+  -- the byte of a write
+  byte-below : tagAt l ≡ 3 → argument 1 (argumentsOf (tagAt l) l) < 256
+  byte-below e = rw e (members-below l bytes 3 (2 ∷ 1 ∷ []) 1)
+
+  pub call-good : callAt l b .refusal ≡ 0 → Good (boardAfter (callAt l b))
+  call-good z = call-keeps (tagAt l) (argumentsOf (tagAt l) l) byte-below b g z
+
+-- a run after one more call, done or refused
+pub step-good : (l : List ℕ) → ((i : ℕ) → getD l i 0 < 256) → (s : Outcome) → Good (s .board) → (room : ℕ) →
+    Good (stepped s (turnOf (s .board) l room) .board)
+unfolding turnOf stepped
+step-good l bytes s g room =
+    choose (λ (u : Turn). Good (stepped s u .board)) (eqb (refusalAt (s .board) l room) 0)
+    (λ e. call-good l bytes (s .board) g (clear (s .board) l room (eqb-true _ 0 e) .own))
+    (λ _. g)

@@ -1,0 +1,198 @@
+-- Running a list in two parts, split between calls, is running it whole. Assumes nothing.
+use Prim.Native.Nat.{ℕ, zero, suc, _+_, _-_, _≤_, _<_}
+use native.Mathlib.Nat.{add-zero, add-assoc}
+use native.Mathlib.Omega.{arith}
+use mathlib.Core.Path.{_≡_, refl, sym, ap, _∙_}
+use mathlib.Core.Bool.{Bool, true, false, cond, false≢true}
+use mathlib.Core.List.{List, [], _∷_, _++_, append-nil, append-assoc}
+use lib.ListN.{length, drop, getD, length-append}
+use lib.Seq.{drop-drop}
+use lib.Dec.{eqb}
+use borrow.Author.Tests.{eqb-true, eq-eqb}
+use Rattle.wide.proofs.Choices.{either}
+use Rattle.board.specs.declared.Board.{Board}
+use Rattle.board.specs.Board.{BoardFits, sound}
+use Rattle.board.proofs.Soundness.{facts-sound}
+use Rattle.board.proofs.Steps.{Good, good}
+use Rattle.list.specs.declared.Outcome.{Outcome}
+use Rattle.format.specs.Format.{frameRefusal}
+use Rattle.list.specs.Run.{Turn, done, refused, refusalAt, turnOf, stepped, Run, runOn, nothingDone, runOf, over}
+use Rattle.format.proofs.Frames.{tag-before, frame-before, arguments-before}
+use Rattle.list.proofs.Turns.{Placed, turn-placed, done-fits, step-good}
+use Rattle.list.proofs.Runs.{next-done, next-refused}
+
+-- ---- bytes behind a call have no part in it
+
+turn-before : (b : Board) (l m : List ℕ) (room : ℕ) → frameRefusal l ≡ 0 → turnOf b (l ++ m) room ≡ turnOf b l room
+unfolding turnOf refusalAt
+turn-before b l m room e = rw (frame-before l e m, arguments-before l e m, tag-before l e m, e)
+
+-- ---- the first part
+
+module _ (m : List ℕ) (room : ℕ) where
+  -- a run without refusal goes on over what stands behind its list
+  first-part : (k : ℕ) (l : List ℕ) (s : Outcome) (out : List ℕ) → k ≤ length l →
+      runOn k l room s out .outcome .refusal ≡ 0 →
+      runOn k (l ++ m) room s out
+      ≡ runOn 0 m room (runOn k l room s out .outcome) (runOn k l room s out .answers)
+  unfolding runOn stepped Placed
+  first-part zero [] s out h z = refl
+  first-part (suc k) [] s out h z = absurd (omega arith)
+  first-part (suc k) (x ∷ l) s out h z = first-part k l s out (omega arith) z
+  first-part zero (x ∷ l) s out h z =
+      onward (λ k o a. first-part k l o a) (turnOf (s .board) (x ∷ l) (room - length out)) refl
+    where
+      onward :
+          ((k : ℕ) (o : Outcome) (a : List ℕ) → k ≤ length l → runOn k l room o a .outcome .refusal ≡ 0 →
+          runOn k (l ++ m) room o a ≡ runOn 0 m room (runOn k l room o a .outcome) (runOn k l room o a .answers)) →
+          (t : Turn) → turnOf (s .board) (x ∷ l) (room - length out) ≡ t →
+          runOn 0 ((x ∷ l) ++ m) room s out
+          ≡ runOn 0 m room (runOn 0 (x ∷ l) room s out .outcome) (runOn 0 (x ∷ l) room s out .answers)
+      onward next (refused n) e =
+          let p : Placed (s .board) (x ∷ l) (room - length out) (refused n) =
+          rw e at (turn-placed (s .board) (x ∷ l) (room - length out)) in
+          let r : n ≡ 0 = sym (ap (λ (q : Run). q .outcome .refusal) (next-refused x l room s out n e)) ∙ z in
+          absurd (false≢true (sym p ∙ eq-eqb _ _ r))
+      onward next (done b n a) e =
+          let p : Placed (s .board) (x ∷ l) (room - length out) (done b n a) =
+          rw e at (turn-placed (s .board) (x ∷ l) (room - length out)) in
+          let f = done-fits (s .board) (x ∷ l) (room - length out) b n a e in
+          let g = next-done x l room s out b n a e in
+          next-done x (l ++ m) room s out b n a (turn-before (s .board) (x ∷ l) m (room - length out) (p .0 .frame) ∙ e)
+          ∙ next (n - 1) (stepped s (done b n a)) (out ++ a) (omega arith)
+          (sym (ap (λ (q : Run). q .outcome .refusal) g) ∙ z)
+          ∙ ap (λ (q : Run). runOn 0 m room (q .outcome) (q .answers)) (sym g)
+
+-- ---- the second part
+
+-- what one part says behind what another said: its board and refusal, with the counts of both
+abbrev behind : Outcome → Outcome → Outcome
+behind o s =
+    record {
+      board = s .board;
+      calls = o .calls + s .calls;
+      used = o .used + s .used;
+      written = o .written + s .written;
+      refusal = s .refusal;
+    }
+
+-- two runs as one
+abbrev pub joined : Run → Run → Run
+joined p q = record { outcome = behind (p .outcome) (q .outcome); answers = p .answers ++ q .answers }
+
+-- a run that was not refused, as the start of another
+from-start : (q : Outcome) → q .refusal ≡ 0 → behind q (nothingDone (q .board) 0) ≡ q
+from-start q z =
+    rw (add-zero (q .calls), add-zero (q .used), add-zero (q .written))
+    (ap
+    (λ (n : ℕ). record { board = q .board; calls = q .calls; used = q .used; written = q .written; refusal = n })
+    (sym z))
+
+module _ (p : Run) (room : ℕ) where
+  step-behind : (s : Outcome) (t : Turn) →
+      stepped (behind (p .outcome) s) t ≡ behind (p .outcome) (stepped s t)
+  unfolding stepped
+  step-behind s (done b n a) =
+      rw (
+        add-assoc (p .outcome .calls) (s .calls) 1,
+        add-assoc (p .outcome .used) (s .used) n,
+        add-assoc (p .outcome .written) (s .written) (length a),
+      )
+  step-behind s (refused n) = refl
+
+  second-part : (k : ℕ) (l : List ℕ) (s : Outcome) (out : List ℕ) →
+      runOn k l room (behind (p .outcome) s) (p .answers ++ out)
+      ≡ joined p (runOn k l (room - length (p .answers)) s out)
+  unfolding runOn
+  second-part zero [] s out = refl
+  second-part (suc k) [] s out = refl
+  second-part (suc k) (x ∷ l) s out = second-part k l s out
+  second-part zero (x ∷ l) s out =
+      onward (λ k o a. second-part k l o a) (turnOf (s .board) (x ∷ l) (room - length (p .answers) - length out)) refl
+    where
+      less : room - length (p .answers ++ out) ≡ room - length (p .answers) - length out
+      less = omega (arith, length-append (p .answers) out)
+
+      onward :
+          ((k : ℕ) (o : Outcome) (a : List ℕ) →
+          runOn k l room (behind (p .outcome) o) (p .answers ++ a)
+          ≡ joined p (runOn k l (room - length (p .answers)) o a)) →
+          (t : Turn) → turnOf (s .board) (x ∷ l) (room - length (p .answers) - length out) ≡ t →
+          runOn 0 (x ∷ l) room (behind (p .outcome) s) (p .answers ++ out)
+          ≡ joined p (runOn 0 (x ∷ l) (room - length (p .answers)) s out)
+      onward next (refused n) e =
+          next-refused x l room (behind (p .outcome) s) (p .answers ++ out) n
+          (ap (turnOf (s .board) (x ∷ l)) less ∙ e)
+          ∙ ap (λ (o : Outcome). record { outcome = o; answers = p .answers ++ out }) (step-behind s (refused n))
+          ∙ ap (joined p) (sym (next-refused x l (room - length (p .answers)) s out n e))
+      onward next (done b n a) e =
+          next-done x l room (behind (p .outcome) s) (p .answers ++ out) b n a
+          (ap (turnOf (s .board) (x ∷ l)) less ∙ e)
+          ∙ ap (λ (o : Outcome). runOn (n - 1) l room o ((p .answers ++ out) ++ a)) (step-behind s (done b n a))
+          ∙ ap (runOn (n - 1) l room (behind (p .outcome) (stepped s (done b n a))))
+          (append-assoc (p .answers) out a)
+          ∙ next (n - 1) (stepped s (done b n a)) (out ++ a)
+          ∙ ap (joined p) (sym (next-done x l (room - length (p .answers)) s out b n a e))
+
+-- ---- a run keeps a sound board sound
+
+run-good : (k : ℕ) (l : List ℕ) (room : ℕ) (s : Outcome) (out : List ℕ) → ((i : ℕ) → getD l i 0 < 256) →
+    Good (s .board) → Good (runOn k l room s out .outcome .board)
+unfolding runOn
+run-good zero [] room s out h g = g
+run-good (suc k) [] room s out h g = g
+run-good (suc k) (x ∷ l) room s out h g = run-good k l room s out (λ i. h (suc i)) g
+run-good zero (x ∷ l) room s out h g =
+    onward (λ k o a. run-good k l room o a (λ i. h (suc i))) (turnOf (s .board) (x ∷ l) (room - length out)) refl
+  where
+    onward :
+        ((k : ℕ) (o : Outcome) (a : List ℕ) → Good (o .board) → Good (runOn k l room o a .outcome .board)) →
+        (t : Turn) → turnOf (s .board) (x ∷ l) (room - length out) ≡ t →
+        Good (runOn 0 (x ∷ l) room s out .outcome .board)
+    onward next (refused n) e =
+        rw (next-refused x l room s out n e) (rw e at (step-good (x ∷ l) h s g (room - length out)))
+    onward next (done b n a) e =
+        rw (next-done x l room s out b n a e)
+        (next (n - 1) (stepped s (done b n a)) (out ++ a)
+        (rw e at (step-good (x ∷ l) h s g (room - length out))))
+
+-- ---- the whole
+
+module _ (b : Board) (l m : List ℕ) (room : ℕ) (f : BoardFits b) (bytes : (i : ℕ) → getD l i 0 < 256) where
+  abbrev First : Run
+  First = runOf b l room
+
+  whole : sound b ≡ true → runOn 0 l room (nothingDone b 0) [] .outcome .refusal ≡ 0 →
+      runOn 0 (l ++ m) room (nothingDone b 0) []
+      ≡ joined (runOn 0 l room (nothingDone b 0) [])
+      (runOf (runOn 0 l room (nothingDone b 0) [] .outcome .board) m
+      (room - length (runOn 0 l room (nothingDone b 0) [] .answers)))
+  unfolding runOf
+  whole s z =
+      let p = runOn 0 l room (nothingDone b 0) [] in
+      let q = p .outcome in
+      let kept : sound (q .board) ≡ true =
+      facts-sound (q .board) (run-good 0 l room (nothingDone b 0) [] bytes (good b f s) .facts) in
+      first-part m room 0 l (nothingDone b 0) [] (omega arith) z
+      ∙ sym (ap (λ (o : Outcome). runOn 0 m room o (p .answers)) (from-start q z))
+      ∙ sym (ap (runOn 0 m room (behind q (nothingDone (q .board) 0))) (append-nil (p .answers)))
+      ∙ second-part p room 0 m (nothingDone (q .board) 0) []
+      ∙ rw kept refl
+
+  -- where the first part is not refused: the second runs on the board, and with the room, that the first leaves
+  pub two-parts : First .outcome .refusal ≡ 0 →
+      runOf b (l ++ m) room ≡ joined First (runOf (First .outcome .board) m (room - length (First .answers)))
+  unfolding runOf
+  two-parts z =
+      either (sound b) (λ s. rw s (whole s (rw s at z)))
+      (λ s. let one : _≡_ {A = ℕ} 1 0 = rw s at z in absurd (omega arith))
+
+-- the buffer: the answers of both parts, the second's over what the first leaves
+pub over-both : (first second old : List ℕ) →
+    over (first ++ second) old ≡ first ++ over second (drop (length first) old)
+unfolding over
+over-both first second old =
+    append-assoc first second (drop (length (first ++ second)) old)
+    ∙ ap (λ (l : List ℕ). first ++ (second ++ l))
+    (ap (λ (n : ℕ). drop n old) (length-append first second)
+    ∙ sym (drop-drop (length second) (length first) old))

@@ -1,0 +1,45 @@
+-- Not document 01's sentences: what the code computes of one call of a list. The rule is `callOf` of Calls, and
+-- proofs/Calls.antt shows that these are it.
+use Prim.Native.Nat.{ℕ, _<_}
+use mathlib.Core.Path.{_≡_}
+use mathlib.Core.Logic.{_⊎_}
+use mathlib.Core.List.{List, [], _∷_}
+use mathlib.Core.Bool.{Bool, cond}
+use mathlib.Core.Option.{Option, some}
+use lib.Dec.{eqb}
+use Rattle.wide.specs.Bits.{flagOf}
+use Rattle.clock.specs.declared.HostTime.{HostTime}
+use Rattle.clock.specs.Fields.{withHost}
+use Rattle.controller.specs.declared.IrqController.{IrqController}
+use Rattle.board.specs.declared.Board.{Board}
+use Rattle.board.specs.Fields.{withClock, withController}
+use Rattle.board.specs.Calls.{Call, skipLength}
+use Rattle.format.specs.Format.{answerBytes, valueBytes}
+use Rattle.perform.specs.declared.Effect.{Effect}
+use Rattle.perform.specs.Calls.{argument, callOf}
+
+-- 04 and 06: the cycles of the advance, or none where skip makes none
+unfoldable pub cyclesAt : ℕ → List ℕ → Board → Option ℕ
+cyclesAt tag m b = cond (eqb tag 4) (some (argument 0 m)) (skipLength b)
+
+-- the bytes of an answer, by the cycles that have passed and the line after the call, which 04 and 06 answer, and the
+-- bytes of another call's answer
+unfoldable pub answeredBytes : ℕ → ℕ → Bool → List ℕ → List ℕ
+answeredBytes tag c v other =
+    cond (eqb tag 4) (answerBytes 4 (flagOf v ∷ []))
+    (cond (eqb tag 6) (answerBytes 6 (c ∷ flagOf v ∷ []))
+    other)
+
+-- the tags of the calls that change host time or the controller at most: 01 and 07 to 0A
+abbrev pub Lesser : ℕ → Type 0
+Lesser tag = (tag ≡ 1) ⊎ ((6 < tag) × (tag < 11))
+
+-- a board with another host time and another controller
+abbrev pub withEffect : HostTime → IrqController → Board → Board
+withEffect h q b = withController q (withClock (withHost h (b .clock)) b)
+
+-- what such a call changes, and its answer
+abbrev pub EffectIs : ℕ → List ℕ → Board → Effect → Type 0
+EffectIs tag m b e =
+    (withEffect (e .host) (e .controller) b ≡ callOf tag m b .board)
+    × (valueBytes (e .answer) ≡ answerBytes tag (callOf tag m b .members))

@@ -1,0 +1,117 @@
+//! The kinds of list that are measured: `bench` takes their time, `instructions` counts their instructions.
+
+use crate::call::Call;
+use crate::generate::Random;
+use crate::registers::{self, channel, of_channel, CHANNELS};
+use crate::writes::{byte, two_words, word};
+
+/// The calls of a measured list.
+const CALLS: usize = 4_000;
+/// The calls that one repeat of a benchmark carries out, about.
+const WORK: usize = 4_000_000;
+/// Room for the answers of a list.
+pub const BUFFER: usize = 32 * CALLS;
+
+/// A kind of list: what prepares the board, the list that is measured, and how often a benchmark runs it.
+pub struct Kind {
+    pub name: &'static str,
+    pub first: Vec<Call>,
+    pub list: Vec<Call>,
+    pub times: u64,
+}
+
+/// The kind of a name, or every kind where none is given; nothing where there is none of that name.
+pub fn named(wanted: Option<&str>) -> Vec<Kind> {
+    let mut kinds = kinds();
+    kinds.retain(|kind| wanted.is_none_or(|wanted| wanted == kind.name));
+    kinds
+}
+
+/// Programs a channel to run with its interrupt enabled.
+fn program(number: usize, mode: u8, prescaler: u32, compare: u64, reload: u64) -> Vec<Call> {
+    let register = |register| of_channel(number, register);
+    let mut calls = word(register(channel::PRESCALER), prescaler);
+    calls.extend(two_words(
+        register(channel::RELOAD_LOW),
+        register(channel::RELOAD_HIGH),
+        reload,
+    ));
+    calls.extend(two_words(
+        register(channel::COMPARE_LOW),
+        register(channel::COMPARE_HIGH),
+        compare,
+    ));
+    calls.push(byte(register(channel::CONTROL) + 3, mode | 12));
+    calls
+}
+
+/// Four channels in modes 1 and 2 that match now and then, and a clock whose alarm is far off.
+fn running(prescaler: u32) -> Vec<Call> {
+    let mut calls = Vec::new();
+    for number in 0..CHANNELS {
+        calls.extend(program(
+            number,
+            1 + number as u8 % 2,
+            prescaler,
+            1_000 + number as u64,
+            1_000,
+        ));
+    }
+    calls.extend(two_words(registers::ALARM_LOW, registers::ALARM_HIGH, 1 << 40));
+    calls.push(byte(registers::ALARM_ENABLE + 3, 1));
+    calls.push(byte(registers::ENABLE + 3, 15));
+    calls
+}
+
+fn kinds() -> Vec<Kind> {
+    let mut random = Random::new(1);
+    let mut advances = || -> Vec<Call> {
+        let cycles = (0..CALLS).map(|_| random.below(5_000));
+        cycles.map(|cycles| Call::Advance { cycles }).collect()
+    };
+    let acknowledge = byte(registers::ACKNOWLEDGE + 3, 15);
+    let [plain, divided] = [advances(), advances()];
+    let mut registers_list = Vec::new();
+    let addresses: Vec<u16> = (registers::CLOCK_CONTROL..=registers::ALARM_ACKNOWLEDGE)
+        .chain(
+            (0..CHANNELS)
+                .flat_map(|number| of_channel(number, channel::CONTROL)..of_channel(number, channel::PRESCALER) + 4),
+        )
+        .collect();
+    while registers_list.len() < CALLS {
+        let address = random.pick(&addresses);
+        registers_list.extend([Call::Read { address }, byte(address, random.word() as u8)]);
+    }
+    let skips: Vec<Call> = (0..CALLS / 2).flat_map(|_| [Call::Skip, acknowledge]).collect();
+    let mut mixed = Vec::new();
+    while mixed.len() < CALLS {
+        let call = random.call();
+        if call.refusal() == 0 {
+            mixed.push(call);
+        }
+    }
+    let times = (WORK / CALLS) as u64;
+    let kind = |name, first, list| Kind {
+        name,
+        first,
+        list,
+        times,
+    };
+    let mut kinds = vec![
+        kind("advance", running(0), plain),
+        kind("advance-prescaled", running(6), divided),
+        kind("registers", running(0), registers_list),
+        kind("skip", running(0), skips.clone()),
+        kind("mixed", running(0), mixed),
+    ];
+    // Ten years of interrupts, one each simulated minute: prescaler 47,999 gives a tick each millisecond.
+    let mut minute = program(0, 1, 47_999, 60_000, 60_000);
+    minute.push(byte(registers::ENABLE + 3, 1));
+    kinds.push(Kind {
+        name: "ten-years",
+        first: minute,
+        list: skips,
+        times: 5_256_000 / (CALLS as u64 / 2),
+    });
+    kinds
+}
