@@ -4,25 +4,15 @@ use Prim.Native.Nat.{ℕ}
 use native.Mathlib.Omega.{arith}
 use mathlib.Core.Path.{_≡_, refl, sym, ap, _∙_}
 use mathlib.Core.Bool.{Bool, true, false, not, _&&_, _||_, false≢true, Bool·beq}
-use lib.Dec.{eqb}
-use borrow.Author.Tests.{ltb-false, ne-eqb, not-false}
+use borrow.Author.Tests.{ltb-false}
 use Rattle.wide.specs.Bits.{bit}
 use Rattle.wide.proofs.Choices.{choose}
 use Rattle.channel.specs.declared.HardwareTimer.{HardwareTimer}
 use Rattle.channel.specs.Channel.{freshTimer, lineOf}
-use Rattle.channel.specs.Registers.{
-  controlAt,
-  countLowAt,
-  countHighAt,
-  compareLowAt,
-  compareHighAt,
-  reloadLowAt,
-  reloadHighAt,
-  prescalerAt,
-  byteWritten,
-}
+use Rattle.channel.specs.Registers.{controlAt, byteWritten}
+use Rattle.channel.proofs.Law.{written-line}
 use Rattle.clock.specs.declared.Clock.{Clock}
-use Rattle.clock.specs.Clock.{rateOf, alarmReached, checkAlarm}
+use Rattle.clock.specs.Clock.{rateOf, checkAlarm}
 use Rattle.clock.specs.Deadline.{clockLine}
 use Rattle.controller.specs.declared.IrqController.{IrqController}
 use Rattle.controller.proofs.Laws.{steady}
@@ -57,27 +47,9 @@ use Rattle.registers.proofs.Channels.{set-fold}
 
 -- ---- a write
 
--- a register other than control leaves what its channel gives to the line
-written-line : (register i v : ℕ) → eqb register controlAt ≡ false → (h : HardwareTimer) →
-    lineOf (byteWritten register i v h) ≡ lineOf h
-unfolding byteWritten lineOf
-written-line register i v n h =
-    rw n
-    (choose P (eqb register countLowAt) (λ _. refl)
-    (λ _. choose P (eqb register countHighAt) (λ _. refl)
-    (λ _. choose P (eqb register compareLowAt) (λ _. refl)
-    (λ _. choose P (eqb register compareHighAt) (λ _. refl)
-    (λ _. choose P (eqb register reloadLowAt) (λ _. refl)
-    (λ _. choose P (eqb register reloadHighAt) (λ _. refl)
-    (λ _. choose P (eqb register prescalerAt) (λ _. refl) (λ _. refl))))))))
-  where
-    P : HardwareTimer → Type 0
-    P r = lineOf r ≡ lineOf h
-
-not-control : (o : ℕ) → atControl o ≡ false → eqb (registerOf (placeOf o)) controlAt ≡ false
-not-control o e =
-    let l = ltb-false (placeOf o) 4 e in
-    ne-eqb (registerOf (placeOf o)) controlAt (λ h. omega (arith, l, h))
+-- an offset that is not at control is in another register
+not-control : (o : ℕ) → atControl o ≡ false → registerOf (placeOf o) ≡ controlAt → ⊥
+not-control o e h = omega (arith, ltb-false (placeOf o) 4 e, h)
 
 pub write-still : (p : WritePart) (o v : ℕ) (b : Board) → movesLine p o ≡ false → line (writtenBy p o v b) ≡ line b
 unfolding line
@@ -88,7 +60,8 @@ write-still ofClock o v b n = absurd (false≢true (sym n))
 write-still Channel o v b n =
     ap (λ (w : Bool). w || clockLine (b .clock))
     (set-fold lineOf _||_ false (byteWritten (registerOf (placeOf o)) (byteOf o) v)
-    (written-line (registerOf (placeOf o)) (byteOf o) v (not-control o n)) freshTimer (channelIndex o) 0 (b .timers))
+    (λ h. written-line (registerOf (placeOf o)) (byteOf o) v h (not-control o n)) freshTimer (channelIndex o) 0
+    (b .timers))
 
 -- ---- a read
 

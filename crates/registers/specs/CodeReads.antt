@@ -106,7 +106,8 @@ wordAt h k shared offset =
     (cond (inChannels offset) (wordOf (registerOf (placeOf offset)) h)
     0))
 
--- no latch serves: k is the clock after the alarm check, `before` whether its alarm was pending before
+-- no latch serves: k is the clock after the alarm check, `before` whether its alarm was pending before. The check can
+-- only set pending, so where that is not as it was it rose.
 abbrev pub liveReading : HardwareTimer → ℕ → Clock → Bool → Latches → ℕ → Reading
 liveReading h shared k before ls offset =
     record {
