@@ -12,22 +12,24 @@ use lib.Dec.{eqb}
 use borrow.Author.Tests.{eqb-true, eqb-false, ne-eqb}
 use Rattle.wide.proofs.Choices.{either}
 use Rattle.wide.specs.Fields.{beAt}
+use Rattle.channel.specs.Registers.{byteWritten}
 use Rattle.controller.specs.declared.IrqController.{IrqController}
 use Rattle.controller.specs.Controller.{sourceSet}
 use Rattle.board.specs.declared.Board.{Board}
+use Rattle.board.specs.declared.Latches.{Latches}
 use Rattle.board.specs.declared.calls.Passing.{Passing}
-use Rattle.board.specs.Fields.{withController}
+use Rattle.board.specs.Fields.{withController, channelAt, withChannel}
 use Rattle.board.specs.Board.{line, wired, sound}
 use Rattle.board.specs.Calls.{Call, boardAfter, movedBoard, deadlineCall}
 use Rattle.board.specs.CodeCalls.{passingOf}
 use Rattle.board.proofs.Soundness.{facts-sound}
 use Rattle.board.proofs.Steps.{Good, good}
-use Rattle.offsets.specs.Registers.{base}
+use Rattle.offsets.specs.Registers.{base, registerOf, byteOf, placeOf}
 use Rattle.registers.specs.declared.reads.Reading.{Reading}
 use Rattle.registers.specs.declared.reads.PlainReading.{PlainReading}
 use Rattle.registers.specs.declared.writes.WritePart.{WritePart}
 use Rattle.registers.specs.declared.writes.WritePart.the-variants.{Nothing, Enable, Acknowledge, Clock, Channel}
-use Rattle.registers.specs.CodeReads.{offsetReading, afterReading, plainAt, plainOf}
+use Rattle.registers.specs.CodeReads.{channelIndex, offsetReading, afterReading, plainAt, plainOf}
 use Rattle.registers.specs.CodeWrites.{partOf, writtenBy, movesLine}
 use Rattle.registers.proofs.CodeReads.{read-parts}
 use Rattle.registers.proofs.CodeWrites.{written-is}
@@ -67,6 +69,12 @@ size-most l z =
     by-tag (λ (t : ℕ). answerLength t ≤ 25) (tagAt l) (framed l z .1 .0) (framed l z .1 .1) (omega arith) (omega arith)
     (omega arith) (omega arith) (omega arith) (omega arith) (omega arith) (omega arith) (omega arith) (omega arith)
 
+-- and the values' 12
+pub length-most : (l : List ℕ) → frameRefusal l ≡ 0 → valueLength (tagAt l) ≤ 12
+length-most l z =
+    by-tag (λ (t : ℕ). valueLength t ≤ 12) (tagAt l) (framed l z .1 .0) (framed l z .1 .1) (omega arith) (omega arith)
+    (omega arith) (omega arith) (omega arith) (omega arith) (omega arith) (omega arith) (omega arith) (omega arith)
+
 -- ---- the ways of the code
 
 module _ (l : List ℕ) (b : Board) where
@@ -92,6 +100,12 @@ module _ (l : List ℕ) (b : Board) where
   controller-kept Acknowledge offset value = refl
   controller-kept Clock offset value = refl
   controller-kept Channel offset value = refl
+
+  -- a byte written to a channel, whose index the code has
+  pub channel-written : (offset value i : ℕ) → i ≡ channelIndex offset →
+      withChannel i (byteWritten (registerOf (placeOf offset)) (byteOf offset) value (channelAt i b)) b
+      ≡ writtenBy Channel offset value b
+  channel-written offset value i e = rw e
 
   -- the line may have moved
   moves : (moved : Bool) {P : Type 0} → moved ≡ true → moved ≡ false → P
@@ -120,7 +134,30 @@ module _ (l : List ℕ) (b : Board) where
           (ap (λ (n : ℕ). eqb n 4) t) (ap (λ (n : ℕ). eqb n 6) t)
           (ap valueBytes g ∙ ap (λ (q : Reading). valueBytes (Byte (q .byte))) e ∙ sym (k .1))
 
-      -- without the latches
+      -- without the latches, which stay
+      plain-whole : (r : PlainReading) → r ≡ plainOf (offsetReading offset b) → plainAt offset ≡ true →
+          record { latches = b .latches; byte = r .byte; pending = r .pending; armed = r .armed; rose = r .rose }
+          ≡ offsetReading offset b
+      plain-whole r e q =
+          ap
+          (λ (x : PlainReading). record {
+            latches = b .latches;
+            byte = x .byte;
+            pending = x .pending;
+            armed = x .armed;
+            rose = x .rose;
+          })
+          e
+          ∙ ap
+          (λ (ls : Latches). record {
+            latches = ls;
+            byte = offsetReading offset b .byte;
+            pending = offsetReading offset b .pending;
+            armed = offsetReading offset b .armed;
+            rose = offsetReading offset b .rose;
+          })
+          (sym (plain-latches offset q b))
+
       pub plain-carried : tagAt l ≡ 2 → plainAt offset ≡ true → (r : PlainReading) → r ≡ plainOf (offsetReading offset b) →
           y
           ≡ afterReading
@@ -129,7 +166,7 @@ module _ (l : List ℕ) (b : Board) where
       plain-carried t q r e f g h =
           read-carried t
           (record { latches = b .latches; byte = r .byte; pending = r .pending; armed = r .armed; rose = r .rose })
-          (rw (← plain-latches offset q b, e)) f g h
+          (plain-whole r e q) f g h
 
       pub write-carried : tagAt l ≡ 3 → (value : ℕ) → value ≡ beAt l 5 1 → (part : WritePart) → part ≡ partOf offset →
           y ≡ writtenBy part offset value b → moved ≡ movesLine part offset → a ≡ Empty → Carried y c moved a
@@ -146,9 +183,9 @@ module _ (l : List ℕ) (b : Board) where
     module _ (t : (tagAt l ≡ 4) ⊎ (tagAt l ≡ 6)) (p : Passing)
         (e : p ≡ passingOf (cyclesAt (tagAt l) (argumentsOf (tagAt l) l) b)) (g : c ≡ p .cycles .0)
         (m : moved ≡ true) where
-      pub advance-carried : p .made ≡ true → y ≡ movedBoard c b → Carried y c moved a
+      pub advance-carried : p .made ≡ true → y ≡ movedBoard (p .cycles .0) b → Carried y c moved a
       advance-carried f h =
-          let k = passes (tagAt l) (argumentsOf (tagAt l) l) b t p e f y (rw g at h) in
+          let k = passes (tagAt l) (argumentsOf (tagAt l) l) b t p e f y h in
           record {
             board = k .0;
             still = moves moved m;

@@ -81,7 +81,7 @@ module _ (b : Board) (l : List ℕ) (room : ℕ) where
 
   -- a call that is done is a call of the list that is not refused, and its answer has room; a call that is refused has a
   -- number
-  pub Placed : Turn → Type 0
+  unfoldable pub Placed : Turn → Type 0
   Placed (done b′ n a) =
       Clear × ((n ≡ 3 + valueLength (tagAt l)) × ((length a ≤ room) × (b′ ≡ boardAfter (callAt l b))))
   Placed (refused n) = eqb n 0 ≡ false

@@ -171,7 +171,7 @@ pub fn run(board: Board, list: &[u8], answers: &mut [u8]) -> Outcome
                         let timer = b.timers[i];
                         let selected = ChannelNumber(i as u8).selected(enable);
                         if timer.runs(selected) {
-                            let after = timer.advance_cycles(true, cycles);
+                            let after = timer.advance_cycles(selected, cycles);
                             b.timers[i] = after;
                         }
                         i += 1;
