@@ -106,7 +106,7 @@ fn sum(widths: &[usize]) -> usize {
 }
 
 /// Bytes before a value: tag 1, length 2.
-pub const HEADER: usize = 3;
+pub const HEADER_LENGTH: usize = 3;
 
 /// The bytes of the widest member.
 const WIDEST: usize = size_of::<u128>();
@@ -129,7 +129,7 @@ fn read<const MEMBERS: usize>(widths: &[usize], value: &[u8]) -> [u128; MEMBERS]
 /// widths.
 #[inline(always)]
 fn write<const MEMBERS: usize>(tag: u8, widths: &[usize], members: [u128; MEMBERS], record: &mut [u8]) {
-    let (header, value) = record.split_at_mut(HEADER);
+    let (header, value) = record.split_at_mut(HEADER_LENGTH);
     header.copy_from_slice(&[tag, 0, value.len() as u8]);
     let mut from = 0;
     for (member, width) in members.iter().zip(widths) {
@@ -207,7 +207,7 @@ impl Call {
     /// The call as it stands in a list.
     pub fn encode(&self) -> Vec<u8> {
         let encoded = by_form!(self.tag(), FORM => {
-            let mut record = vec![0; HEADER + sum(FORM.value)];
+            let mut record = vec![0; HEADER_LENGTH + sum(FORM.value)];
             write(FORM.tag, FORM.value, self.members(), &mut record);
             record
         });

@@ -7,7 +7,7 @@ pub mod passes;
 
 use std::fmt::{self, Write};
 
-use crate::call::{Call, HEADER};
+use crate::call::{Call, HEADER_LENGTH};
 use crate::list::{first_call, Outcome};
 use crate::registers::{self, channel, of_channel, CHANNELS};
 
@@ -222,7 +222,7 @@ fn calls_text(list: &[u8]) -> String {
     let mut text = String::new();
     for part in calls_of(list) {
         let call = match first_call(&part) {
-            Ok((call, _)) if part.len() >= HEADER => format!("{call:?}"),
+            Ok((call, _)) if part.len() >= HEADER_LENGTH => format!("{call:?}"),
             _ => "not a whole call".to_string(),
         };
         writeln!(text, "  {}  {call}", hex(&part)).expect("a string takes all text");

@@ -1,7 +1,7 @@
 //! Call lists and sound boards by seed, the same on every machine, with a bias to limits.
 
 use crate::board::Board;
-use crate::call::{answer_length, refusal, Call, HEADER};
+use crate::call::{answer_length, refusal, Call, HEADER_LENGTH};
 use crate::deadline;
 use crate::fields::{Channel, Fields, Latch, POLL_LIMIT};
 use crate::registers::{self, channel, of_channel, CHANNELS};
@@ -254,7 +254,7 @@ impl Generator {
     fn call(&mut self, call: Call) {
         self.starts.push(self.list.len());
         self.list.extend(call.encode());
-        self.answer_bytes += HEADER + answer_length(call.tag());
+        self.answer_bytes += HEADER_LENGTH + answer_length(call.tag());
         self.board.call(call);
     }
 

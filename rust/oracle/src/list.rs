@@ -1,7 +1,7 @@
 //! The call list of document 01: runs a list on a board into an answer buffer.
 
 use crate::board::Board;
-use crate::call::{answer_length, refusal, value_length, Call, HEADER};
+use crate::call::{answer_length, refusal, value_length, Call, HEADER_LENGTH};
 
 /// The result of a run besides the board.
 #[derive(Clone, Copy, Debug, Default, PartialEq, Eq)]
@@ -31,7 +31,7 @@ pub fn run(board: &mut Board, list: &[u8], answers: &mut [u8]) -> Outcome {
             return refused(outcome, call.refusal());
         }
         // An answer's length is known from the tag, so 11 is found before the call is carried out.
-        let end = outcome.answer_bytes + HEADER + answer_length(call.tag());
+        let end = outcome.answer_bytes + HEADER_LENGTH + answer_length(call.tag());
         if end > answers.len() {
             return refused(outcome, refusal::BUFFER_SHORT);
         }
@@ -65,7 +65,7 @@ pub fn first_call(list: &[u8]) -> Result<(Call, usize), u8> {
         return Err(refusal::WRONG_LENGTH);
     }
     let value = rest.get(..expected).ok_or(refusal::VALUE_CUT)?;
-    Ok((Call::decode(tag, value), HEADER + expected))
+    Ok((Call::decode(tag, value), HEADER_LENGTH + expected))
 }
 
 fn refused(outcome: Outcome, refusal: u8) -> Outcome {

@@ -5,7 +5,7 @@ use std::io::{self, Read, Write};
 use std::process::ExitCode;
 
 use oracle::board::Board;
-use oracle::call::HEADER;
+use oracle::call::HEADER_LENGTH;
 use oracle::{generate, list};
 
 /// The largest list, and the length of the answer buffer.
@@ -63,7 +63,7 @@ fn print_answers(mut answers: &[u8]) -> String {
         let length = usize::from(u16::from_be_bytes([*high, *low]));
         let value: String = rest[..length].iter().map(|byte| format!("{byte:02x}")).collect();
         text.push_str(&format!("{tag:02x} {}\n", if value.is_empty() { "-" } else { &value }));
-        answers = &answers[HEADER + length..];
+        answers = &answers[HEADER_LENGTH + length..];
     }
     text
 }

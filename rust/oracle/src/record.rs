@@ -4,7 +4,7 @@
 use std::collections::BTreeSet;
 
 use crate::board::Board;
-use crate::call::{answer_length, refusal, tags, value_length, Call, HEADER};
+use crate::call::{answer_length, refusal, tags, value_length, Call, HEADER_LENGTH};
 use crate::fields::Fields;
 use crate::generate::{self, Random};
 use crate::list::{self, Outcome};
@@ -157,7 +157,7 @@ fn mixed(seed: u64) -> Start {
 
 /// Bytes of the answers of calls that are all done.
 fn answer_bytes(calls: &[Call]) -> usize {
-    calls.iter().map(|call| HEADER + answer_length(call.tag())).sum()
+    calls.iter().map(|call| HEADER_LENGTH + answer_length(call.tag())).sum()
 }
 
 fn encode(calls: &[Call]) -> Vec<u8> {

@@ -3,7 +3,7 @@
 use std::thread;
 
 use super::{list_of, readouts, Count, Difference, Pair};
-use crate::call::{answer_length, Call, HEADER};
+use crate::call::{answer_length, Call, HEADER_LENGTH};
 use crate::generate;
 use crate::registers::{self, channel, of_channel, CHANNELS};
 use crate::writes::{byte, two_words, word};
@@ -202,13 +202,13 @@ pub fn damaged(pair: &Pair) -> Compared {
 pub fn short_buffers(pair: &Pair) -> Compared {
     let calls = every_tag();
     let list = list_of(&calls);
-    let room: usize = calls.iter().map(|call| HEADER + answer_length(call.tag())).sum();
+    let room: usize = calls.iter().map(|call| HEADER_LENGTH + answer_length(call.tag())).sum();
     let mut count = Count::default();
     for buffer in 0..=room + 1 {
         count.add(pair.compare(&list, None, buffer)?);
     }
     for call in calls {
-        let record = HEADER + answer_length(call.tag());
+        let record = HEADER_LENGTH + answer_length(call.tag());
         let list = list_of(&vec![call; BUFFER / record + 2]);
         for buffer in [
             BUFFER - 1,

@@ -4,7 +4,7 @@
 use std::collections::BTreeMap;
 
 use oracle::board::Board;
-use oracle::call::{answer_length, Answer, Call, HEADER};
+use oracle::call::{answer_length, Answer, Call, HEADER_LENGTH};
 use oracle::fields::Fields;
 use oracle::generate;
 use oracle::list::{first_call, run, Outcome};
@@ -180,7 +180,7 @@ fn run_by_direct_calls(list: &[u8], length: usize, counts: &mut Counts) -> (Outc
             // On a copy, as the call may be refused for its answer's length alone.
             let mut copy = Board::from_fields(&before);
             let reply = copy.call(call);
-            let mut record = vec![0; HEADER + answer_length(call.tag())];
+            let mut record = vec![0; HEADER_LENGTH + answer_length(call.tag())];
             reply.answer.store(call.tag(), &mut record);
             match reply.refusal {
                 0 if answers.len() + record.len() > length => Err(11),

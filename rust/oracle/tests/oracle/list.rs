@@ -1,7 +1,7 @@
 //! The call list: decoding, the order of the refusals, the answer buffer.
 
 use oracle::board::Board;
-use oracle::call::{answer_length, tags, value_length, Answer, Call, HEADER};
+use oracle::call::{answer_length, tags, value_length, Answer, Call, HEADER_LENGTH};
 use oracle::fields::Fields;
 use oracle::list::{run, Outcome};
 
@@ -35,7 +35,7 @@ fn tags_and_lengths_are_document_01s() {
         let known = LENGTHS.iter().find(|lengths| lengths.0 == tag);
         assert_eq!(value_length(tag), known.map(|lengths| lengths.1));
         for length in 0..=300_u16 {
-            let mut list = vec![0; HEADER + usize::from(length)];
+            let mut list = vec![0; HEADER_LENGTH + usize::from(length)];
             list[0] = tag;
             list[1..3].copy_from_slice(&length.to_be_bytes());
             let Some(&(_, value, answer)) = known else {
@@ -51,7 +51,7 @@ fn tags_and_lengths_are_document_01s() {
             let expected = Outcome {
                 calls: 1,
                 list_bytes: list.len(),
-                answer_bytes: HEADER + answer,
+                answer_bytes: HEADER_LENGTH + answer,
                 refusal: 0,
             };
             assert_eq!(outcome, expected);
@@ -99,7 +99,7 @@ fn calls_are_decoded_big_endian() {
     ];
     for (call, bytes) in calls {
         assert_eq!(call.encode(), bytes);
-        assert_eq!(Call::decode(bytes[0], &bytes[HEADER..]), call);
+        assert_eq!(Call::decode(bytes[0], &bytes[HEADER_LENGTH..]), call);
     }
 }
 
@@ -138,7 +138,7 @@ fn answers_are_encoded_big_endian() {
         // The zero answer has the same form.
         let mut stored = vec![0xEE; bytes.len()];
         call.zero_answer().store(tag, &mut stored);
-        assert_eq!(stored, record(tag, &vec![0; bytes.len() - HEADER]));
+        assert_eq!(stored, record(tag, &vec![0; bytes.len() - HEADER_LENGTH]));
     }
 }
 
@@ -234,7 +234,7 @@ fn an_answer_longer_than_the_rest_is_refused_with_11() {
     let first = Call::Write { address: 0x83, byte: 7 };
     for call in CALLS {
         let list = encode(&[first, call]);
-        let whole = 3 + HEADER + answer_length(call.tag());
+        let whole = 3 + HEADER_LENGTH + answer_length(call.tag());
         for length in 0..whole + 2 {
             let mut board = Board::fresh();
             let mut buffer = vec![0xEE; length];
