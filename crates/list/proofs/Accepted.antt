@@ -49,31 +49,20 @@ use Rattle.format.specs.Format.{
   valueBytes,
   recordOf,
 }
-use Rattle.format.proofs.Frames.{framed, by-tag}
+use Rattle.format.proofs.Frames.{framed}
 use Rattle.perform.specs.declared.Effect.{Effect}
-use Rattle.perform.specs.Calls.{argument, callOf, callAt}
+use Rattle.perform.specs.Calls.{argument, callOf, callAt, refusalAt}
 use Rattle.perform.specs.CodeCalls.{cyclesAt, answeredBytes, Lesser, withEffect, EffectIs}
 use Rattle.perform.proofs.Calls.{read-is, write-is, deadline-is, passes, stays, other-bytes}
 use Rattle.list.specs.declared.Outcome.{Outcome}
-use Rattle.list.specs.Run.{done, refused, refusalAt, stepped}
-use Rattle.list.proofs.Turns.{clear, turn-refused, turn-done, record-size, call-good}
+use Rattle.list.specs.Run.{done, refused, stepped}
+use Rattle.perform.proofs.Refusals.{clear}
+use Rattle.list.proofs.Turns.{turn-refused, turn-done, record-size, call-good}
 use Rattle.list.proofs.Runs.{bytesOf, Running, Ran, stateOf, more, stops}
 
 -- a call has the bytes of its value
 pub value-in : (l : List ℕ) (tag : ℕ) → frameRefusal l ≡ 0 → tagAt l ≡ tag → 3 + valueLength tag ≤ length l
 value-in l tag z e = rw e at (framed l z .0)
-
--- the answers' members have 25 bytes at most
-pub size-most : (l : List ℕ) → frameRefusal l ≡ 0 → answerLength (tagAt l) ≤ 25
-size-most l z =
-    by-tag (λ (t : ℕ). answerLength t ≤ 25) (tagAt l) (framed l z .1 .0) (framed l z .1 .1) (omega arith) (omega arith)
-    (omega arith) (omega arith) (omega arith) (omega arith) (omega arith) (omega arith) (omega arith) (omega arith)
-
--- and the values' 12
-pub length-most : (l : List ℕ) → frameRefusal l ≡ 0 → valueLength (tagAt l) ≤ 12
-length-most l z =
-    by-tag (λ (t : ℕ). valueLength t ≤ 12) (tagAt l) (framed l z .1 .0) (framed l z .1 .1) (omega arith) (omega arith)
-    (omega arith) (omega arith) (omega arith) (omega arith) (omega arith) (omega arith) (omega arith) (omega arith)
 
 -- ---- the ways of the code
 

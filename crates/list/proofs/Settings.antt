@@ -69,8 +69,8 @@ use Rattle.registers.specs.Reads.{readLive, readCountHigh, readChannel, seconds
 use Rattle.offsets.specs.Writes.{timerWritten, clockWritten, writtenAt}
 use Rattle.registers.specs.Calls.{addressRefusal, readCall, writeCall}
 use Rattle.format.specs.Format.{membersAt, frameRefusal, membersBytes, recordOf}
-use Rattle.perform.specs.Calls.{callOf}
-use Rattle.list.specs.Run.{refusalAt, turnOf, stepped, Run, runOn, runOf}
+use Rattle.perform.specs.Calls.{callOf, refusalAt}
+use Rattle.list.specs.Run.{turnOf, stepped, Run, runOn, runOf}
 
 -- ---- boards
 

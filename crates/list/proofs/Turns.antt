@@ -1,4 +1,4 @@
--- What becomes of the call at the front of a list: by its refusal, as the code computes it. Assumes nothing.
+-- What becomes of the call at the front of a list, by its refusal. Assumes nothing.
 use Prim.Native.Nat.{ℕ, _+_, _≤_, _<_}
 use native.Mathlib.Omega.{arith}
 use mathlib.Core.Path.{_≡_, refl, sym, ap, _∙_}
@@ -13,55 +13,13 @@ use Rattle.board.specs.Calls.{boardAfter}
 use Rattle.board.proofs.Steps.{Good}
 use Rattle.format.specs.Format.{valueLength, answerLength, tagAt, argumentsOf, frameRefusal, answerBytes, recordOf}
 use Rattle.format.proofs.Frames.{framed, members-below, record-length, answer-length}
-use Rattle.perform.specs.Calls.{argument, callAt}
+use Rattle.perform.specs.Calls.{argument, callAt, refusalAt}
+use Rattle.perform.proofs.Refusals.{Clear, clear}
 use Rattle.perform.proofs.Kept.{call-keeps}
 use Rattle.list.specs.declared.Outcome.{Outcome}
-use Rattle.list.specs.Run.{Turn, done, refused, refusalAt, turnOf, stepped}
+use Rattle.list.specs.Run.{Turn, done, refused, turnOf, stepped}
 
 module _ (b : Board) (l : List ℕ) (room : ℕ) where
-  -- ---- the refusal, by what the code computes of it
-
-  pub refused-frame : (n : ℕ) → n ≡ frameRefusal l → eqb n 0 ≡ false → n ≡ refusalAt b l room
-  unfolding refusalAt
-  refused-frame n p q = rw (← p, q)
-
-  pub refused-own : frameRefusal l ≡ 0 → (n : ℕ) → n ≡ callAt l b .refusal → eqb n 0 ≡ false → n ≡ refusalAt b l room
-  unfolding refusalAt
-  refused-own f n p q = rw (f, ← p, q)
-
-  module _ (f : frameRefusal l ≡ 0) (o : callAt l b .refusal ≡ 0) (size : ℕ) (e : size ≡ answerLength (tagAt l)) where
-    pub refused-room : room < 3 + size → 11 ≡ refusalAt b l room
-    unfolding refusalAt
-    refused-room h = rw (f, o, ← e, lt-ltb _ _ h)
-
-    pub unrefused : 3 + size ≤ room → 0 ≡ refusalAt b l room
-    unfolding refusalAt
-    unrefused h = rw (f, o, ← e, le-ltb _ _ h)
-
-  -- a refusal that is not 0 leaves nothing to say of a call that is not refused
-  pub refused-front : {n r : ℕ} {P : Type 0} → r ≡ n → n ≡ refusalAt b l room → eqb n 0 ≡ false →
-      (r ≡ refusalAt b l room) × (refusalAt b l room ≡ 0 → P)
-  refused-front e p q = (e ∙ p, λ z. absurd (false≢true (sym q ∙ eq-eqb _ 0 (p ∙ z))))
-
-  -- what it says of a call that it is not refused
-  pub record Clear : Type 0 where
-    pub frame : frameRefusal l ≡ 0
-    pub own : callAt l b .refusal ≡ 0
-    pub fits : 3 + answerLength (tagAt l) ≤ room
-
-  pub clear : refusalAt b l room ≡ 0 → Clear
-  unfolding refusalAt
-  clear z =
-      either (eqb (frameRefusal l) 0)
-      (λ f. either (eqb (callAt l b .refusal) 0)
-      (λ o. either (ltb room (3 + answerLength (tagAt l)))
-      (λ r. let e : _≡_ {A = ℕ} 11 0 = rw (f, o, r) at z in absurd (omega arith))
-      (λ r. record { frame = eqb-true _ 0 f; own = eqb-true _ 0 o; fits = ltb-false _ _ r }))
-      (λ o. let e : callAt l b .refusal ≡ 0 = rw (f, o) at z in absurd (false≢true (sym o ∙ eq-eqb _ 0 e))))
-      (λ f. let e : frameRefusal l ≡ 0 = rw f at z in absurd (false≢true (sym f ∙ eq-eqb _ 0 e)))
-
-  -- ---- what becomes of the call
-
   pub turn-refused : (n : ℕ) → n ≡ refusalAt b l room → eqb n 0 ≡ false → turnOf b l room ≡ refused n
   unfolding turnOf
   turn-refused n p q = rw (← p, q)
@@ -83,14 +41,14 @@ module _ (b : Board) (l : List ℕ) (room : ℕ) where
   -- number
   unfoldable pub Placed : Turn → Type 0
   Placed (done b′ n a) =
-      Clear × ((n ≡ 3 + valueLength (tagAt l)) × ((length a ≤ room) × (b′ ≡ boardAfter (callAt l b))))
+      Clear b l room × ((n ≡ 3 + valueLength (tagAt l)) × ((length a ≤ room) × (b′ ≡ boardAfter (callAt l b))))
   Placed (refused n) = eqb n 0 ≡ false
 
   pub turn-placed : Placed (turnOf b l room)
   unfolding turnOf Placed
   turn-placed =
       choose Placed (eqb (refusalAt b l room) 0)
-      (λ e. let k = clear (eqb-true _ 0 e) in
+      (λ e. let k = clear b l room (eqb-true _ 0 e) in
       (k, (refl, (omega (arith, record-size, k .fits), refl))))
       (λ e. e)
 

@@ -16,7 +16,8 @@ use Rattle.board.proofs.Soundness.{facts-sound}
 use Rattle.board.proofs.Steps.{Good, good}
 use Rattle.list.specs.declared.Outcome.{Outcome}
 use Rattle.format.specs.Format.{frameRefusal}
-use Rattle.list.specs.Run.{Turn, done, refused, refusalAt, turnOf, stepped, Run, runOn, nothingDone, runOf, over}
+use Rattle.list.specs.Run.{Turn, done, refused, turnOf, stepped, Run, runOn, nothingDone, runOf, over}
+use Rattle.perform.specs.Calls.{refusalAt}
 use Rattle.format.proofs.Frames.{tag-before, frame-before, arguments-before}
 use Rattle.list.proofs.Turns.{Placed, turn-placed, done-fits, step-good}
 use Rattle.list.proofs.Runs.{next-done, next-refused}

@@ -3,21 +3,12 @@ use Prim.Native.Nat.{ℕ, zero, suc, _+_, _-_}
 use mathlib.Core.List.{List, [], _∷_, _++_}
 use mathlib.Core.Bool.{cond}
 use lib.ListN.{length, drop}
-use lib.Dec.{ltb, eqb}
+use lib.Dec.{eqb}
 use Rattle.board.specs.declared.Board.{Board}
 use Rattle.board.specs.Board.{sound}
 use Rattle.board.specs.Calls.{notSound, boardAfter}
-use Rattle.format.specs.Format.{
-  answerTooLong,
-  headerLength,
-  valueLength,
-  answerLength,
-  tagAt,
-  frameRefusal,
-  answerBytes,
-  recordOf,
-}
-use Rattle.perform.specs.Calls.{callAt}
+use Rattle.format.specs.Format.{headerLength, valueLength, tagAt, answerBytes, recordOf}
+use Rattle.perform.specs.Calls.{callAt, refusalAt}
 use Rattle.list.specs.declared.Outcome.{Outcome}
 
 -- ---- one call
@@ -28,19 +19,7 @@ pub data Turn : Type 0 where
   done : Board → ℕ → List ℕ → Turn
   refused : ℕ → Turn
 
--- the first of two refusals that there is
-abbrev pub firstOf : ℕ → ℕ → ℕ
-firstOf m n = cond (eqb m 0) n m
-
--- the refusal of the call at the front of a list, 0 for none, with so much room for its answer: 'for each call: 2 one or
--- two bytes left; 3 unknown tag; 4 wrong length; 5 value cut; the call's own; 11 answer longer than the buffer's rest'
-unfoldable pub refusalAt : Board → List ℕ → ℕ → ℕ
-refusalAt b l room =
-    firstOf (frameRefusal l)
-    (firstOf (callAt l b .refusal)
-    (cond (ltb room (headerLength + answerLength (tagAt l))) answerTooLong 0))
-
--- what becomes of that call
+-- what becomes of the call at the front of a list, with so much room for its answer
 unfoldable pub turnOf : Board → List ℕ → ℕ → Turn
 turnOf b l room =
     cond (eqb (refusalAt b l room) 0)

@@ -1,10 +1,9 @@
 // The call list: a run takes the calls of a list in order, writes an answer for each into a buffer, and stops at the
-// first refusal. A refusal is found before its call is carried out, so an accepted call changes the board where it lies.
+// first refusal. A refusal is found before its call is carried out, so an accepted call changes the board where it
+// lies.
 ghost use mathlib.Core.Path.{_≡_};
-ghost use Prim.Native.Nat.{_+_};
 ghost use lib.ListN.{length};
-ghost use Rattle.format.specs.Format.{valueLength, answerLength, tagAt};
-ghost use Rattle.list.specs.Run.{refusalAt, runOf, over};
+ghost use Rattle.list.specs.Run.{runOf, over};
 use board::Board;
 use channel::ChannelNumber;
 use channel::Cycles;
@@ -21,49 +20,6 @@ pub struct Outcome {
     pub used: usize,
     pub written: usize,
     pub refusal: u8,
-}
-
-// The call at the front of what is left of a list: its refusal, 0 for none; the list bytes that it uses, and the bytes
-// of its answer's members, where it is not refused.
-struct Front {
-    refusal: u8,
-    length: usize,
-    size: usize,
-}
-
-// A call that is refused.
-fn refused(refusal: u8) -> Front
-    ensures { λ r. ⌜ r .refusal ≡ refusal ⌝ }
-{
-    Front {
-        refusal,
-        length: 0,
-        size: 0,
-    }
-}
-
-// The call at the front, on a board and with so much room for its answer.
-fn front_of(board: Board, rest: &[u8], room: usize) -> Front
-    ensures { λ r. ⌜ (r .refusal ≡ refusalAt board (now (rest .entry)) room)
-        × (refusalAt board (now (rest .entry)) room ≡ 0 →
-        (r .length ≡ 3 + valueLength (tagAt (now (rest .entry)))) × (r .size ≡ answerLength (tagAt (now (rest .entry))))) ⌝ }
-{
-    let frame = format::frame_of(rest);
-    if frame.refusal != 0 {
-        return refused(frame.refusal);
-    }
-    let own = perform::own_refusal(board, rest[0], rest);
-    if own != 0 {
-        return refused(own);
-    }
-    if room < format::HEADER_LENGTH + frame.answer {
-        return refused(format::ANSWER_TOO_LONG);
-    }
-    Front {
-        refusal: 0,
-        length: format::HEADER_LENGTH + frame.value,
-        size: frame.answer,
-    }
 }
 
 // Runs a list of calls over a board, and writes their answers into a buffer.
@@ -87,7 +43,7 @@ pub fn run(board: Board, list: &[u8], answers: &mut [u8]) -> Outcome
     let mut written = 0;
     while used < list.len() {
         let rest = &list[used..];
-        let front = front_of(b, rest, answers.len() - written);
+        let front = perform::front_of(b, rest, answers.len() - written);
         if front.refusal != 0 {
             return Outcome {
                 board: b,
@@ -201,8 +157,7 @@ pub fn run(board: Board, list: &[u8], answers: &mut [u8]) -> Outcome
             let set = b.controller_wired(line);
             b.controller = set;
         }
-        let reply = perform::answered(tag, cycles, line, answer);
-        format::put_record(answers, written, tag, front.size, reply);
+        perform::put_answer(answers, written, tag, front.size, cycles, line, answer);
         calls += 1;
         used += front.length;
         written += format::HEADER_LENGTH + front.size;

@@ -1,9 +1,9 @@
--- Document 01, 'The call list': the call of each tag.
-use Prim.Native.Nat.{ℕ}
+-- Document 01, 'The call list': the call of each tag, and the refusal of the call at the front of a list.
+use Prim.Native.Nat.{ℕ, _+_}
 use mathlib.Core.List.{List}
 use mathlib.Core.Bool.{cond}
 use lib.ListN.{getD}
-use lib.Dec.{eqb}
+use lib.Dec.{ltb, eqb}
 use Rattle.board.specs.declared.Board.{Board}
 use Rattle.board.specs.Calls.{
   Call,
@@ -17,7 +17,14 @@ use Rattle.board.specs.Calls.{
   outputCall,
 }
 use Rattle.registers.specs.Calls.{readCall, writeCall}
-use Rattle.format.specs.Format.{tagAt, argumentsOf}
+use Rattle.format.specs.Format.{
+  answerTooLong,
+  headerLength,
+  answerLength,
+  tagAt,
+  argumentsOf,
+  frameRefusal,
+}
 
 -- a member of a call's value
 abbrev pub argument : ℕ → List ℕ → ℕ
@@ -41,3 +48,17 @@ callOf tag m b =
 -- the call at the front of a list of bytes
 abbrev pub callAt : List ℕ → Board → Call
 callAt l b = callOf (tagAt l) (argumentsOf (tagAt l) l) b
+
+-- ---- its refusal
+
+-- the first of two refusals that there is
+abbrev pub firstOf : ℕ → ℕ → ℕ
+firstOf m n = cond (eqb m 0) n m
+
+-- the refusal of the call at the front of a list, 0 for none, with so much room for its answer: 'for each call: 2 one or
+-- two bytes left; 3 unknown tag; 4 wrong length; 5 value cut; the call's own; 11 answer longer than the buffer's rest'
+unfoldable pub refusalAt : Board → List ℕ → ℕ → ℕ
+refusalAt b l room =
+    firstOf (frameRefusal l)
+    (firstOf (callAt l b .refusal)
+    (cond (ltb room (headerLength + answerLength (tagAt l))) answerTooLong 0))

@@ -1,6 +1,6 @@
 -- Not document 01's sentences: what the code computes of one call of a list. The rule is `callOf` of Calls, and
 -- proofs/Calls.antt shows that these are it.
-use Prim.Native.Nat.{ℕ, _<_}
+use Prim.Native.Nat.{ℕ, _+_, _<_}
 use mathlib.Core.Path.{_≡_}
 use mathlib.Core.Logic.{_⊎_}
 use mathlib.Core.List.{List, [], _∷_}
@@ -14,9 +14,18 @@ use Rattle.controller.specs.declared.IrqController.{IrqController}
 use Rattle.board.specs.declared.Board.{Board}
 use Rattle.board.specs.Fields.{withClock, withController}
 use Rattle.board.specs.Calls.{Call, skipLength}
-use Rattle.format.specs.Format.{answerBytes, valueBytes}
+use Rattle.format.specs.Format.{headerLength, valueLength, answerLength, tagAt, answerBytes, valueBytes}
 use Rattle.perform.specs.declared.Effect.{Effect}
-use Rattle.perform.specs.Calls.{argument, callOf}
+use Rattle.perform.specs.declared.Front.{Front}
+use Rattle.perform.specs.Calls.{argument, callOf, refusalAt}
+
+-- the call at the front, on a board and with so much room: its refusal and, where there is none, the list bytes that it
+-- uses and the bytes of its answer's members
+abbrev pub FrontIs : Board → List ℕ → ℕ → Front → Type 0
+FrontIs b l room f =
+    (f .refusal ≡ refusalAt b l room)
+    × (refusalAt b l room ≡ 0 →
+    (f .length ≡ headerLength + valueLength (tagAt l)) × (f .size ≡ answerLength (tagAt l)))
 
 -- 04 and 06: the cycles of the advance, or none where skip makes none
 unfoldable pub cyclesAt : ℕ → List ℕ → Board → Option ℕ

@@ -4,15 +4,16 @@ ghost use mathlib.Core.Path.{_≡_};
 ghost use mathlib.Core.Bool.{true};
 ghost use Prim.Native.Nat.{_+_, _≤_};
 ghost use lib.ListN.{length};
+ghost use lib.Seq.{sets};
 ghost use Rattle.wide.specs.Bits.{flagOf};
 ghost use Rattle.wide.specs.Fields.{beAt};
 ghost use Rattle.board.specs.Board.{sound};
 ghost use Rattle.board.specs.Calls.{deadlineCall};
 ghost use Rattle.board.specs.CodeCalls.{passingOf};
 ghost use Rattle.offsets.specs.Registers.{base};
-ghost use Rattle.format.specs.Format.{valueLength, argumentsOf, answerBytes, valueBytes};
+ghost use Rattle.format.specs.Format.{valueLength, argumentsOf, answerBytes, valueBytes, recordOf};
 ghost use Rattle.perform.specs.Calls.{callOf};
-ghost use Rattle.perform.specs.CodeCalls.{cyclesAt, answeredBytes, Lesser, EffectIs};
+ghost use Rattle.perform.specs.CodeCalls.{FrontIs, cyclesAt, answeredBytes, Lesser, EffectIs};
 use board::Board;
 use board::calls::Passing;
 use board::calls::host_time_refusal;
@@ -30,6 +31,14 @@ pub struct Effect {
     pub host: HostTime,
     pub controller: IrqController,
     pub answer: Answer,
+}
+
+// The call at the front of what is left of a list: its refusal, 0 for none; the list bytes that it uses, and the bytes
+// of its answer's members, where it is not refused.
+pub struct Front {
+    pub refusal: u8,
+    pub length: usize,
+    pub size: usize,
 }
 
 fn flag(value: bool) -> u8
@@ -83,9 +92,9 @@ fn host_at(rest: &[u8]) -> HostTime
 
 // ---- ahead of the call
 
-// The call's own refusal on a board, 0 for none.
-pub fn own_refusal(board: Board, tag: u8, rest: &[u8]) -> u8
-    requires { ⌜ 3 + valueLength tag ≤ length (now rest) ⌝ }
+// The call's own refusal on a board, 0 for none. A refusal may look at the board, so it is asked to be sound.
+fn own_refusal(board: Board, tag: u8, rest: &[u8]) -> u8
+    requires { ⌜ (3 + valueLength tag ≤ length (now rest)) × (sound board ≡ true) ⌝ }
     ensures { λ r. ⌜ r ≡ callOf tag (argumentsOf tag (now (rest .entry))) board .refusal ⌝ }
 {
     match tag {
@@ -94,6 +103,40 @@ pub fn own_refusal(board: Board, tag: u8, rest: &[u8]) -> u8
         3 => registers::address_refusal(address_at(rest)),
         7 => source_refusal(SourceNumber(byte_at(rest, 3)), byte_at(rest, 4)),
         _ => 0,
+    }
+}
+
+// A call that is refused.
+fn refused(refusal: u8) -> Front
+    ensures { λ r. ⌜ r .refusal ≡ refusal ⌝ }
+{
+    Front {
+        refusal,
+        length: 0,
+        size: 0,
+    }
+}
+
+// The call at the front, on a board and with so much room for its answer.
+pub fn front_of(board: Board, rest: &[u8], room: usize) -> Front
+    requires { ⌜ sound board ≡ true ⌝ }
+    ensures { λ r. ⌜ FrontIs board (now (rest .entry)) room r ⌝ }
+{
+    let frame = format::frame_of(rest);
+    if frame.refusal != 0 {
+        return refused(frame.refusal);
+    }
+    let own = own_refusal(board, rest[0], rest);
+    if own != 0 {
+        return refused(own);
+    }
+    if room < format::HEADER_LENGTH + frame.answer {
+        return refused(format::ANSWER_TOO_LONG);
+    }
+    Front {
+        refusal: 0,
+        length: format::HEADER_LENGTH + frame.value,
+        size: frame.answer,
     }
 }
 
@@ -115,7 +158,7 @@ pub fn passing(board: Board, tag: u8, rest: &[u8]) -> Passing
 
 // The answer of a call after which the line is as given. Advance and skip answer it, skip with the cycles too; another
 // call has its answer.
-pub fn answered(tag: u8, cycles: Cycles, line: bool, answer: Answer) -> Answer
+fn answered(tag: u8, cycles: Cycles, line: bool, answer: Answer) -> Answer
     ensures { λ r. ⌜ valueBytes r ≡ answeredBytes tag (cycles .0) line (valueBytes answer) ⌝ }
 {
     match tag {
@@ -123,6 +166,24 @@ pub fn answered(tag: u8, cycles: Cycles, line: bool, answer: Answer) -> Answer
         6 => Answer::Skip(cycles.0, flag(line)),
         _ => answer,
     }
+}
+
+// Writes the answer's record from index at on; `size` is the bytes of its members.
+pub fn put_answer(
+    buf: &mut [u8],
+    at: usize,
+    tag: u8,
+    size: usize,
+    cycles: Cycles,
+    line: bool,
+    answer: Answer,
+)
+    requires { ⌜ (size ≡ length (answeredBytes tag (cycles .0) line (valueBytes answer)))
+        × (at + 3 + size ≤ length (now buf)) ⌝ }
+    ensures { λ _. ⌜ now (buf .exit)
+        ≡ sets (now (buf .entry)) at (recordOf tag (answeredBytes tag (cycles .0) line (valueBytes answer))) ⌝ }
+{
+    format::put_record(buf, at, tag, size, answered(tag, cycles, line, answer));
 }
 
 pub fn deadline(board: Board) -> Answer

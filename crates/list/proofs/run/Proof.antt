@@ -22,7 +22,7 @@ use Rattle.format.proofs.Frames.{framed, part-rest, answer-length}
 use Rattle.perform.specs.Calls.{callAt}
 use Rattle.perform.specs.CodeCalls.{answeredBytes}
 use Rattle.list.specs.Run.{runOf, over}
-use Rattle.list.proofs.Turns.{clear}
+use Rattle.perform.proofs.Refusals.{clear}
 use Rattle.list.proofs.Advances.{Advancing, begins, next-phase, turns, passed-over, still-timed, all-advanced}
 use Rattle.list.proofs.Runs.{Running, Ran, stateOf, begun, ended}
 use Rattle.list.proofs.Accepted.{
@@ -55,10 +55,9 @@ use Rattle.channel.proofs.ChannelNumber.selected.Reads as selected-reads
 use Rattle.channel.proofs.HardwareTimer.advance_cycles.Reads as advance-cycles-reads
 use Rattle.channel.proofs.HardwareTimer.runs.Reads as runs-reads
 use Rattle.clock.proofs.Clock.advance.Reads as advance-reads
-use Rattle.format.proofs.put_record.Reads as put-record-reads
-use Rattle.list.proofs.front_of.Reads as front-of-reads
+use Rattle.perform.proofs.put_answer.Reads as put-answer-reads
+use Rattle.perform.proofs.front_of.Reads as front-of-reads
 use Rattle.offsets.proofs.writes.acknowledged.Reads as acknowledged-reads
-use Rattle.perform.proofs.answered.Reads as answered-reads
 use Rattle.perform.proofs.byte_at.Reads as byte-at-reads
 use Rattle.perform.proofs.deadline.Reads as deadline-reads
 use Rattle.perform.proofs.effect_of.Reads as effect-of-reads
@@ -139,10 +138,8 @@ Met = lts.At-match-came (
   line-reads.Learnt,
   controller-wired-reads.Asked,
   controller-wired-reads.Learnt,
-  answered-reads.Asked,
-  answered-reads.Learnt,
-  put-record-reads.Asked,
-  put-record-reads.Learnt,
+  put-answer-reads.Asked,
+  put-answer-reads.Learnt,
 ) reads.Pre reads.Post Inv-loop2 μ-loop2 Inv-loop μ-loop
 
 abbrev Set : Type 0
@@ -195,10 +192,8 @@ Set = lts.Joined6 (
   line-reads.Learnt,
   controller-wired-reads.Asked,
   controller-wired-reads.Learnt,
-  answered-reads.Asked,
-  answered-reads.Learnt,
-  put-record-reads.Asked,
-  put-record-reads.Learnt,
+  put-answer-reads.Asked,
+  put-answer-reads.Learnt,
 ) reads.Pre reads.Post Inv-loop2 μ-loop2 Inv-loop μ-loop
 
 -- what is left of the list
@@ -281,20 +276,19 @@ board-set j =
     ]
 
 -- the answer is that of the call
-value-set : (j : Set) (r : Answer) →
-    valueBytes r
-    ≡ answeredBytes (tagAt (restOf (j .before))) (j .before .match .cycles .0) (j .if6 .line)
-    (valueBytes (j .before .match .answer)) →
-    valueBytes r
+value-set : (j : Set) →
+    answeredBytes (tagAt (restOf (j .before))) (j .before .match .cycles .0) (j .if6 .line)
+    (valueBytes (j .before .match .answer))
     ≡ answerBytes (tagAt (restOf (j .before))) (callAt (restOf (j .before)) (boardOf (j .before)) .members)
-value-set j r e = e ∙ carried (j .before) .bytes (j .if6 .line) (line-set j)
+value-set j = carried (j .before) .bytes (j .if6 .line) (line-set j)
 
 sound-requires : tie.Need-sound-requires Inv-loop2 μ-loop2 Inv-loop μ-loop
 sound-requires c κs = search needs
 
 returns : tie.Need-returns Inv-loop2 μ-loop2 Inv-loop μ-loop
 unfolding runOf over
-returns c = let start = c .before .before .before .before in
+returns c =
+    let start = c .before .before .before .before in
     let e : sound (start .args .board) ≡ false = sym (c .before .sound .ensures .0)
     ∙ not-true _ (c .if1 .taken) in
     rw e (refl, refl)
@@ -321,14 +315,15 @@ sub-front-of c = omega (
 )
 
 front-of-requires : tie.Need-front-of-requires Inv-loop2 μ-loop2 Inv-loop μ-loop
-front-of-requires c κs = search needs
+front-of-requires c κs = c .before .before .loop .inv .sound
 
 same-length : tie.Need-same-length Inv-loop2 μ-loop2 Inv-loop μ-loop
 same-length c = omega (arith, c .before .before .before .before .before .loop .inv .same)
 
 returns-2 : tie.Need-returns-2 Inv-loop2 μ-loop2 Inv-loop μ-loop
 unfolding runOf Ran
-returns-2 c = let looped = c .before .before .before .before .before in
+returns-2 c =
+    let looped = c .before .before .before .before .before in
     let p = looped .before in
     let s : sound (p .before .before .before .before .args .board) ≡ true = sym (p .before .sound .ensures .0)
     ∙ not-false _ (p .if1 .left) in
@@ -338,12 +333,14 @@ returns-2 c = let looped = c .before .before .before .before .before in
     (ne-eqb _ _ (c .if2 .taken)))
 
 shared-slice-read-tag : tie.Need-shared-slice-read-tag Inv-loop2 μ-loop2 Inv-loop μ-loop
-shared-slice-read-tag c = let u = c .before in
+shared-slice-read-tag c =
+    let u = c .before in
     let z = sym (u .before .before .front-of .ensures .0) ∙ u .if2 .left in
     omega (arith, framed _ (clear _ _ _ z .frame) .0)
 
 offset-at-requires : tie.Need-offset-at-requires Inv-loop2 μ-loop2 Inv-loop μ-loop
-offset-at-requires c κs = let u = c .before .before in
+offset-at-requires c κs =
+    let u = c .before .before in
     let z = sym (u .before .before .front-of .ensures .0) ∙ u .if2 .left in
     omega (arith, value-in _ 2 (clear _ _ _ z .frame) (c .match .keys1))
 
@@ -373,12 +370,14 @@ reading-at-requires c κs = let o = c .before .before .before .before .before .b
 )
 
 offset-at-requires-2 : tie.Need-offset-at-requires-2 Inv-loop2 μ-loop2 Inv-loop μ-loop
-offset-at-requires-2 c κs = let u = c .before .before in
+offset-at-requires-2 c κs =
+    let u = c .before .before in
     let z = sym (u .before .before .front-of .ensures .0) ∙ u .if2 .left in
     omega (arith, value-in _ 3 (clear _ _ _ z .frame) (c .match .keys2))
 
 byte-at-requires : tie.Need-byte-at-requires Inv-loop2 μ-loop2 Inv-loop μ-loop
-byte-at-requires c κs = let u = c .before .before .before in
+byte-at-requires c κs =
+    let u = c .before .before .before in
     let z = sym (u .before .before .front-of .ensures .0) ∙ u .if2 .left in
     omega (arith, value-in _ 3 (clear _ _ _ z .frame) (c .before .match .keys2))
 
@@ -404,7 +403,8 @@ enum-told-4 : tie.Need-enum-told-4 Inv-loop2 μ-loop2 Inv-loop μ-loop
 enum-told-4 c = search needs
 
 clock-after-requires : tie.Need-clock-after-requires Inv-loop2 μ-loop2 Inv-loop μ-loop
-clock-after-requires c κs = let i = c .before .before .before .before .before .before .before .before .before .before .before .before .before .loop .inv in
+clock-after-requires c κs =
+    let i = c .before .before .before .before .before .before .before .before .before .before .before .before .before .loop .inv in
     sound-times _ (i .fits .clock) (i .sound)
 
 enum-told-5 : tie.Need-enum-told-5 Inv-loop2 μ-loop2 Inv-loop μ-loop
@@ -433,7 +433,8 @@ at-control-requires c κs = channel-range _ (sym (c .before .before .before .bef
     ∙ c .before .before .before .enum-told5 .given .1)
 
 passing-requires : tie.Need-passing-requires Inv-loop2 μ-loop2 Inv-loop μ-loop
-passing-requires c κs = let u = c .before .before in
+passing-requires c κs =
+    let u = c .before .before in
     let z = sym (u .before .before .front-of .ensures .0) ∙ u .if2 .left in
     (framed _ (clear _ _ _ z .frame) .0, c .before .before .before .before .before .before .before .loop .inv .sound)
 
@@ -441,7 +442,8 @@ channels-requires : tie.Need-channels-requires Inv-loop2 μ-loop2 Inv-loop μ-lo
 channels-requires c κs = search needs
 
 loop2-holds : tie.Need-loop2-holds Inv-loop2 μ-loop2 Inv-loop μ-loop
-loop2-holds c = let i = c .before .before .before .before .before .before .before .before .before .before .before .loop .inv in
+loop2-holds c =
+    let i = c .before .before .before .before .before .before .before .before .before .before .before .loop .inv in
     (c .channels .ensures .0, begins _ _ _ (c .channels .ensures .1) (sound-facts _ (i .sound) .timers))
 
 mul-timer-3 : tie.Need-mul-timer-3 Inv-loop2 μ-loop2 Inv-loop μ-loop
@@ -450,8 +452,8 @@ mul-timer-3 c = omega (arith, c .loop2-test .taken, c .before .loop2 .inv .0)
 element-copy-out-timer-3 : tie.Need-element-copy-out-timer-3 Inv-loop2 μ-loop2 Inv-loop μ-loop
 element-copy-out-timer-3 c = omega (arith, c .loop2-test .taken, c .before .loop2 .inv .0)
 
-cast-t78 : tie.Need-cast-t78 Inv-loop2 μ-loop2 Inv-loop μ-loop
-cast-t78 c = omega (arith, c .before .loop2-test .taken, c .before .before .loop2 .inv .0)
+cast-t77 : tie.Need-cast-t77 Inv-loop2 μ-loop2 Inv-loop μ-loop
+cast-t77 c = omega (arith, c .before .loop2-test .taken, c .before .before .loop2 .inv .0)
 
 selected-requires : tie.Need-selected-requires Inv-loop2 μ-loop2 Inv-loop μ-loop
 selected-requires c κs = search needs
@@ -476,7 +478,8 @@ loop2-less : tie.Need-loop2-less Inv-loop2 μ-loop2 Inv-loop μ-loop
 loop2-less c = omega (arith, c .before .before .before .before .loop2-test .taken, c .before .before .before .before .before .loop2 .inv .0)
 
 loop2-again : tie.Need-loop2-again Inv-loop2 μ-loop2 Inv-loop μ-loop
-loop2-again c = let l = c .before .before .before .before .before .loop2 in
+loop2-again c =
+    let l = c .before .before .before .before .before .loop2 in
     let h : l .i < 4 = omega (arith, c .before .before .before .before .loop2-test .taken, l .inv .0) in
     let e = c .before .before .selected .ensures in (
       l .inv .0,
@@ -487,14 +490,16 @@ loop2-again c = let l = c .before .before .before .before .before .loop2 in
     )
 
 advance-requires : tie.Need-advance-requires Inv-loop2 μ-loop2 Inv-loop μ-loop
-advance-requires c κs = let i = c .before .before .before .before .before .before .before .before .before .before .before .before .before .before .loop .inv in
+advance-requires c κs =
+    let i = c .before .before .before .before .before .before .before .before .before .before .before .before .before .before .loop .inv in
     still-timed _ _ _ _ _ (c .before .before .loop2 .inv .1) (sound-times _ (i .fits .clock) (i .sound))
 
 deadline-requires : tie.Need-deadline-requires Inv-loop2 μ-loop2 Inv-loop μ-loop
 deadline-requires c κs = c .before .before .before .before .before .before .before .loop .inv .sound
 
 effect-of-requires : tie.Need-effect-of-requires Inv-loop2 μ-loop2 Inv-loop μ-loop
-effect-of-requires c κs = let u = c .before .before in
+effect-of-requires c κs =
+    let u = c .before .before in
     let z = sym (u .before .before .front-of .ensures .0) ∙ u .if2 .left in
     let f = framed _ (clear _ _ _ z .frame) in
     let n = c .match .rest in
@@ -506,30 +511,31 @@ line-requires c κs = search needs
 controller-wired-requires : tie.Need-controller-wired-requires Inv-loop2 μ-loop2 Inv-loop μ-loop
 controller-wired-requires c κs = search needs
 
-answered-requires : tie.Need-answered-requires Inv-loop2 μ-loop2 Inv-loop μ-loop
-answered-requires c κs = search needs
-
-put-record-requires : tie.Need-put-record-requires Inv-loop2 μ-loop2 Inv-loop μ-loop
-put-record-requires c κs = let joined = c .before .before in
-    let u = c .before .before .before .before .before in
+put-answer-requires : tie.Need-put-answer-requires Inv-loop2 μ-loop2 Inv-loop μ-loop
+put-answer-requires c κs =
+    let joined = c .before in
+    let u = c .before .before .before .before in
     let fronted = u .before .before in
     let i = fronted .before .before .before .loop .inv in
     let z = sym (u .before .before .front-of .ensures .0) ∙ u .if2 .left in
     let n = fronted .front-of .ensures .1 z .1 in
-    let e = value-set joined (c .before .answered .result) (c .before .answered .ensures) in
     let l = restOf (joined .before) in (
-      n ∙ sym (ap length e ∙ answer-length (tagAt l) (callAt l (boardOf (joined .before)) .members)),
+      n
+          ∙ sym (ap length (value-set joined)
+          ∙ answer-length (tagAt l) (callAt l (boardOf (joined .before)) .members)),
       omega (arith, n, clear _ _ _ z .fits, i .same, i .counted, i .room),
     )
 
 add-calls : tie.Need-add-calls Inv-loop2 μ-loop2 Inv-loop μ-loop
-add-calls c = let inside = c .before .before .before .before .before .before .before .before .before .before .before .before in
+add-calls c =
+    let inside = c .before .before .before .before .before .before .before .before .before .before .before in
     let looped = inside .before in
     let start = looped .before .before .before .before .before in
     omega (arith, looped .loop .inv .calls-in, inside .loop-test .taken, start .good)
 
 add-used : tie.Need-add-used Inv-loop2 μ-loop2 Inv-loop μ-loop
-add-used c = let u = c .before .before .before .before .before .before .before .before .before in
+add-used c =
+    let u = c .before .before .before .before .before .before .before .before in
     let fronted = u .before .before in
     let looped = fronted .before .before .before in
     let start = looped .before .before .before .before .before in
@@ -546,7 +552,8 @@ add-used c = let u = c .before .before .before .before .before .before .before .
     )
 
 add-written : tie.Need-add-written Inv-loop2 μ-loop2 Inv-loop μ-loop
-add-written c = let u = c .before .before .before .before .before .before .before .before .before .before in
+add-written c =
+    let u = c .before .before .before .before .before .before .before .before .before in
     let fronted = u .before .before in
     let looped = fronted .before .before .before in
     let z = sym (u .before .before .front-of .ensures .0) ∙ u .if2 .left in
@@ -562,7 +569,8 @@ add-written c = let u = c .before .before .before .before .before .before .befor
     )
 
 add-written-2 : tie.Need-add-written-2 Inv-loop2 μ-loop2 Inv-loop μ-loop
-add-written-2 c = let u = c .before .before .before .before .before .before .before .before .before .before in
+add-written-2 c =
+    let u = c .before .before .before .before .before .before .before .before .before in
     let fronted = u .before .before in
     let looped = fronted .before .before .before in
     let z = sym (u .before .before .front-of .ensures .0) ∙ u .if2 .left in
@@ -578,15 +586,16 @@ add-written-2 c = let u = c .before .before .before .before .before .before .bef
     )
 
 loop-less : tie.Need-loop-less Inv-loop2 μ-loop2 Inv-loop μ-loop
-loop-less c = let u = c .before .before .before .before .before .before .before .before .before .before in
+loop-less c =
+    let u = c .before .before .before .before .before .before .before .before .before in
     let fronted = u .before .before in
     let z = sym (u .before .before .front-of .ensures .0) ∙ u .if2 .left in
     omega (arith, fronted .before .before .loop-test .taken, fronted .front-of .ensures .1 z .0)
 
 loop-again : tie.Need-loop-again Inv-loop2 μ-loop2 Inv-loop μ-loop
-loop-again c = let put = c .before .before .before .before in
-    let replied = put .before .before in
-    let joined = replied .before in
+loop-again c =
+    let put = c .before .before .before .before in
+    let joined = put .before .before in
     let known = joined .before .before in
     let u = known .before in
     let fronted = u .before .before in
@@ -596,17 +605,17 @@ loop-again c = let put = c .before .before .before .before in
     let n = fronted .front-of .ensures .1 z in
     goes-on _ _ _ _ _ _ _ _ (looped .loop .inv) (inside .loop-test .taken)
     (λ i. omega (arith, rw part-rest at (known .shared-slice-known2 .given i))) (rw part-rest at z) _
-    (rw part-rest at (board-set joined)) _
-    (rw part-rest at (value-set joined (replied .answered .result) (replied .answered .ensures)))
-    (put .put-record .last .0) (rw part-rest at (put .put-record .ensures)) (fronted .front-of .result .length)
-    (fronted .front-of .result .size) (rw part-rest at (n .0)) (rw part-rest at (n .1))
+    (rw part-rest at (board-set joined)) _ (rw part-rest at (value-set joined)) (put .put-answer .last .0)
+    (rw part-rest at (put .put-answer .ensures)) (fronted .front-of .result .length) (fronted .front-of .result .size)
+    (rw part-rest at (n .0)) (rw part-rest at (n .1))
 
 same-length-2 : tie.Need-same-length-2 Inv-loop2 μ-loop2 Inv-loop μ-loop
 same-length-2 c = omega (arith, c .before .loop .inv .same)
 
 returns-3 : tie.Need-returns-3 Inv-loop2 μ-loop2 Inv-loop μ-loop
 unfolding runOf Ran
-returns-3 c = let p = c .before .before in
+returns-3 c =
+    let p = c .before .before in
     let s : sound (p .before .before .before .before .args .board) ≡ true = sym (p .before .sound .ensures .0)
     ∙ not-false _ (p .if1 .left) in
     rw s (ended _ _ _ _ _ (c .before .loop .inv) (c .loop-test .left))
@@ -660,7 +669,7 @@ run-spec =
     loop2-holds
     mul-timer-3
     element-copy-out-timer-3
-    cast-t78
+    cast-t77
     selected-requires
     runs-requires
     advance-cycles-requires
@@ -674,8 +683,7 @@ run-spec =
     effect-of-requires
     line-requires
     controller-wired-requires
-    answered-requires
-    put-record-requires
+    put-answer-requires
     add-calls
     add-used
     add-written

@@ -12,7 +12,7 @@ use Rattle.perform.proofs.own_refusal.Tie as tie
 
 host-at-requires : tie.Need-host-at-requires
 host-at-requires c κs = let h : 15 ≤ length (c .before .before .args .rest .now) =
-    rw (c .match .keys1) at (c .before .before .pre) in
+    rw (c .match .keys1) at (c .before .before .pre .0) in
     omega arith
 
 host-time-refusal-requires : tie.Need-host-time-refusal-requires
@@ -20,7 +20,7 @@ host-time-refusal-requires c κs = search needs
 
 address-at-requires : tie.Need-address-at-requires
 address-at-requires c κs = let h : 5 ≤ length (c .before .before .args .rest .now) =
-    rw (c .match .keys2) at (c .before .before .pre) in
+    rw (c .match .keys2) at (c .before .before .pre .0) in
     omega arith
 
 address-refusal-requires : tie.Need-address-refusal-requires
@@ -28,7 +28,7 @@ address-refusal-requires c κs = search needs
 
 address-at-requires-2 : tie.Need-address-at-requires-2
 address-at-requires-2 c κs = let h : 6 ≤ length (c .before .before .args .rest .now) =
-    rw (c .match .keys3) at (c .before .before .pre) in
+    rw (c .match .keys3) at (c .before .before .pre .0) in
     omega arith
 
 address-refusal-requires-2 : tie.Need-address-refusal-requires-2
@@ -36,12 +36,12 @@ address-refusal-requires-2 c κs = search needs
 
 byte-at-requires : tie.Need-byte-at-requires
 byte-at-requires c κs = let h : 5 ≤ length (c .before .before .args .rest .now) =
-    rw (c .match .keys4) at (c .before .before .pre) in
+    rw (c .match .keys4) at (c .before .before .pre .0) in
     omega arith
 
 byte-at-requires-2 : tie.Need-byte-at-requires-2
 byte-at-requires-2 c κs = let h : 5 ≤ length (c .before .before .before .args .rest .now) =
-    rw (c .before .match .keys4) at (c .before .before .before .pre) in
+    rw (c .before .match .keys4) at (c .before .before .before .pre .0) in
     omega arith
 
 source-refusal-requires : tie.Need-source-refusal-requires

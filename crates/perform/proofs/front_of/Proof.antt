@@ -5,11 +5,18 @@ use native.Mathlib.Omega.{arith}
 use borrow.Author.Tests.{ne-eqb}
 use Rattle.format.specs.Format.{frameRefusal}
 use Rattle.format.proofs.Frames.{framed}
-use Rattle.list.proofs.Turns.{refused-front, refused-frame, refused-own, refused-room, unrefused}
-use Rattle.list.proofs.Accepted.{size-most, length-most}
+use Rattle.perform.proofs.Refusals.{
+  size-most,
+  length-most,
+  refused-front,
+  refused-frame,
+  refused-own,
+  refused-room,
+  unrefused,
+}
 use borrow.Author.Needs.{needs}
-use Rattle.list.proofs.front_of.Statement.{statement}
-use Rattle.list.proofs.front_of.Tie as tie
+use Rattle.perform.proofs.front_of.Statement.{statement}
+use Rattle.perform.proofs.front_of.Tie as tie
 
 frame-of-requires : tie.Need-frame-of-requires
 frame-of-requires c κs = search needs
@@ -32,7 +39,7 @@ own-refusal-requires : tie.Need-own-refusal-requires
 own-refusal-requires c κs = let s = c .before .before .before .before .before in
     let z : frameRefusal (s .args .rest .now) ≡ 0 = sym (c .before .before .before .frame-of .ensures .0)
     ∙ c .before .if1 .left in
-    framed (s .args .rest .now) z .0
+    (framed (s .args .rest .now) z .0, s .pre)
 
 refused-requires-2 : tie.Need-refused-requires-2
 refused-requires-2 c κs = search needs
