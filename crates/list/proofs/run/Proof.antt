@@ -42,6 +42,7 @@ use Rattle.list.proofs.Accepted.{
   goes-on,
   ends,
 }
+use Prim.{tt}
 use borrow.Author.Needs.{needs}
 use Rattle.list.proofs.run.Statement.{statement}
 use Rattle.list.proofs.run.Tie as tie
@@ -283,7 +284,7 @@ value-set : (j : Set) →
 value-set j = carried (j .before) .bytes (j .if6 .line) (line-set j)
 
 sound-requires : tie.Need-sound-requires Inv-loop2 μ-loop2 Inv-loop μ-loop
-sound-requires c κs = search needs
+sound-requires c κs = tt
 
 returns : tie.Need-returns Inv-loop2 μ-loop2 Inv-loop μ-loop
 unfolding runOf over
@@ -345,7 +346,7 @@ offset-at-requires c κs =
     omega (arith, value-in _ 2 (clear _ _ _ z .frame) (c .match .keys1))
 
 channel-index-requires : tie.Need-channel-index-requires Inv-loop2 μ-loop2 Inv-loop μ-loop
-channel-index-requires c κs = search needs
+channel-index-requires c κs = tt
 
 mul-timer : tie.Need-mul-timer Inv-loop2 μ-loop2 Inv-loop μ-loop
 mul-timer c = omega (arith, c .channel-index .ensures .1)
@@ -354,7 +355,7 @@ element-copy-out-timer : tie.Need-element-copy-out-timer Inv-loop2 μ-loop2 Inv-
 element-copy-out-timer c = c .channel-index .ensures .1
 
 plain-requires : tie.Need-plain-requires Inv-loop2 μ-loop2 Inv-loop μ-loop
-plain-requires c κs = search needs
+plain-requires c κs = tt
 
 plain-at-requires : tie.Need-plain-at-requires Inv-loop2 μ-loop2 Inv-loop μ-loop
 plain-at-requires c κs = let o = c .before .before .before .before .before .before .before .before .before .before .before .before .loop in (
@@ -382,7 +383,7 @@ byte-at-requires c κs =
     omega (arith, value-in _ 3 (clear _ _ _ z .frame) (c .before .match .keys2))
 
 part-at-requires : tie.Need-part-at-requires Inv-loop2 μ-loop2 Inv-loop μ-loop
-part-at-requires c κs = search needs
+part-at-requires c κs = tt
 
 enum-told : tie.Need-enum-told Inv-loop2 μ-loop2 Inv-loop μ-loop
 enum-told c = search needs
@@ -391,13 +392,13 @@ enum-told-2 : tie.Need-enum-told-2 Inv-loop2 μ-loop2 Inv-loop μ-loop
 enum-told-2 c = search needs
 
 enable-after-requires : tie.Need-enable-after-requires Inv-loop2 μ-loop2 Inv-loop μ-loop
-enable-after-requires c κs = search needs
+enable-after-requires c κs = tt
 
 enum-told-3 : tie.Need-enum-told-3 Inv-loop2 μ-loop2 Inv-loop μ-loop
 enum-told-3 c = search needs
 
 acknowledged-requires : tie.Need-acknowledged-requires Inv-loop2 μ-loop2 Inv-loop μ-loop
-acknowledged-requires c κs = search needs
+acknowledged-requires c κs = tt
 
 enum-told-4 : tie.Need-enum-told-4 Inv-loop2 μ-loop2 Inv-loop μ-loop
 enum-told-4 c = search needs
@@ -411,7 +412,7 @@ enum-told-5 : tie.Need-enum-told-5 Inv-loop2 μ-loop2 Inv-loop μ-loop
 enum-told-5 c = search needs
 
 channel-index-requires-2 : tie.Need-channel-index-requires-2 Inv-loop2 μ-loop2 Inv-loop μ-loop
-channel-index-requires-2 c κs = search needs
+channel-index-requires-2 c κs = tt
 
 mul-timer-2 : tie.Need-mul-timer-2 Inv-loop2 μ-loop2 Inv-loop μ-loop
 mul-timer-2 c = omega (arith, c .channel-index2 .ensures .1)
@@ -439,7 +440,7 @@ passing-requires c κs =
     (framed _ (clear _ _ _ z .frame) .0, c .before .before .before .before .before .before .before .loop .inv .sound)
 
 channels-requires : tie.Need-channels-requires Inv-loop2 μ-loop2 Inv-loop μ-loop
-channels-requires c κs = search needs
+channels-requires c κs = tt
 
 loop2-holds : tie.Need-loop2-holds Inv-loop2 μ-loop2 Inv-loop μ-loop
 loop2-holds c =
@@ -456,10 +457,10 @@ cast-t77 : tie.Need-cast-t77 Inv-loop2 μ-loop2 Inv-loop μ-loop
 cast-t77 c = omega (arith, c .before .loop2-test .taken, c .before .before .loop2 .inv .0)
 
 selected-requires : tie.Need-selected-requires Inv-loop2 μ-loop2 Inv-loop μ-loop
-selected-requires c κs = search needs
+selected-requires c κs = tt
 
 runs-requires : tie.Need-runs-requires Inv-loop2 μ-loop2 Inv-loop μ-loop
-runs-requires c κs = search needs
+runs-requires c κs = tt
 
 advance-cycles-requires : tie.Need-advance-cycles-requires Inv-loop2 μ-loop2 Inv-loop μ-loop
 advance-cycles-requires c κs = next-phase _ _ _ _ _ (c .before .before .before .before .before .loop2 .inv .1)
@@ -506,10 +507,10 @@ effect-of-requires c κs =
     (f .0, lesser _ (f .1 .0) (f .1 .1) (n .0 .0 .0 .1) (n .0 .0 .1) (n .0 .1) (n .1))
 
 line-requires : tie.Need-line-requires Inv-loop2 μ-loop2 Inv-loop μ-loop
-line-requires c κs = search needs
+line-requires c κs = tt
 
 controller-wired-requires : tie.Need-controller-wired-requires Inv-loop2 μ-loop2 Inv-loop μ-loop
-controller-wired-requires c κs = search needs
+controller-wired-requires c κs = tt
 
 put-answer-requires : tie.Need-put-answer-requires Inv-loop2 μ-loop2 Inv-loop μ-loop
 put-answer-requires c κs =
