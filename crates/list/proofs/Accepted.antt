@@ -147,7 +147,8 @@ module _ (l : List ℕ) (b : Board) where
           })
           (sym (plain-latches offset q b))
 
-      pub plain-carried : tagAt l ≡ 2 → plainAt offset ≡ true → (r : PlainReading) → r ≡ plainOf (offsetReading offset b) →
+      pub plain-carried : tagAt l ≡ 2 → plainAt offset ≡ true → (r : PlainReading) →
+          r ≡ plainOf (offsetReading offset b) →
           y
           ≡ afterReading
           (record { latches = b .latches; byte = r .byte; pending = r .pending; armed = r .armed; rose = r .rose }) b →

@@ -72,8 +72,8 @@ module _ (enable c i : ℕ) (b₀ b : Board) (a : Advancing enable c i b₀ b) w
       subst (Advancing enable c (i + 1) b₀) same (turns h v e m (sym (advanced-still v c m n)))
 
   -- after the last turn, and with the clock advanced
-  pub all-advanced : 4 ≤ i → enable ≡ b₀ .«timer_enable» → (k : Clock) → k ≡ advanceClock (rateOf (b .clock)) c (b .clock) →
-      withClock k b ≡ movedBoard c b₀
+  pub all-advanced : 4 ≤ i → enable ≡ b₀ .«timer_enable» → (k : Clock) →
+      k ≡ advanceClock (rateOf (b .clock)) c (b .clock) → withClock k b ≡ movedBoard c b₀
   unfolding movedBoard
   all-advanced h e k q =
       let n : i ≡ 4 = omega (arith, h, a .below) in

@@ -38,7 +38,8 @@ use Rattle.list.proofs.Runs.{go-on, stop-at}
 -- ---- one call
 
 -- the call at the front, by its tag and the members of its value
-advance-at : (tag : ℕ) (l : List ℕ) (b : Board) → tag ≡ 4 → callOf tag (argumentsOf tag l) b ≡ advanceCall (beAt l 3 8) b
+advance-at : (tag : ℕ) (l : List ℕ) (b : Board) → tag ≡ 4 → callOf tag (argumentsOf tag l) b ≡ advanceCall (beAt l 3
+    8) b
 unfolding callOf membersAt
 advance-at tag l b e = rw e
 

@@ -32,13 +32,14 @@ module _ (b : Board) (l : List ℕ) (room : ℕ) where
   turn-done z = rw z
 
   -- the record of the answer has the length that its tag says
-  pub record-size : length (recordOf (tagAt l) (answerBytes (tagAt l) (callAt l b .members))) ≡ 3 + answerLength (tagAt l)
+  pub record-size : length (recordOf (tagAt l) (answerBytes (tagAt l) (callAt l b .members))) ≡ 3 + answerLength
+      (tagAt l)
   record-size =
       record-length (tagAt l) (answerBytes (tagAt l) (callAt l b .members))
       ∙ ap (λ (n : ℕ). 3 + n) (answer-length (tagAt l) (callAt l b .members))
 
-  -- a call that is done is a call of the list that is not refused, and its answer has room; a call that is refused has a
-  -- number
+  -- a call that is done is a call of the list that is not refused, and its answer has room; a call that is refused has
+  -- a number
   unfoldable pub Placed : Turn → Type 0
   Placed (done b′ n a) =
       Clear b l room × ((n ≡ 3 + valueLength (tagAt l)) × ((length a ≤ room) × (b′ ≡ boardAfter (callAt l b))))

@@ -12,16 +12,15 @@ use Rattle.format.specs.Format.{valueLength, answerLength, tagAt, frameRefusal}
 use Rattle.format.proofs.Frames.{framed, by-tag}
 use Rattle.perform.specs.Calls.{callAt, refusalAt}
 
--- the answers' members have 25 bytes at most
-pub size-most : (l : List ℕ) → frameRefusal l ≡ 0 → answerLength (tagAt l) ≤ 25
+-- the lengths of a known tag are below 256: their sums with a header stay in a word
+pub size-most : (l : List ℕ) → frameRefusal l ≡ 0 → answerLength (tagAt l) < 256
 size-most l z =
-    by-tag (λ (t : ℕ). answerLength t ≤ 25) (tagAt l) (framed l z .1 .0) (framed l z .1 .1) (omega arith) (omega arith)
+    by-tag (λ (t : ℕ). answerLength t < 256) (tagAt l) (framed l z .1 .0) (framed l z .1 .1) (omega arith) (omega arith)
     (omega arith) (omega arith) (omega arith) (omega arith) (omega arith) (omega arith) (omega arith) (omega arith)
 
--- and the values' 12
-pub length-most : (l : List ℕ) → frameRefusal l ≡ 0 → valueLength (tagAt l) ≤ 12
+pub length-most : (l : List ℕ) → frameRefusal l ≡ 0 → valueLength (tagAt l) < 256
 length-most l z =
-    by-tag (λ (t : ℕ). valueLength t ≤ 12) (tagAt l) (framed l z .1 .0) (framed l z .1 .1) (omega arith) (omega arith)
+    by-tag (λ (t : ℕ). valueLength t < 256) (tagAt l) (framed l z .1 .0) (framed l z .1 .1) (omega arith) (omega arith)
     (omega arith) (omega arith) (omega arith) (omega arith) (omega arith) (omega arith) (omega arith) (omega arith)
 
 module _ (b : Board) (l : List ℕ) (room : ℕ) where
@@ -38,9 +37,9 @@ module _ (b : Board) (l : List ℕ) (room : ℕ) where
     unfolding refusalAt
     refused-room h = rw (f, o, ← e, lt-ltb _ _ h)
 
-    pub unrefused : 3 + size ≤ room → 0 ≡ refusalAt b l room
+    pub unrefused-front : 3 + size ≤ room → 0 ≡ refusalAt b l room
     unfolding refusalAt
-    unrefused h = rw (f, o, ← e, le-ltb _ _ h)
+    unrefused-front h = rw (f, o, ← e, le-ltb _ _ h)
 
   -- a refusal that is not 0 leaves nothing to say of a call that is not refused
   pub refused-front : {n r : ℕ} {P : Type 0} → r ≡ n → n ≡ refusalAt b l room → eqb n 0 ≡ false →

@@ -55,8 +55,9 @@ callAt l b = callOf (tagAt l) (argumentsOf (tagAt l) l) b
 abbrev pub firstOf : ℕ → ℕ → ℕ
 firstOf m n = cond (eqb m 0) n m
 
--- the refusal of the call at the front of a list, 0 for none, with so much room for its answer: 'for each call: 2 one or
--- two bytes left; 3 unknown tag; 4 wrong length; 5 value cut; the call's own; 11 answer longer than the buffer's rest'
+-- the refusal of the call at the front of a list, 0 for none, with so much room for its answer: 'for each call: 2 one
+-- or two bytes left; 3 unknown tag; 4 wrong length; 5 value cut; the call's own; 11 answer longer than the buffer's
+-- rest'
 unfoldable pub refusalAt : Board → List ℕ → ℕ → ℕ
 refusalAt b l room =
     firstOf (frameRefusal l)

@@ -82,7 +82,8 @@ fn controller_address_at(rest: &[u8]) -> u32
 
 fn host_at(rest: &[u8]) -> HostTime
     requires { ⌜ 15 ≤ length (now rest) ⌝ }
-    ensures { λ r. ⌜ r ≡ record { seconds = beAt (now (rest .entry)) 3 8; nanoseconds = beAt (now (rest .entry)) 11 4 } ⌝ }
+    ensures { λ r. ⌜ r
+        ≡ record { seconds = beAt (now (rest .entry)) 3 8; nanoseconds = beAt (now (rest .entry)) 11 4 } ⌝ }
 {
     HostTime {
         seconds: fields::get(rest, 3, 8),

@@ -13,7 +13,13 @@ use Rattle.board.specs.Board.{line, sound}
 use Rattle.board.specs.Calls.{boardAfter}
 use Rattle.board.specs.Fields.{withTimers, withTimerEnable, withClock, channelAt, withChannel}
 use Rattle.board.proofs.Soundness.{sound-facts}
-use Rattle.registers.specs.declared.writes.WritePart.the-variants.{Nothing, Enable, Acknowledge, Clock as OfClock, Channel}
+use Rattle.registers.specs.declared.writes.WritePart.the-variants.{
+  Nothing,
+  Enable,
+  Acknowledge,
+  Clock as OfClock,
+  Channel,
+}
 use Rattle.registers.proofs.Timing.{sound-times}
 use Rattle.registers.proofs.CodeWrites.{channel-range}
 use Rattle.format.specs.declared.Answer.{Answer}
@@ -200,7 +206,8 @@ Set = lts.Joined6 (
 -- what is left of the list
 abbrev restOf : Met → List ℕ
 restOf c =
-    let l = c .before .before .before .before .before .before .before .before .before .before .before .before .args .list .now in
+    let l = c .before .before .before .before .before .before .before .before .before .before .before .before .args
+    .list .now in
     let n = c .before .before .before .before .before .before .before .loop .used in
     take (length l - n) (drop n l)
 
@@ -216,7 +223,8 @@ carried c =
     let b = boardOf c in
     let i = c .before .before .before .before .before .before .before .loop .inv in
     let s = i .sound in
-    let k = clear b l _ (sym (c .before .before .before .before .front-of .ensures .0) ∙ c .before .before .if2 .left) in
+    let k = clear b l _ (sym (c .before .before .before .before .front-of .ensures .0)
+    ∙ c .before .before .if2 .left) in
     let y = c .match .b in
     let n = c .match .cycles .0 in
     let m = c .match .moved in
@@ -253,7 +261,8 @@ carried c =
       | inr (inr (inr (inr (inr (inr (inr (inr (inl w)))))))) ↦ skip-carried l b s y n m a (w .0 .keys3) (w .1 .result)
           (w .1 .ensures) (ap (λ (x : Cycles). x .0) (w .6)) (w .7) (w .3 .left) (w .4)
       -- the deadline, and the calls that change host time or the controller at most
-      | inr (inr (inr (inr (inr (inr (inr (inr (inr (inl w))))))))) ↦ deadline-carried l b s y n m a (w .0 .keys4) (w .2)
+      | inr (inr (inr (inr (inr (inr (inr (inr (inr (inl w))))))))) ↦ deadline-carried l b s y n m a (w .0 .keys4)
+          (w .2)
           (ap valueBytes (w .3) ∙ w .1 .ensures) (w .5)
       | inr (inr (inr (inr (inr (inr (inr (inr (inr (inr w))))))))) ↦ effect-carried l b s y n m a
           (w .0 .rest .0 .1) (w .1 .result) (w .1 .ensures) (w .5) (w .6) (w .8)
@@ -295,7 +304,8 @@ returns c =
     rw e (refl, refl)
 
 loop-holds : tie.Need-loop-holds Inv-loop2 μ-loop2 Inv-loop μ-loop
-loop-holds c = begun _ _ _ (sym (c .before .sound .ensures .0) ∙ not-false _ (c .if1 .left)) (c .before .sound .ensures .1)
+loop-holds c =
+    begun _ _ _ (sym (c .before .sound .ensures .0) ∙ not-false _ (c .if1 .left)) (c .before .sound .ensures .1)
     refl refl refl
 
 sub-rest : tie.Need-sub-rest Inv-loop2 μ-loop2 Inv-loop μ-loop
@@ -358,17 +368,19 @@ plain-requires : tie.Need-plain-requires Inv-loop2 μ-loop2 Inv-loop μ-loop
 plain-requires c κs = tt
 
 plain-at-requires : tie.Need-plain-at-requires Inv-loop2 μ-loop2 Inv-loop μ-loop
-plain-at-requires c κs = let o = c .before .before .before .before .before .before .before .before .before .before .before .before .loop in (
-  sym (c .before .plain .ensures) ∙ c .if3 .taken,
-  sound-times _ (o .inv .fits .clock) (o .inv .sound),
-  ap (λ (j : ℕ). channelAt j (o .b)) (c .before .before .before .channel-index .ensures .0),
-)
+plain-at-requires c κs =
+    let o = c .before .before .before .before .before .before .before .before .before .before .before .before .loop in (
+      sym (c .before .plain .ensures) ∙ c .if3 .taken,
+      sound-times _ (o .inv .fits .clock) (o .inv .sound),
+      ap (λ (j : ℕ). channelAt j (o .b)) (c .before .before .before .channel-index .ensures .0),
+    )
 
 reading-at-requires : tie.Need-reading-at-requires Inv-loop2 μ-loop2 Inv-loop μ-loop
-reading-at-requires c κs = let o = c .before .before .before .before .before .before .before .before .before .before .before .before .loop in (
-  sound-times _ (o .inv .fits .clock) (o .inv .sound),
-  ap (λ (j : ℕ). channelAt j (o .b)) (c .before .before .before .channel-index .ensures .0),
-)
+reading-at-requires c κs =
+    let o = c .before .before .before .before .before .before .before .before .before .before .before .before .loop in (
+      sound-times _ (o .inv .fits .clock) (o .inv .sound),
+      ap (λ (j : ℕ). channelAt j (o .b)) (c .before .before .before .channel-index .ensures .0),
+    )
 
 offset-at-requires-2 : tie.Need-offset-at-requires-2 Inv-loop2 μ-loop2 Inv-loop μ-loop
 offset-at-requires-2 c κs =
@@ -405,7 +417,8 @@ enum-told-4 c = search needs
 
 clock-after-requires : tie.Need-clock-after-requires Inv-loop2 μ-loop2 Inv-loop μ-loop
 clock-after-requires c κs =
-    let i = c .before .before .before .before .before .before .before .before .before .before .before .before .before .loop .inv in
+    let i = c .before .before .before .before .before .before .before .before .before .before .before .before .before
+    .loop .inv in
     sound-times _ (i .fits .clock) (i .sound)
 
 enum-told-5 : tie.Need-enum-told-5 Inv-loop2 μ-loop2 Inv-loop μ-loop
@@ -421,7 +434,9 @@ element-copy-out-timer-2 : tie.Need-element-copy-out-timer-2 Inv-loop2 μ-loop2 
 element-copy-out-timer-2 c = c .channel-index2 .ensures .1
 
 timer-after-requires : tie.Need-timer-after-requires Inv-loop2 μ-loop2 Inv-loop μ-loop
-timer-after-requires c κs = channel-range _ (sym (c .before .before .before .before .part-at .ensures) ∙ c .before .before .enum-told5 .given .1)
+timer-after-requires c κs =
+    channel-range _ (sym (c .before .before .before .before .part-at .ensures)
+    ∙ c .before .before .enum-told5 .given .1)
 
 mul-after : tie.Need-mul-after Inv-loop2 μ-loop2 Inv-loop μ-loop
 mul-after c = omega (arith, c .before .before .channel-index2 .ensures .1)
@@ -464,19 +479,48 @@ runs-requires c κs = tt
 
 advance-cycles-requires : tie.Need-advance-cycles-requires Inv-loop2 μ-loop2 Inv-loop μ-loop
 advance-cycles-requires c κs = next-phase _ _ _ _ _ (c .before .before .before .before .before .loop2 .inv .1)
-    (omega (arith, c .before .before .before .before .loop2-test .taken, c .before .before .before .before .before .loop2 .inv .0))
+    (omega (
+      arith,
+      c .before .before .before .before .loop2-test .taken,
+      c .before .before .before .before .before
+          .loop2 .inv .0,
+    ))
 
 mul-after-2 : tie.Need-mul-after-2 Inv-loop2 μ-loop2 Inv-loop μ-loop
-mul-after-2 c = omega (arith, c .before .before .before .before .before .loop2-test .taken, c .before .before .before .before .before .before .loop2 .inv .0)
+mul-after-2 c =
+    omega (
+      arith,
+      c .before .before .before .before .before .loop2-test .taken,
+      c .before .before .before .before
+          .before .before .loop2 .inv .0,
+    )
 
 element-set-from-after-2 : tie.Need-element-set-from-after-2 Inv-loop2 μ-loop2 Inv-loop μ-loop
-element-set-from-after-2 c = omega (arith, c .before .before .before .before .before .loop2-test .taken, c .before .before .before .before .before .before .loop2 .inv .0)
+element-set-from-after-2 c =
+    omega (
+      arith,
+      c .before .before .before .before .before .loop2-test .taken,
+      c .before .before .before .before
+          .before .before .loop2 .inv .0,
+    )
 
 add-i : tie.Need-add-i Inv-loop2 μ-loop2 Inv-loop μ-loop
-add-i c = omega (arith, c .before .before .before .before .loop2-test .taken, c .before .before .before .before .before .loop2 .inv .0)
+add-i c =
+    omega (
+      arith,
+      c .before .before .before .before .loop2-test .taken,
+      c .before .before .before .before .before
+          .loop2 .inv .0,
+    )
 
 loop2-less : tie.Need-loop2-less Inv-loop2 μ-loop2 Inv-loop μ-loop
-loop2-less c = omega (arith, c .before .before .before .before .loop2-test .taken, c .before .before .before .before .before .loop2 .inv .0)
+loop2-less c =
+    omega (
+      arith,
+      c .before .before .before .before .loop2-test .taken,
+      c .before .before .before .before .before
+          .loop2 .inv .0,
+    )
 
 loop2-again : tie.Need-loop2-again Inv-loop2 μ-loop2 Inv-loop μ-loop
 loop2-again c =
@@ -492,7 +536,8 @@ loop2-again c =
 
 advance-requires : tie.Need-advance-requires Inv-loop2 μ-loop2 Inv-loop μ-loop
 advance-requires c κs =
-    let i = c .before .before .before .before .before .before .before .before .before .before .before .before .before .before .loop .inv in
+    let i = c .before .before .before .before .before .before .before .before .before .before .before .before .before
+    .before .loop .inv in
     still-timed _ _ _ _ _ (c .before .before .loop2 .inv .1) (sound-times _ (i .fits .clock) (i .sound))
 
 deadline-requires : tie.Need-deadline-requires Inv-loop2 μ-loop2 Inv-loop μ-loop

@@ -37,7 +37,8 @@ read-of-requires : tie.Need-read-of-requires
 read-of-requires c κs = search needs
 
 controller-address-at-requires-2 : tie.Need-controller-address-at-requires-2
-controller-address-at-requires-2 c κs = let h : 8 ≤ length (c .before .before .before .before .before .args .rest .now) =
+controller-address-at-requires-2 c κs =
+    let h : 8 ≤ length (c .before .before .before .before .before .args .rest .now) =
     rw (c .match .keys4) at (c .before .before .before .before .before .pre .0) in
     omega arith
 
@@ -71,7 +72,8 @@ returns-2 c = rw (
 
 returns-3 : tie.Need-returns-3
 unfolding callOf membersAt valueBytes
-returns-3 c = rw (c .before .before .match .keys3, c .read-of .ensures, c .before .controller-address-at .ensures) (refl, refl)
+returns-3 c =
+    rw (c .before .before .match .keys3, c .read-of .ensures, c .before .controller-address-at .ensures) (refl, refl)
 
 returns-4 : tie.Need-returns-4
 unfolding callOf membersAt membersBytes valueBytes

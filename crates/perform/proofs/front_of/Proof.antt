@@ -12,7 +12,7 @@ use Rattle.perform.proofs.Refusals.{
   refused-frame,
   refused-own,
   refused-room,
-  unrefused,
+  unrefused-front,
 }
 use borrow.Author.Needs.{needs}
 use Rattle.perform.proofs.front_of.Statement.{statement}
@@ -80,7 +80,7 @@ returns-4 : tie.Need-returns-4
 returns-4 c = let f = c .before .before .before .before .before .before .before .before in
     let z : frameRefusal (f .before .before .args .rest .now) ≡ 0 = sym (f .frame-of .ensures .0)
     ∙ c .before .before .before .before .before .before .if1 .left in (
-      unrefused _ _ _ z (sym (c .before .before .before .before .own-refusal .ensures)
+      unrefused-front _ _ _ z (sym (c .before .before .before .before .own-refusal .ensures)
           ∙ c .before .before .before .if2 .left) _ (f .frame-of .ensures .1 z .1) (c .before .if3 .left),
       λ _. (ap (λ (n : ℕ). 3 + n) (f .frame-of .ensures .1 z .0), f .frame-of .ensures .1 z .1),
     )

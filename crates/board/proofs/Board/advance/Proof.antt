@@ -13,12 +13,14 @@ refusal-of-requires c κs = search needs
 returns : tie.Need-returns
 returns c = ap advanceAnswer
     (sym
-    (answer-refused (advanceCall (c .before .before .args .cycles .0)) (c .before .before .args .self) (c .before .refusal-of .result)
+    (answer-refused (advanceCall (c .before .before .args .cycles .0)) (c .before .before .args .self) (c .before
+    .refusal-of .result)
     (c .before .refusal-of .ensures .0)
     (ne-eqb _ _ (c .if1 .taken))))
 
 advanced-requires : tie.Need-advanced-requires
-advanced-requires c κs = accepted-sound (c .before .before .args .self) 0 (sym (c .before .refusal-of .ensures .0) ∙ c .if1 .left)
+advanced-requires c κs =
+    accepted-sound (c .before .before .args .self) 0 (sym (c .before .refusal-of .ensures .0) ∙ c .if1 .left)
 
 line-requires : tie.Need-line-requires
 line-requires c κs = search needs

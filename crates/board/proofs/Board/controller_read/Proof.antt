@@ -14,7 +14,8 @@ refusal-of-requires c κs = search needs
 returns : tie.Need-returns
 returns c = ap byteAnswer
     (sym
-    (answer-refused (controllerReadCall (c .before .before .args .address)) (c .before .before .args .self) (c .before .refusal-of .result)
+    (answer-refused (controllerReadCall (c .before .before .args .address)) (c .before .before .args .self) (c
+    .before .refusal-of .result)
     (c .before .refusal-of .ensures .0)
     (ne-eqb _ _ (c .if1 .taken))))
 

@@ -13,7 +13,8 @@ refusal-of-requires c κs = search needs
 returns : tie.Need-returns
 returns c = ap emptyAnswer
     (sym
-    (answer-refused (controllerWriteCall (c .before .before .args .address) (c .before .before .args .value)) (c .before .before .args .self) (c .before .refusal-of .result)
+    (answer-refused (controllerWriteCall (c .before .before .args .address) (c .before .before .args .value)) (c
+    .before .before .args .self) (c .before .refusal-of .result)
     (c .before .refusal-of .ensures .0)
     (ne-eqb _ _ (c .if1 .taken))))
 

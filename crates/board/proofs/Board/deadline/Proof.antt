@@ -24,7 +24,8 @@ returns c = let s = c .before .before .before in
     (e, answer-promises (s .args .self) (c .before .before .refusal-of .ensures .1) _ e)
 
 deadline-members-requires : tie.Need-deadline-members-requires
-deadline-members-requires c κs = accepted-sound (c .before .before .args .self) 0 (sym (c .before .refusal-of .ensures .0) ∙ c .if1 .left)
+deadline-members-requires c κs =
+    accepted-sound (c .before .before .args .self) 0 (sym (c .before .refusal-of .ensures .0) ∙ c .if1 .left)
 
 returns-2 : tie.Need-returns-2
 returns-2 c = let s = c .before .before .before .before .before in

@@ -35,7 +35,8 @@ returns-2 : tie.Need-returns-2
 returns-2 c = let s = c .before .before .before .before .before in
     let w = c .before .before .exact .given .0 .0 in
     given-some (exactDeadline (s .args .self)) w (c .capped .result)
-    (sym (c .before .before .before .before .exact-deadline .ensures) ∙ ap numberOf (c .before .before .exact .given .1))
+    (sym (c .before .before .before .before .exact-deadline .ensures) ∙ ap numberOf (c .before .before .exact .given
+    .1))
     (value-wide w (valueOf w) (omega (arith, c .before .known-told .given)) refl) (c .capped .ensures)
 
 pub deadline-members-spec : {M : Type 1} → statement M

@@ -16,8 +16,10 @@ refusal-of-requires c κs = search needs
 returns : tie.Need-returns
 returns c = ap emptyAnswer
     (sym
-    (answer-refused (hostTimeCall (c .before .before .before .args .host)) (c .before .before .before .args .self) (c .before .refusal-of .result)
-    (c .before .refusal-of .ensures .0 ∙ ap (refusalOf (c .before .before .before .args .self)) (c .before .before .host-time-refusal .ensures))
+    (answer-refused (hostTimeCall (c .before .before .before .args .host)) (c .before .before .before .args .self) (c
+    .before .refusal-of .result)
+    (c .before .refusal-of .ensures .0 ∙ ap (refusalOf (c .before .before .before .args .self)) (c .before .before
+    .host-time-refusal .ensures))
     (ne-eqb _ _ (c .if1 .taken))))
 
 with-host-requires : tie.Need-with-host-requires
@@ -31,7 +33,8 @@ wired-requires c κs = search needs
 
 returns-2 : tie.Need-returns-2
 returns-2 c = let a = c .before .before .before .before .before .before .before .args in
-    let z = ap (refusalOf (a .self)) (sym (c .before .before .before .before .before .before .host-time-refusal .ensures))
+    let z = ap (refusalOf (a .self)) (sym (c .before .before .before .before .before .before .host-time-refusal
+    .ensures))
     ∙ sym (c .before .before .before .before .before .refusal-of .ensures .0)
     ∙ c .before .before .before .before .if1 .left in
     rw (

@@ -18,7 +18,8 @@ returns c = ap skipAnswer
     (ne-eqb _ _ (c .if1 .taken))))
 
 skip-length-requires : tie.Need-skip-length-requires
-skip-length-requires c κs = accepted-sound (c .before .before .args .self) 0 (sym (c .before .refusal-of .ensures .0) ∙ c .if1 .left)
+skip-length-requires c κs =
+    accepted-sound (c .before .before .args .self) 0 (sym (c .before .refusal-of .ensures .0) ∙ c .if1 .left)
 
 advanced-requires : tie.Need-advanced-requires
 advanced-requires c κs = let s = c .before .before .before .before in

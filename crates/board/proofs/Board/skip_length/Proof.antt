@@ -42,7 +42,8 @@ returns-3 c = let s = c .before .before .before .before .before .before .before 
     ∙ sym (c .before .before .before .before .before .before .level-of .ensures)
     ∙ c .before .before .before .before .before .if1 .left)
     (valueOf (c .before .before .exact .given .0 .0)) (c .capped .result)
-    (sym (c .before .before .before .before .exact-deadline .ensures) ∙ ap numberOf (c .before .before .exact .given .1))
+    (sym (c .before .before .before .before .exact-deadline .ensures) ∙ ap numberOf (c .before .before .exact .given
+    .1))
     (c .capped .ensures)
 
 pub skip-length-spec : {M : Type 1} → statement M

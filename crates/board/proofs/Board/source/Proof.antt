@@ -16,8 +16,10 @@ refusal-of-requires c κs = search needs
 returns : tie.Need-returns
 returns c = ap emptyAnswer
     (sym
-    (answer-refused (sourceCall (c .before .before .before .args .number .0) (c .before .before .before .args .level)) (c .before .before .before .args .self) (c .before .refusal-of .result)
-    (c .before .refusal-of .ensures .0 ∙ ap (refusalOf (c .before .before .before .args .self)) (c .before .before .source-refusal .ensures))
+    (answer-refused (sourceCall (c .before .before .before .args .number .0) (c .before .before .before .args
+    .level)) (c .before .before .before .args .self) (c .before .refusal-of .result)
+    (c .before .refusal-of .ensures .0 ∙ ap (refusalOf (c .before .before .before .args .self)) (c .before .before
+    .source-refusal .ensures))
     (ne-eqb _ _ (c .if1 .taken))))
 
 with-source-requires : tie.Need-with-source-requires
