@@ -24,7 +24,7 @@ use Rattle.clock.specs.declared.time.Duration.{Duration}
 use Rattle.clock.specs.declared.time.Time.{Time}
 use Rattle.clock.specs.Clock.{nanosPerSecond, inNanoseconds, hostNanoseconds}
 use Rattle.clock.specs.Registers.{signedDifference}
-use Rattle.clock.specs.Time.{durationOf, DurationIs, TimeIs}
+use Rattle.clock.specs.CodeTime.{durationOf, DurationIs, TimeIs}
 
 -- two tests of strict order that say the same
 ltb-same : (a b c d : ℕ) → (a < b → c < d) → (b ≤ a → d ≤ c) → ltb a b ≡ ltb c d

@@ -1,6 +1,6 @@
 pub mod Fields
 pub mod Clock
-pub mod Time
+pub mod CodeTime
 pub mod Deadline
 pub mod Registers
 pub mod Sound

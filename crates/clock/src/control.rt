@@ -4,7 +4,7 @@ ghost use Prim.Native.Nat.{_<_};
 ghost use Rattle.clock.specs.Clock.{rateOf, nanosPerSecond};
 ghost use Rattle.clock.specs.Registers.{ownTimeSet, setTime, takesOwn, timeKept, changeControl, writeControl};
 ghost use Rattle.clock.specs.Sound.{Timed};
-ghost use Rattle.clock.specs.Time.{momentOf};
+ghost use Rattle.clock.specs.CodeTime.{momentOf};
 use crate::Clock;
 use crate::Shadow;
 use crate::from_host;

@@ -6,7 +6,7 @@ ghost use Rattle.clock.specs.Clock.{rateOf, nanosPerSecond, hostNanoseco
 ghost use Rattle.clock.specs.Clock.{ownNanoseconds, timeOf, timeSeconds};
 ghost use Rattle.clock.specs.Registers.{signedDifference, timeNanoseconds};
 ghost use Rattle.clock.specs.Sound.{Timed};
-ghost use Rattle.clock.specs.Time.{durationOf, DurationIs, TimeIs};
+ghost use Rattle.clock.specs.CodeTime.{durationOf, DurationIs, TimeIs};
 use crate::Clock;
 use crate::HostTime;
 use crate::Offset;

@@ -6,7 +6,7 @@ use Rattle.clock.proofs.Tests.{both-told}
 use Rattle.clock.proofs.Branches.{host-taken, own-taken, time-left}
 use Rattle.clock.specs.Clock.{rateOf}
 use Rattle.clock.specs.Registers.{setTime}
-use Rattle.clock.specs.Time.{durationOf}
+use Rattle.clock.specs.CodeTime.{durationOf}
 use borrow.Author.Needs.{needs}
 use Rattle.clock.proofs.Clock.time_kept.Statement.{statement}
 use Rattle.clock.proofs.Clock.time_kept.Tie as tie

@@ -4,7 +4,7 @@ use mathlib.Core.Path.{sym, ap, _∙_}
 use mathlib.Core.Bool.{true, false}
 use Rattle.clock.proofs.Durations.{since-is, host-total}
 use Rattle.clock.specs.Registers.{signedDifference}
-use Rattle.clock.specs.Time.{durationOf}
+use Rattle.clock.specs.CodeTime.{durationOf}
 use borrow.Author.Needs.{needs}
 use Rattle.clock.proofs.time.Duration.since.Statement.{statement}
 use Rattle.clock.proofs.time.Duration.since.Tie as tie

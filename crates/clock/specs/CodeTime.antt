@@ -1,4 +1,4 @@
--- The numbers of nanoseconds that the code's durations and times are.
+-- Not document 01's sentences: the numbers of nanoseconds that the code's durations and times are.
 use Prim.Native.Nat.{ℕ, _<_}
 use mathlib.Core.Path.{_≡_}
 use Rattle.wide.specs.Number.{valueOf}
