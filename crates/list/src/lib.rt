@@ -7,6 +7,7 @@ ghost use Rattle.list.specs.Run.{runOf, over};
 use board::Board;
 use channel::ChannelNumber;
 use channel::Cycles;
+use controller::with_source;
 use format::Answer;
 use offsets::writes::acknowledged;
 use registers::reads;
@@ -143,7 +144,9 @@ pub fn run(board: Board, list: &[u8], answers: &mut [u8]) -> Outcome
             }
             // host time, source, and the controller's calls
             _ => {
-                let e = perform::effect_of(b, tag, rest);
+                let host = b.clock.host;
+                let controller = b.controller;
+                let e = perform::effect_of(host, controller, tag, rest);
                 b.clock.host.seconds = e.host.seconds;
                 b.clock.host.nanoseconds = e.host.nanoseconds;
                 let after = e.controller;
@@ -154,7 +157,8 @@ pub fn run(board: Board, list: &[u8], answers: &mut [u8]) -> Outcome
         // source 3 is set to the line
         if moved {
             line = b.line();
-            let set = b.controller_wired(line);
+            let controller = b.controller;
+            let set = with_source(controller, Board::LINE_SOURCE, line);
             b.controller = set;
         }
         perform::put_answer(answers, written, tag, front.size, cycles, line, answer);
