@@ -199,12 +199,11 @@ module _ (l : List ℕ) (b : Board) where
         (rw (deadline-is (tagAt l) (argumentsOf (tagAt l) l) b t, t) h)
 
     pub effect-carried : ((tagAt l ≡ 4) ⊎ (tagAt l ≡ 6) → ⊥) → (e : Effect) →
-        EffectIs (tagAt l) (argumentsOf (tagAt l) l) (b .clock .host) (b .controller) e →
-        y ≡ withEffect (e .host) (e .controller) b → a ≡ e .answer → moved ≡ true → Carried y c moved a
+        EffectIs (tagAt l) (argumentsOf (tagAt l) l) b e → y ≡ withEffect (e .host) (e .controller) b →
+        a ≡ e .answer → moved ≡ true → Carried y c moved a
     effect-carried n e h f g m =
-        let k = h b refl refl in
-        by-answer y c moved a (f ∙ k .0) (moves moved m) (ne-eqb (tagAt l) 4 (λ q. n (inl q)))
-        (ne-eqb (tagAt l) 6 (λ q. n (inr q))) (ap valueBytes g ∙ k .1)
+        by-answer y c moved a (f ∙ h .0) (moves moved m) (ne-eqb (tagAt l) 4 (λ q. n (inl q)))
+        (ne-eqb (tagAt l) 6 (λ q. n (inr q))) (ap valueBytes g ∙ h .1)
 
 -- the tags that no way of its own has
 pub lesser : (tag : ℕ) → 0 < tag → tag < 11 → (tag ≡ 2 → ⊥) → (tag ≡ 3 → ⊥) → ((tag ≡ 4) ⊎ (tag ≡ 6) → ⊥) →

@@ -7,7 +7,6 @@ ghost use Rattle.list.specs.Run.{runOf, over};
 use board::Board;
 use channel::ChannelNumber;
 use channel::Cycles;
-use controller::with_source;
 use format::Answer;
 use offsets::writes::acknowledged;
 use registers::reads;
@@ -144,9 +143,7 @@ pub fn run(board: Board, list: &[u8], answers: &mut [u8]) -> Outcome
             }
             // host time, source, and the controller's calls
             _ => {
-                let host = b.clock.host;
-                let controller = b.controller;
-                let e = perform::effect_of(host, controller, tag, rest);
+                let e = perform::effect_of(b, tag, rest);
                 b.clock.host.seconds = e.host.seconds;
                 b.clock.host.nanoseconds = e.host.nanoseconds;
                 let after = e.controller;
@@ -157,8 +154,7 @@ pub fn run(board: Board, list: &[u8], answers: &mut [u8]) -> Outcome
         // source 3 is set to the line
         if moved {
             line = b.line();
-            let controller = b.controller;
-            let set = with_source(controller, Board::LINE_SOURCE, line);
+            let set = b.controller_wired(line);
             b.controller = set;
         }
         perform::put_answer(answers, written, tag, front.size, cycles, line, answer);

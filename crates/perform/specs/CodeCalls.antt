@@ -47,9 +47,8 @@ Lesser tag = (tag ≡ 1) ⊎ ((6 < tag) × (tag < 11))
 abbrev pub withEffect : HostTime → IrqController → Board → Board
 withEffect h q b = withController q (withClock (withHost h (b .clock)) b)
 
--- what such a call changes of a board with this host time and this controller, and its answer
-abbrev pub EffectIs : ℕ → List ℕ → HostTime → IrqController → Effect → Type 0
-EffectIs tag m h q e =
-    (b : Board) → b .clock .host ≡ h → b .controller ≡ q →
+-- what such a call changes, and its answer
+abbrev pub EffectIs : ℕ → List ℕ → Board → Effect → Type 0
+EffectIs tag m b e =
     (withEffect (e .host) (e .controller) b ≡ callOf tag m b .board)
     × (valueBytes (e .answer) ≡ answerBytes tag (callOf tag m b .members))

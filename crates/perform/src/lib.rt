@@ -198,10 +198,13 @@ pub fn deadline(board: Board) -> Answer
 }
 
 // The calls that change host time or the controller at most: host time, source, and those of the controller.
-pub fn effect_of(host: HostTime, controller: IrqController, tag: u8, rest: &[u8]) -> Effect
+pub fn effect_of(board: Board, tag: u8, rest: &[u8]) -> Effect
     requires { ⌜ (3 + valueLength tag ≤ length (now rest)) × Lesser tag ⌝ }
-    ensures { λ r. ⌜ EffectIs tag (argumentsOf tag (now (rest .entry))) host controller r ⌝ }
+    ensures { λ r. ⌜ EffectIs tag (argumentsOf tag (now (rest .entry))) board r ⌝ }
 {
+    let clock = board.clock;
+    let host = clock.host;
+    let controller = board.controller;
     match tag {
         1 => Effect {
             host: host_at(rest),

@@ -55,7 +55,7 @@ use Rattle.list.proofs.run.Tie as tie
 use Rattle.list.proofs.run.Reads as reads
 use Rattle.list.proofs.run.Lts as lts
 use Rattle.board.proofs.Board.channels.Reads as channels-reads
-use Rattle.controller.proofs.with_source.Reads as with-source-reads
+use Rattle.board.proofs.Board.controller_wired.Reads as controller-wired-reads
 use Rattle.board.proofs.Board.line.Reads as line-reads
 use Rattle.board.proofs.Board.sound.Reads as sound-reads
 use Rattle.channel.proofs.ChannelNumber.selected.Reads as selected-reads
@@ -143,8 +143,8 @@ Met = lts.At-match-came (
   effect-of-reads.Learnt,
   line-reads.Asked,
   line-reads.Learnt,
-  with-source-reads.Asked,
-  with-source-reads.Learnt,
+  controller-wired-reads.Asked,
+  controller-wired-reads.Learnt,
   put-answer-reads.Asked,
   put-answer-reads.Learnt,
 ) reads.Pre reads.Post Inv-loop2 μ-loop2 Inv-loop μ-loop
@@ -197,8 +197,8 @@ Set = lts.Joined6 (
   effect-of-reads.Learnt,
   line-reads.Asked,
   line-reads.Learnt,
-  with-source-reads.Asked,
-  with-source-reads.Learnt,
+  controller-wired-reads.Asked,
+  controller-wired-reads.Learnt,
   put-answer-reads.Asked,
   put-answer-reads.Learnt,
 ) reads.Pre reads.Post Inv-loop2 μ-loop2 Inv-loop μ-loop
@@ -265,13 +265,13 @@ carried c =
           (w .2)
           (ap valueBytes (w .3) ∙ w .1 .ensures) (w .5)
       | inr (inr (inr (inr (inr (inr (inr (inr (inr (inr w))))))))) ↦ effect-carried l b s y n m a
-          (w .0 .rest .0 .1) (w .3 .result) (w .3 .ensures) (w .7) (w .8) (w .10)
+          (w .0 .rest .0 .1) (w .1 .result) (w .1 .ensures) (w .5) (w .6) (w .8)
     ]
 
 -- the line, where it can have moved
 line-set : (j : Set) → j .before .match .moved ≡ true → j .if6 .line ≡ line (j .before .match .b)
 line-set j m = elim (j .if6 .came) [
-  | inl u ↦ u .5 ∙ u .1 .ensures
+  | inl u ↦ u .4 ∙ u .1 .ensures
   | inr u ↦ absurd (true≢false (sym m ∙ u .0 .left))
 ]
 
@@ -280,8 +280,8 @@ board-set : (j : Set) → j .if6 .b ≡ boardAfter (callAt (restOf (j .before)) 
 board-set j =
     let k = carried (j .before) in
     elim (j .if6 .came) [
-      | inl u ↦ wired-after _ _ _ _ _ _ k (u .0 .taken) (u .1 .result) (u .1 .ensures) (u .3 .result) (u .3 .ensures) _
-          (u .4)
+      | inl u ↦ wired-after _ _ _ _ _ _ k (u .0 .taken) (u .1 .result) (u .1 .ensures) (u .2 .result) (u .2 .ensures) _
+          (u .3)
       | inr u ↦ still-after _ _ _ _ _ _ k (u .0 .left) _ (u .1)
     ]
 
@@ -468,8 +468,8 @@ mul-timer-3 c = omega (arith, c .loop2-test .taken, c .before .loop2 .inv .0)
 element-copy-out-timer-3 : tie.Need-element-copy-out-timer-3 Inv-loop2 μ-loop2 Inv-loop μ-loop
 element-copy-out-timer-3 c = omega (arith, c .loop2-test .taken, c .before .loop2 .inv .0)
 
-cast-t80 : tie.Need-cast-t80 Inv-loop2 μ-loop2 Inv-loop μ-loop
-cast-t80 c = omega (arith, c .before .loop2-test .taken, c .before .before .loop2 .inv .0)
+cast-t77 : tie.Need-cast-t77 Inv-loop2 μ-loop2 Inv-loop μ-loop
+cast-t77 c = omega (arith, c .before .loop2-test .taken, c .before .before .loop2 .inv .0)
 
 selected-requires : tie.Need-selected-requires Inv-loop2 μ-loop2 Inv-loop μ-loop
 selected-requires c κs = tt
@@ -545,17 +545,17 @@ deadline-requires c κs = c .before .before .before .before .before .before .bef
 
 effect-of-requires : tie.Need-effect-of-requires Inv-loop2 μ-loop2 Inv-loop μ-loop
 effect-of-requires c κs =
-    let u = c .before .before .before .before in
+    let u = c .before .before in
     let z = sym (u .before .before .front-of .ensures .0) ∙ u .if2 .left in
     let f = framed _ (clear _ _ _ z .frame) in
-    let n = c .before .before .match .rest in
+    let n = c .match .rest in
     (f .0, lesser _ (f .1 .0) (f .1 .1) (n .0 .0 .0 .1) (n .0 .0 .1) (n .0 .1) (n .1))
 
 line-requires : tie.Need-line-requires Inv-loop2 μ-loop2 Inv-loop μ-loop
 line-requires c κs = tt
 
-with-source-requires : tie.Need-with-source-requires Inv-loop2 μ-loop2 Inv-loop μ-loop
-with-source-requires c κs = tt
+controller-wired-requires : tie.Need-controller-wired-requires Inv-loop2 μ-loop2 Inv-loop μ-loop
+controller-wired-requires c κs = tt
 
 put-answer-requires : tie.Need-put-answer-requires Inv-loop2 μ-loop2 Inv-loop μ-loop
 put-answer-requires c κs =
@@ -715,7 +715,7 @@ run-spec =
     loop2-holds
     mul-timer-3
     element-copy-out-timer-3
-    cast-t80
+    cast-t77
     selected-requires
     runs-requires
     advance-cycles-requires
@@ -728,7 +728,7 @@ run-spec =
     deadline-requires
     effect-of-requires
     line-requires
-    with-source-requires
+    controller-wired-requires
     put-answer-requires
     add-calls
     add-used

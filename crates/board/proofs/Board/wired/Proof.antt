@@ -7,16 +7,16 @@ use Rattle.board.proofs.Board.wired.Tie as tie
 line-requires : tie.Need-line-requires
 line-requires c κs = search needs
 
-with-source-requires : tie.Need-with-source-requires
-with-source-requires c κs = search needs
+controller-wired-requires : tie.Need-controller-wired-requires
+controller-wired-requires c κs = search needs
 
 with-controller-requires : tie.Need-with-controller-requires
 with-controller-requires c κs = search needs
 
 returns : tie.Need-returns
 unfolding wired
-returns c = rw (c .with-controller .ensures, c .before .with-source .ensures, c .before .before .line .ensures)
+returns c = rw (c .with-controller .ensures, c .before .controller-wired .ensures, c .before .before .line .ensures)
 
 pub wired-spec : {M : Type 1} → statement M
 wired-spec =
-    tie.close (tie.spec line-requires with-source-requires with-controller-requires returns)
+    tie.close (tie.spec line-requires controller-wired-requires with-controller-requires returns)
