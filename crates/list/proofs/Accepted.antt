@@ -215,7 +215,8 @@ lesser tag low high n2 n3 n46 n5 =
     let n6 : tag ≡ 6 → ⊥ = λ q. n46 (inr q) in
     inr (above tag low n1 n2 n3 n4 n5 n6, high))
   where
-    above : (t : ℕ) → 0 < t → (t ≡ 1 → ⊥) → (t ≡ 2 → ⊥) → (t ≡ 3 → ⊥) → (t ≡ 4 → ⊥) → (t ≡ 5 → ⊥) → (t ≡ 6 → ⊥) → 6 < t
+    above : (t : ℕ) → 0 < t → (t ≡ 1 → ⊥) → (t ≡ 2 → ⊥) → (t ≡ 3 → ⊥) →
+        (t ≡ 4 → ⊥) → (t ≡ 5 → ⊥) → (t ≡ 6 → ⊥) → 6 < t
     above t l a1 a2 a3 a4 a5 a6 = omega arith
 
 -- ---- source 3 is set where the line can have moved
