@@ -21,8 +21,8 @@ use Rattle.perform.specs.Calls.{argument, callOf, refusalAt}
 
 -- the call at the front, on a board and with so much room: its refusal and, where there is none, the list bytes that it
 -- uses and the bytes of its answer's members
-abbrev pub FrontIs : Board → List ℕ → ℕ → Front → Type 0
-FrontIs b l room f =
+abbrev pub FrontFound : Board → List ℕ → ℕ → Front → Type 0
+FrontFound b l room f =
     (f .refusal ≡ refusalAt b l room)
     × (refusalAt b l room ≡ 0 →
     (f .length ≡ headerLength + valueLength (tagAt l)) × (f .size ≡ answerLength (tagAt l)))

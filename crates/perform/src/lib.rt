@@ -13,7 +13,7 @@ ghost use Rattle.board.specs.CodeCalls.{passingOf};
 ghost use Rattle.offsets.specs.Registers.{base};
 ghost use Rattle.format.specs.Format.{valueLength, argumentsOf, answerBytes, valueBytes, recordOf};
 ghost use Rattle.perform.specs.Calls.{callOf};
-ghost use Rattle.perform.specs.CodeCalls.{FrontIs, cyclesAt, answeredBytes, Lesser, EffectIs};
+ghost use Rattle.perform.specs.CodeCalls.{FrontFound, cyclesAt, answeredBytes, Lesser, EffectIs};
 use board::Board;
 use board::calls::Passing;
 use board::calls::host_time_refusal;
@@ -121,7 +121,7 @@ fn refused(refusal: u8) -> Front
 // The call at the front, on a board and with so much room for its answer.
 pub fn front_of(board: Board, rest: &[u8], room: usize) -> Front
     requires { ⌜ sound board ≡ true ⌝ }
-    ensures { λ r. ⌜ FrontIs board (now (rest .entry)) room r ⌝ }
+    ensures { λ r. ⌜ FrontFound board (now (rest .entry)) room r ⌝ }
 {
     let frame = format::frame_of(rest);
     if frame.refusal != 0 {
