@@ -6,7 +6,7 @@ use mathlib.Core.Path.{_≡_, refl, sym, ap, _∙_}
 use mathlib.Core.Bool.{Bool, true, false, true≢false}
 use mathlib.Core.List.{List}
 use mathlib.Core.Logic.{_⊎_, inl, inr}
-use lib.ListN.{length, drop, getD}
+use lib.ListN.{length, drop, getD, length-drop}
 use lib.Seq.{sets}
 use lib.Dec.{eqb}
 use borrow.Author.Tests.{eqb-true, eqb-false, ne-eqb}
@@ -51,12 +51,13 @@ use Rattle.format.specs.Format.{
 }
 use Rattle.format.proofs.Frames.{framed}
 use Rattle.perform.specs.declared.Effect.{Effect}
+use Rattle.perform.specs.declared.Front.{Front}
 use Rattle.perform.specs.Calls.{argument, callOf, callAt, refusalAt}
-use Rattle.perform.specs.CodeCalls.{cyclesAt, answeredBytes, Lesser, withEffect, EffectIs}
+use Rattle.perform.specs.CodeCalls.{FrontFound, cyclesAt, answeredBytes, Lesser, withEffect, EffectIs}
 use Rattle.perform.proofs.Calls.{read-is, write-is, deadline-is, passes, stays, other-bytes}
 use Rattle.list.specs.declared.Outcome.{Outcome}
-use Rattle.list.specs.Run.{done, refused, stepped}
-use Rattle.perform.proofs.Refusals.{clear}
+use Rattle.list.specs.Run.{Turn, done, refused, turnOf, stepped}
+use Rattle.perform.proofs.Refusals.{Clear, clear}
 use Rattle.list.proofs.Turns.{turn-refused, turn-done, record-size, call-good}
 use Rattle.list.proofs.Runs.{bytesOf, Running, Ran, stateOf, more, stops}
 
@@ -234,32 +235,55 @@ module _ (l : List ℕ) (b y : Board) (c : ℕ) (moved : Bool) (a : Answer) (k :
 
 -- ---- the run
 
+-- what is found of the call at the front of l, where it is not refused
+pub record Found (b : Board) (l : List ℕ) (room : ℕ) (f : Front) : Type 0 where
+  pub none : refusalAt b l room ≡ 0
+  pub clear : Clear b l room
+  pub length : f .length ≡ 3 + valueLength (tagAt l)
+  pub size : f .size ≡ answerLength (tagAt l)
+
+pub found : (b : Board) (l : List ℕ) (room : ℕ) (f : Front) → FrontFound b l room f → f .refusal ≡ 0 →
+    Found b l room f
+found b l room f k z =
+    let n = sym (k .0) ∙ z in
+    record { none = n; clear = clear b l room n; length = k .1 n .0; size = k .1 n .1 }
+
 module _ (list buf₀ : List ℕ) (s₀ : Outcome) (buf : List ℕ) (b : Board) (calls used written : ℕ)
-    (r : Running list buf₀ s₀ buf (stateOf b calls used written)) (inside : used < length list) where
+    (r : Running list buf₀ s₀ buf (stateOf b calls used written)) (inside : used < length list)
+    (l : List ℕ) (rest : l ≡ drop used list) where
+  -- the call at the front of what is left of the list
+  at-front : (t : Turn) → turnOf b l (length buf - written) ≡ t → turnOf b (drop used list) (length buf - written) ≡ t
+  at-front t e = ap (λ (m : List ℕ). turnOf b m (length buf - written)) (sym rest) ∙ e
+
   -- behind a call that is accepted
-  pub goes-on : ((i : ℕ) → getD (drop used list) i 0 < 256) →
-      refusalAt b (drop used list) (length buf - written) ≡ 0 → (b′ : Board) →
-      b′ ≡ boardAfter (callAt (drop used list) b) → (value : List ℕ) →
-      value ≡ answerBytes (tagAt (drop used list)) (callAt (drop used list) b .members) → (buf′ : List ℕ) →
-      buf′ ≡ sets buf written (recordOf (tagAt (drop used list)) value) → (taken size : ℕ) →
-      taken ≡ 3 + valueLength (tagAt (drop used list)) → size ≡ answerLength (tagAt (drop used list)) →
-      Running list buf₀ s₀ buf′ (stateOf b′ (calls + 1) (used + taken) (written + (3 + size)))
+  pub goes-on : ((i : ℕ) → getD l i 0 < 256) → (f : Front) → Found b l (length buf - written) f → (b′ : Board) →
+      b′ ≡ boardAfter (callAt l b) → (value : List ℕ) → value ≡ answerBytes (tagAt l) (callAt l b .members) →
+      (buf′ : List ℕ) → buf′ ≡ sets buf written (recordOf (tagAt l) value) →
+      Running list buf₀ s₀ buf′ (stateOf b′ (calls + 1) (used + f .length) (written + (3 + f .size)))
   unfolding stepped bytesOf
-  goes-on bytes z b′ e value f buf′ w taken size h n =
-      let l = drop used list in
+  goes-on bytes f k b′ e value q buf′ w =
       let room = length buf - written in
-      let g = call-good l bytes b (good b (r .fits) (r .sound)) (clear b l room z .own) in
+      let g = call-good l bytes b (good b (r .fits) (r .sound)) (k .clear .own) in
       let m = record-size b l room in
-      rw (h, n, e, ← m)
-      (more list buf₀ s₀ buf (stateOf b calls used written) r inside buf′
-      (done (boardAfter (callAt l b)) (3 + valueLength (tagAt l))
-      (recordOf (tagAt l) (answerBytes (tagAt l) (callAt l b .members))))
-      (turn-done b l room z) (rw (← f) w) refl (facts-sound (boardAfter (callAt l b)) (g .facts)) (g .fits) .0)
+      let t = done (boardAfter (callAt l b)) (3 + valueLength (tagAt l))
+      (recordOf (tagAt l) (answerBytes (tagAt l) (callAt l b .members))) in
+      rw (k .length, k .size, e, ← m)
+      (more list buf₀ s₀ buf (stateOf b calls used written) r inside buf′ t (at-front t (turn-done b l room (k .none)))
+      (rw (← q) w) refl (facts-sound (boardAfter (callAt l b)) (g .facts)) (g .fits) .0)
 
   -- at a call that is refused
-  pub ends : (n : ℕ) → n ≡ refusalAt b (drop used list) (length buf - written) → eqb n 0 ≡ false →
+  pub ends : (n : ℕ) → n ≡ refusalAt b l (length buf - written) → eqb n 0 ≡ false →
       Ran list buf₀ s₀ buf (record { board = b; calls = calls; used = used; written = written; refusal = n })
   unfolding stepped bytesOf
   ends n p q =
       stops list buf₀ s₀ buf (stateOf b calls used written) r inside buf (refused n)
-      (turn-refused b (drop used list) (length buf - written) n p q) refl refl
+      (at-front (refused n) (turn-refused b l (length buf - written) n p q)) refl refl
+
+  -- the numbers of the call are inside the list and the buffer
+  module _ (f : Front) (k : Found b l (length buf - written) f) where
+    pub used-inside : used + f .length ≤ length list
+    used-inside =
+        omega (arith, k .length, framed l (k .clear .frame) .0, ap length rest, length-drop used list, r .used-in)
+
+    pub written-inside : written + (3 + f .size) ≤ length buf
+    written-inside = omega (arith, k .size, k .clear .fits, r .counted, r .room, r .same)

@@ -2,7 +2,7 @@
 use Prim.Native.Nat.{ℕ, suc, _+_, _-_, _<_}
 use native.Mathlib.Nat.{add-zero, zero-add}
 use native.Mathlib.Omega.{arith}
-use mathlib.Core.Path.{_≡_, refl, sym, ap, _∙_}
+use mathlib.Core.Path.{_≡_, refl, sym, ap, _∙_, subst}
 use mathlib.Core.Bool.{true, false}
 use mathlib.Core.List.{List, [], _∷_, _++_}
 use lib.ListN.{length, take, drop}
@@ -27,12 +27,12 @@ use Rattle.board.proofs.Steps.{Good, good, call-step}
 use Rattle.board.proofs.Answers.{answer-accepted}
 use Rattle.board.proofs.Demand3.{demand-3}
 use Rattle.list.specs.declared.Outcome.{Outcome}
-use Rattle.format.specs.Format.{tagAt, membersAt, argumentsOf, frameRefusal}
+use Rattle.format.specs.Format.{valueLength, tagAt, membersAt, argumentsOf, frameRefusal}
 use Rattle.perform.specs.Calls.{callOf, callAt}
 use Rattle.list.specs.Run.{Turn, done, refused, turnOf, stepped, Run, runOn, nothingDone, runOf}
 use Rattle.list.specs.Demand.{FrontIs, ListIs}
 use Rattle.format.proofs.Frames.{framed}
-use Rattle.list.proofs.Turns.{Placed, turn-placed}
+use Rattle.list.proofs.Turns.{done-placed}
 use Rattle.list.proofs.Runs.{go-on, stop-at}
 
 -- ---- one call
@@ -73,6 +73,17 @@ front-framed : (l : List ℕ) (a : DemandCall) → FrontIs l a → frameRefusal 
 front-framed l (advance c) f = f .0
 front-framed l (hostTime h) f = f .0
 
+-- where it is done
+module _ (l : List ℕ) (b : Board) (room : ℕ) where
+  done-after : (a : DemandCall) → sound b ≡ true → FrontIs l a → (b′ : Board) (n : ℕ) (x : List ℕ) →
+      turnOf b l room ≡ done b′ n x → b′ ≡ after a b
+  done-after a s f b′ n x e =
+      let p = done-placed b l room b′ n x e in
+      p .1 .1 .1 ∙ front-after l b a s f (p .0 .own)
+
+  done-length : (b′ : Board) (n : ℕ) (x : List ℕ) → turnOf b l room ≡ done b′ n x → n ≡ 3 + valueLength (tagAt l)
+  done-length b′ n x e = done-placed b l room b′ n x e .1 .0
+
 -- ---- the run
 
 -- it has carried out some of the calls, from the first on
@@ -81,10 +92,42 @@ record Carried (calls : List DemandCall) (s : Outcome) (r : Run) : Type 0 where
   counted : r .outcome .calls ≡ s .calls + count
   board : r .outcome .board ≡ afterAll (take count calls) (s .board)
 
+-- none of them
+none-carried : (calls : List DemandCall) (s : Outcome) (r : Run) → r .outcome .calls ≡ s .calls →
+    r .outcome .board ≡ s .board → Carried calls s r
+unfolding afterAll
+none-carried calls s r n e = record { count = 0; counted = n ∙ sym (add-zero (s .calls)); board = e }
+
+none-at-end : (calls : List DemandCall) (room : ℕ) (s : Outcome) (out : List ℕ) →
+    Carried calls s (runOn 0 [] room s out)
+unfolding runOn
+none-at-end calls room s out = none-carried calls s (record { outcome = s; answers = out }) refl refl
+
+none-refused : (calls : List DemandCall) (s : Outcome) (n : ℕ) (out : List ℕ) →
+    Carried calls s (record { outcome = stepped s (refused n); answers = out })
+unfolding stepped
+none-refused calls s n out =
+    none-carried calls s (record { outcome = stepped s (refused n); answers = out }) refl refl
+
+-- one call more, ahead of those
+one-more : (a : DemandCall) (calls : List DemandCall) (s : Outcome) (b : Board) (n : ℕ) (x : List ℕ) (r : Run) →
+    b ≡ after a (s .board) → Carried calls (stepped s (done b n x)) r → Carried (a ∷ calls) s r
+unfolding afterAll stepped
+one-more a calls s b n x r e c = record {
+  count = suc (c .count);
+  counted = omega (arith, c .counted);
+  board = c .board ∙ ap (λ (y : Board). afterAll (take (c .count) calls) y) e;
+}
+
+done-good : (a : DemandCall) (s : Outcome) (b : Board) (n : ℕ) (x : List ℕ) → Good (s .board) →
+    b ≡ after a (s .board) → Good (stepped s (done b n x) .board)
+unfolding stepped
+done-good a s b n x g e = subst Good (sym e) (call-step a (s .board) g .good)
+
 carried : (calls : List DemandCall) (l : List ℕ) (room : ℕ) (s : Outcome) (out : List ℕ) → Good (s .board) →
     ListIs l calls → Carried calls s (runOn 0 l room s out)
-unfolding ListIs runOn afterAll stepped Placed
-carried [] l room s out g e = rw e (record { count = 0; counted = sym (add-zero (s .calls)); board = refl })
+unfolding ListIs
+carried [] l room s out g e = rw e (none-at-end [] room s out)
 carried (a ∷ calls) l room s out g h =
     onward (λ n o x q i. carried calls (drop n l) room o x q i) (turnOf (s .board) l (room - length out)) refl
   where
@@ -96,21 +139,14 @@ carried (a ∷ calls) l room s out g h =
         Carried calls o (runOn 0 (drop n l) room o x)) →
         (t : Turn) → turnOf (s .board) l (room - length out) ≡ t → Carried (a ∷ calls) s (runOn 0 l room s out)
     onward next (refused n) e =
-        rw (stop-at l room s out inside n e)
-        (record { count = 0; counted = sym (add-zero (s .calls)); board = refl })
+        subst (Carried (a ∷ calls) s) (sym (stop-at l room s out inside n e)) (none-refused (a ∷ calls) s n out)
     onward next (done b n x) e =
-        let p : Placed (s .board) l (room - length out) (done b n x) =
-        rw e at (turn-placed (s .board) l (room - length out)) in
-        let e′ : b ≡ after a (s .board) =
-        p .1 .1 .1 ∙ front-after l (s .board) a (facts-sound (s .board) (g .facts)) (h .0) (p .0 .own) in
-        let c = next n (stepped s (done b n x)) (out ++ x) (rw e′ (call-step a (s .board) g .good))
-        (rw (p .1 .0) (h .1)) in
-        rw (go-on l room s out inside b n x e)
-        (record {
-          count = suc (c .count);
-          counted = omega (arith, c .counted);
-          board = c .board ∙ ap (afterAll (take (c .count) calls)) e′;
-        })
+        let q = done-after l (s .board) (room - length out) a (facts-sound (s .board) (g .facts)) (h .0) b n x e in
+        subst (Carried (a ∷ calls) s) (sym (go-on l room s out inside b n x e))
+        (one-more a calls s b n x (runOn 0 (drop n l) room (stepped s (done b n x)) (out ++ x)) q
+        (next n (stepped s (done b n x)) (out ++ x) (done-good a s b n x g q)
+        (subst (λ (k : ℕ). ListIs (drop k l) calls)
+        (sym (done-length l (s .board) (room - length out) b n x e)) (h .1))))
 
 -- a run's board is the board after the calls that it has carried out
 pub run-after : (b : Board) (l : List ℕ) (room : ℕ) (calls : List DemandCall) → BoardFits b → sound b ≡ true →

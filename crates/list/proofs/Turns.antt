@@ -1,7 +1,7 @@
 -- What becomes of the call at the front of a list, by its refusal. Assumes nothing.
 use Prim.Native.Nat.{ℕ, _+_, _≤_, _<_}
 use native.Mathlib.Omega.{arith}
-use mathlib.Core.Path.{_≡_, refl, sym, ap, _∙_}
+use mathlib.Core.Path.{_≡_, refl, sym, ap, _∙_, subst}
 use mathlib.Core.Bool.{false, false≢true}
 use mathlib.Core.List.{List, [], _∷_}
 use lib.ListN.{length, getD}
@@ -53,12 +53,18 @@ module _ (b : Board) (l : List ℕ) (room : ℕ) where
       (k, (refl, (omega (arith, record-size, k .fits), refl))))
       (λ e. e)
 
+-- a call that is done
+pub done-placed : (b : Board) (l : List ℕ) (room : ℕ) (b′ : Board) (n : ℕ) (a : List ℕ) →
+    turnOf b l room ≡ done b′ n a →
+    Clear b l room × ((n ≡ 3 + valueLength (tagAt l)) × ((length a ≤ room) × (b′ ≡ boardAfter (callAt l b))))
+unfolding Placed
+done-placed b l room b′ n a e = subst (Placed b l room) e (turn-placed b l room)
+
 -- it takes at least three bytes, all of the list
 pub done-fits : (b : Board) (l : List ℕ) (room : ℕ) (b′ : Board) (n : ℕ) (a : List ℕ) →
     turnOf b l room ≡ done b′ n a → (3 ≤ n) × ((n ≤ length l) × (length a ≤ room))
-unfolding Placed
 done-fits b l room b′ n a e =
-    let p : Placed b l room (done b′ n a) = rw e at (turn-placed b l room) in
+    let p = done-placed b l room b′ n a e in
     (omega (arith, p .1 .0), (omega (arith, p .1 .0, framed l (p .0 .frame) .0), p .1 .1 .0))
 
 -- ---- the board stays sound

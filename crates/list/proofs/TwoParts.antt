@@ -19,7 +19,7 @@ use Rattle.format.specs.Format.{frameRefusal}
 use Rattle.list.specs.Run.{Turn, done, refused, turnOf, stepped, Run, runOn, nothingDone, runOf, over}
 use Rattle.perform.specs.Calls.{refusalAt}
 use Rattle.format.proofs.Frames.{tag-before, frame-before, arguments-before}
-use Rattle.list.proofs.Turns.{Placed, turn-placed, done-fits, step-good}
+use Rattle.list.proofs.Turns.{Placed, turn-placed, done-placed, done-fits, step-good}
 use Rattle.list.proofs.Runs.{next-done, next-refused}
 
 -- ---- bytes behind a call have no part in it
@@ -55,8 +55,7 @@ module _ (m : List ℕ) (room : ℕ) where
           let r : n ≡ 0 = sym (ap (λ (q : Run). q .outcome .refusal) (next-refused x l room s out n e)) ∙ z in
           absurd (false≢true (sym p ∙ eq-eqb _ _ r))
       onward next (done b n a) e =
-          let p : Placed (s .board) (x ∷ l) (room - length out) (done b n a) =
-          rw e at (turn-placed (s .board) (x ∷ l) (room - length out)) in
+          let p = done-placed (s .board) (x ∷ l) (room - length out) b n a e in
           let f = done-fits (s .board) (x ∷ l) (room - length out) b n a e in
           let g = next-done x l room s out b n a e in
           next-done x (l ++ m) room s out b n a (turn-before (s .board) (x ∷ l) m (room - length out) (p .0 .frame) ∙ e)

@@ -86,8 +86,7 @@ pub fn run(board: Board, list: &[u8], answers: &mut [u8]) -> Outcome
             3 => {
                 let offset = perform::offset_at(rest);
                 let value = perform::byte_at(rest, 5);
-                let part = writes::part_at(offset);
-                match part {
+                match writes::part_at(offset) {
                     WritePart::Nothing => {
                         moved = false;
                     }
@@ -97,19 +96,16 @@ pub fn run(board: Board, list: &[u8], answers: &mut [u8]) -> Outcome
                         moved = false;
                     }
                     WritePart::Acknowledge => {
-                        let timers = b.timers;
-                        let cleared = acknowledged(timers, value);
+                        let cleared = acknowledged(b.timers, value);
                         b.timers = cleared;
                     }
                     WritePart::Clock => {
-                        let clock = b.clock;
-                        let after = writes::clock_after(clock, offset, value);
+                        let after = writes::clock_after(b.clock, offset, value);
                         b.clock = after;
                     }
                     WritePart::Channel => {
                         let i = reads::channel_index(offset);
-                        let timer = b.timers[i];
-                        let after = writes::timer_after(timer, offset, value);
+                        let after = writes::timer_after(b.timers[i], offset, value);
                         b.timers[i] = after;
                         moved = writes::at_control(offset);
                     }
@@ -132,8 +128,7 @@ pub fn run(board: Board, list: &[u8], answers: &mut [u8]) -> Outcome
                         }
                         i += 1;
                     }
-                    let clock = b.clock;
-                    let later = clock.advance(cycles);
+                    let later = b.clock.advance(cycles);
                     b.clock = later;
                 }
             }

@@ -3,9 +3,9 @@ use mathlib.Core.Path.{_≡_, refl, sym, ap, _∙_}
 use mathlib.Core.Bool.{true, false, true≢false}
 use mathlib.Core.Logic.{inl, inr}
 use mathlib.Core.List.{List}
-use Prim.Native.Nat.{ℕ, _-_, _<_}
+use Prim.Native.Nat.{ℕ, _+_, _-_, _≤_, _<_}
 use native.Mathlib.Omega.{arith}
-use lib.ListN.{getD, length, take, drop, length-drop}
+use lib.ListN.{length, take, drop}
 use borrow.Author.Tests.{not-true, not-false, ne-eqb}
 use Rattle.channel.specs.declared.Cycles.{Cycles}
 use Rattle.board.specs.declared.Board.{Board}
@@ -26,9 +26,9 @@ use Rattle.format.specs.declared.Answer.{Answer}
 use Rattle.format.specs.Format.{tagAt, answerBytes, valueBytes}
 use Rattle.format.proofs.Frames.{framed, part-rest, answer-length}
 use Rattle.perform.specs.Calls.{callAt}
+use Rattle.perform.specs.declared.Front.{Front}
 use Rattle.perform.specs.CodeCalls.{answeredBytes}
 use Rattle.list.specs.Run.{runOf, over}
-use Rattle.perform.proofs.Refusals.{clear}
 use Rattle.list.proofs.Advances.{Advancing, begins, next-phase, turns, passed-over, still-timed, all-advanced}
 use Rattle.list.proofs.Runs.{Running, Ran, stateOf, begun, ended}
 use Rattle.list.proofs.Accepted.{
@@ -45,8 +45,12 @@ use Rattle.list.proofs.Accepted.{
   lesser,
   wired-after,
   still-after,
+  Found,
+  found,
   goes-on,
   ends,
+  used-inside,
+  written-inside,
 }
 use Prim.{tt}
 use borrow.Author.Needs.{needs}
@@ -94,9 +98,9 @@ Inv-loop list answers₀ b₀ calls₀ used₀ written₀ answers b calls used w
 abbrev μ-loop : tie.MeasureT-loop
 μ-loop list answers₀ b₀ calls₀ used₀ written₀ answers b calls used written = length list - used
 
--- where the arms of the match meet, and where source 3 is set
-abbrev Met : Type 0
-Met = lts.At-match-came (
+-- what is promised of the functions that are called
+abbrev claims : lts.Claims
+claims = (
   sound-reads.Asked,
   sound-reads.Learnt,
   front-of-reads.Asked,
@@ -147,84 +151,70 @@ Met = lts.At-match-came (
   controller-wired-reads.Learnt,
   put-answer-reads.Asked,
   put-answer-reads.Learnt,
-) reads.Pre reads.Post Inv-loop2 μ-loop2 Inv-loop μ-loop
+)
+
+-- where a call is accepted, where the arms of the match meet, and where source 3 is set
+abbrev NotRefused : Type 0
+NotRefused = lts.Else2 claims reads.Pre reads.Post Inv-loop2 μ-loop2 Inv-loop μ-loop
+
+abbrev Met : Type 0
+Met = lts.At-match-came claims reads.Pre reads.Post Inv-loop2 μ-loop2 Inv-loop μ-loop
 
 abbrev Set : Type 0
-Set = lts.Joined6 (
-  sound-reads.Asked,
-  sound-reads.Learnt,
-  front-of-reads.Asked,
-  front-of-reads.Learnt,
-  offset-at-reads.Asked,
-  offset-at-reads.Learnt,
-  channel-index-reads.Asked,
-  channel-index-reads.Learnt,
-  plain-reads.Asked,
-  plain-reads.Learnt,
-  plain-at-reads.Asked,
-  plain-at-reads.Learnt,
-  reading-at-reads.Asked,
-  reading-at-reads.Learnt,
-  byte-at-reads.Asked,
-  byte-at-reads.Learnt,
-  part-at-reads.Asked,
-  part-at-reads.Learnt,
-  enable-after-reads.Asked,
-  enable-after-reads.Learnt,
-  acknowledged-reads.Asked,
-  acknowledged-reads.Learnt,
-  clock-after-reads.Asked,
-  clock-after-reads.Learnt,
-  timer-after-reads.Asked,
-  timer-after-reads.Learnt,
-  at-control-reads.Asked,
-  at-control-reads.Learnt,
-  passing-reads.Asked,
-  passing-reads.Learnt,
-  channels-reads.Asked,
-  channels-reads.Learnt,
-  selected-reads.Asked,
-  selected-reads.Learnt,
-  runs-reads.Asked,
-  runs-reads.Learnt,
-  advance-cycles-reads.Asked,
-  advance-cycles-reads.Learnt,
-  advance-reads.Asked,
-  advance-reads.Learnt,
-  deadline-reads.Asked,
-  deadline-reads.Learnt,
-  effect-of-reads.Asked,
-  effect-of-reads.Learnt,
-  line-reads.Asked,
-  line-reads.Learnt,
-  controller-wired-reads.Asked,
-  controller-wired-reads.Learnt,
-  put-answer-reads.Asked,
-  put-answer-reads.Learnt,
-) reads.Pre reads.Post Inv-loop2 μ-loop2 Inv-loop μ-loop
+Set = lts.Joined6 claims reads.Pre reads.Post Inv-loop2 μ-loop2 Inv-loop μ-loop
 
--- what is left of the list
-abbrev restOf : Met → List ℕ
-restOf c =
-    let l = c .before .before .before .before .before .before .before .before .before .before .before .before .args
-    .list .now in
-    let n = c .before .before .before .before .before .before .before .loop .used in
-    take (length l - n) (drop n l)
+-- there, the list, the bytes of it that are used, and what is left
+abbrev listOf : NotRefused → List ℕ
+listOf u = u .before .before .before .before .before .before .before .before .before .before .args .list .now
+
+abbrev usedOf : NotRefused → ℕ
+usedOf u = u .before .before .before .before .before .loop .used
+
+abbrev restOf : NotRefused → List ℕ
+restOf u = take (length (listOf u) - usedOf u) (drop (usedOf u) (listOf u))
+
+rest-is : (u : NotRefused) → restOf u ≡ drop (usedOf u) (listOf u)
+rest-is u = part-rest (listOf u) (usedOf u)
 
 -- the board before the call
-abbrev boardOf : Met → Board
-boardOf c = c .before .before .before .before .before .before .before .loop .b
+abbrev boardOf : NotRefused → Board
+boardOf u = u .before .before .before .before .before .loop .b
+
+-- the buffer, and the bytes of it that are written
+abbrev answersOf : NotRefused → List ℕ
+answersOf u = u .before .before .before .before .before .loop .answers
+
+abbrev writtenOf : NotRefused → ℕ
+writtenOf u = u .before .before .before .before .before .loop .written
+
+-- what is found of the call
+abbrev frontOf : NotRefused → Front
+frontOf u = u .before .before .front-of .result
+
+found-at : (u : NotRefused) → Found (boardOf u) (restOf u) (length (answersOf u) - writtenOf u) (frontOf u)
+found-at u =
+    found (boardOf u) (restOf u) (length (answersOf u) - writtenOf u) (frontOf u)
+    (u .before .before .front-of .ensures) (u .if2 .left)
+
+-- the call is inside the list, and its answer inside the buffer
+call-inside : (u : NotRefused) → usedOf u + frontOf u .length ≤ length (listOf u)
+call-inside u =
+    used-inside _ _ _ _ _ _ _ _ (u .before .before .before .before .before .loop .inv)
+    (u .before .before .before .before .loop-test .taken) _ (rest-is u) _ (found-at u)
+
+answer-inside : (u : NotRefused) → writtenOf u + (3 + frontOf u .size) ≤ length (answersOf u)
+answer-inside u =
+    written-inside _ _ _ _ _ _ _ _ (u .before .before .before .before .before .loop .inv)
+    (u .before .before .before .before .loop-test .taken) _ (rest-is u) _ (found-at u)
 
 -- the board and the answer are those of the call
 carried : (c : Met) →
-    Carried (restOf c) (boardOf c) (c .match .b) (c .match .cycles .0) (c .match .moved) (c .match .answer)
+    Carried (restOf (c .before .before)) (boardOf (c .before .before)) (c .match .b) (c .match .cycles .0)
+    (c .match .moved) (c .match .answer)
 carried c =
-    let l = restOf c in
-    let b = boardOf c in
-    let i = c .before .before .before .before .before .before .before .loop .inv in
-    let s = i .sound in
-    let k = clear b l _ (sym (c .before .before .before .before .front-of .ensures .0)
-    ∙ c .before .before .if2 .left) in
+    let l = restOf (c .before .before) in
+    let b = boardOf (c .before .before) in
+    let s = c .before .before .before .before .before .before .before .loop .inv .sound in
     let y = c .match .b in
     let n = c .match .cycles .0 in
     let m = c .match .moved in
@@ -276,7 +266,8 @@ line-set j m = elim (j .if6 .came) [
 ]
 
 -- the board is that of the accepted call
-board-set : (j : Set) → j .if6 .b ≡ boardAfter (callAt (restOf (j .before)) (boardOf (j .before)))
+board-set : (j : Set) →
+    j .if6 .b ≡ boardAfter (callAt (restOf (j .before .before .before)) (boardOf (j .before .before .before)))
 board-set j =
     let k = carried (j .before) in
     elim (j .if6 .came) [
@@ -287,9 +278,10 @@ board-set j =
 
 -- the answer is that of the call
 value-set : (j : Set) →
-    answeredBytes (tagAt (restOf (j .before))) (j .before .match .cycles .0) (j .if6 .line)
+    answeredBytes (tagAt (restOf (j .before .before .before))) (j .before .match .cycles .0) (j .if6 .line)
     (valueBytes (j .before .match .answer))
-    ≡ answerBytes (tagAt (restOf (j .before))) (callAt (restOf (j .before)) (boardOf (j .before)) .members)
+    ≡ answerBytes (tagAt (restOf (j .before .before .before)))
+    (callAt (restOf (j .before .before .before)) (boardOf (j .before .before .before)) .members)
 value-set j = carried (j .before) .bytes (j .if6 .line) (line-set j)
 
 sound-requires : tie.Need-sound-requires Inv-loop2 μ-loop2 Inv-loop μ-loop
@@ -338,22 +330,17 @@ returns-2 c =
     let p = looped .before in
     let s : sound (p .before .before .before .before .args .board) ≡ true = sym (p .before .sound .ensures .0)
     ∙ not-false _ (p .if1 .left) in
-    let e = rw part-rest at (c .before .before .front-of .ensures .0) in
     rw s
-    (ends _ _ _ _ _ _ _ _ (looped .loop .inv) (c .before .before .before .before .loop-test .taken) _ e
-    (ne-eqb _ _ (c .if2 .taken)))
+    (ends _ _ _ _ _ _ _ _ (looped .loop .inv) (c .before .before .before .before .loop-test .taken) _
+    (part-rest (p .before .before .before .before .args .list .now) (looped .loop .used)) _
+    (c .before .before .front-of .ensures .0) (ne-eqb _ _ (c .if2 .taken)))
 
 shared-slice-read-tag : tie.Need-shared-slice-read-tag Inv-loop2 μ-loop2 Inv-loop μ-loop
-shared-slice-read-tag c =
-    let u = c .before in
-    let z = sym (u .before .before .front-of .ensures .0) ∙ u .if2 .left in
-    omega (arith, framed _ (clear _ _ _ z .frame) .0)
+shared-slice-read-tag c = omega (arith, framed _ (found-at (c .before) .clear .frame) .0)
 
 offset-at-requires : tie.Need-offset-at-requires Inv-loop2 μ-loop2 Inv-loop μ-loop
 offset-at-requires c κs =
-    let u = c .before .before in
-    let z = sym (u .before .before .front-of .ensures .0) ∙ u .if2 .left in
-    omega (arith, value-in _ 2 (clear _ _ _ z .frame) (c .match .keys1))
+    omega (arith, value-in _ 2 (found-at (c .before .before) .clear .frame) (c .match .keys1))
 
 channel-index-requires : tie.Need-channel-index-requires Inv-loop2 μ-loop2 Inv-loop μ-loop
 channel-index-requires c κs = tt
@@ -384,15 +371,11 @@ reading-at-requires c κs =
 
 offset-at-requires-2 : tie.Need-offset-at-requires-2 Inv-loop2 μ-loop2 Inv-loop μ-loop
 offset-at-requires-2 c κs =
-    let u = c .before .before in
-    let z = sym (u .before .before .front-of .ensures .0) ∙ u .if2 .left in
-    omega (arith, value-in _ 3 (clear _ _ _ z .frame) (c .match .keys2))
+    omega (arith, value-in _ 3 (found-at (c .before .before) .clear .frame) (c .match .keys2))
 
 byte-at-requires : tie.Need-byte-at-requires Inv-loop2 μ-loop2 Inv-loop μ-loop
 byte-at-requires c κs =
-    let u = c .before .before .before in
-    let z = sym (u .before .before .front-of .ensures .0) ∙ u .if2 .left in
-    omega (arith, value-in _ 3 (clear _ _ _ z .frame) (c .before .match .keys2))
+    omega (arith, value-in _ 3 (found-at (c .before .before .before) .clear .frame) (c .before .match .keys2))
 
 part-at-requires : tie.Need-part-at-requires Inv-loop2 μ-loop2 Inv-loop μ-loop
 part-at-requires c κs = tt
@@ -427,11 +410,11 @@ enum-told-5 c = search needs
 channel-index-requires-2 : tie.Need-channel-index-requires-2 Inv-loop2 μ-loop2 Inv-loop μ-loop
 channel-index-requires-2 c κs = tt
 
-mul-timer-2 : tie.Need-mul-timer-2 Inv-loop2 μ-loop2 Inv-loop μ-loop
-mul-timer-2 c = omega (arith, c .channel-index2 .ensures .1)
+mul-timer-after : tie.Need-mul-timer-after Inv-loop2 μ-loop2 Inv-loop μ-loop
+mul-timer-after c = omega (arith, c .channel-index2 .ensures .1)
 
-element-copy-out-timer-2 : tie.Need-element-copy-out-timer-2 Inv-loop2 μ-loop2 Inv-loop μ-loop
-element-copy-out-timer-2 c = c .channel-index2 .ensures .1
+element-copy-out-timer-after : tie.Need-element-copy-out-timer-after Inv-loop2 μ-loop2 Inv-loop μ-loop
+element-copy-out-timer-after c = c .channel-index2 .ensures .1
 
 timer-after-requires : tie.Need-timer-after-requires Inv-loop2 μ-loop2 Inv-loop μ-loop
 timer-after-requires c κs =
@@ -449,10 +432,10 @@ at-control-requires c κs = channel-range _ (sym (c .before .before .before .bef
     ∙ c .before .before .before .enum-told5 .given .1)
 
 passing-requires : tie.Need-passing-requires Inv-loop2 μ-loop2 Inv-loop μ-loop
-passing-requires c κs =
-    let u = c .before .before in
-    let z = sym (u .before .before .front-of .ensures .0) ∙ u .if2 .left in
-    (framed _ (clear _ _ _ z .frame) .0, c .before .before .before .before .before .before .before .loop .inv .sound)
+passing-requires c κs = (
+  framed _ (found-at (c .before .before) .clear .frame) .0,
+  c .before .before .before .before .before .before .before .loop .inv .sound,
+)
 
 channels-requires : tie.Need-channels-requires Inv-loop2 μ-loop2 Inv-loop μ-loop
 channels-requires c κs = tt
@@ -462,14 +445,14 @@ loop2-holds c =
     let i = c .before .before .before .before .before .before .before .before .before .before .before .loop .inv in
     (c .channels .ensures .0, begins _ _ _ (c .channels .ensures .1) (sound-facts _ (i .sound) .timers))
 
-mul-timer-3 : tie.Need-mul-timer-3 Inv-loop2 μ-loop2 Inv-loop μ-loop
-mul-timer-3 c = omega (arith, c .loop2-test .taken, c .before .loop2 .inv .0)
+mul-timer-2 : tie.Need-mul-timer-2 Inv-loop2 μ-loop2 Inv-loop μ-loop
+mul-timer-2 c = omega (arith, c .loop2-test .taken, c .before .loop2 .inv .0)
 
-element-copy-out-timer-3 : tie.Need-element-copy-out-timer-3 Inv-loop2 μ-loop2 Inv-loop μ-loop
-element-copy-out-timer-3 c = omega (arith, c .loop2-test .taken, c .before .loop2 .inv .0)
+element-copy-out-timer-2 : tie.Need-element-copy-out-timer-2 Inv-loop2 μ-loop2 Inv-loop μ-loop
+element-copy-out-timer-2 c = omega (arith, c .loop2-test .taken, c .before .loop2 .inv .0)
 
-cast-t77 : tie.Need-cast-t77 Inv-loop2 μ-loop2 Inv-loop μ-loop
-cast-t77 c = omega (arith, c .before .loop2-test .taken, c .before .before .loop2 .inv .0)
+cast-t75 : tie.Need-cast-t75 Inv-loop2 μ-loop2 Inv-loop μ-loop
+cast-t75 c = omega (arith, c .before .loop2-test .taken, c .before .before .loop2 .inv .0)
 
 selected-requires : tie.Need-selected-requires Inv-loop2 μ-loop2 Inv-loop μ-loop
 selected-requires c κs = tt
@@ -545,9 +528,7 @@ deadline-requires c κs = c .before .before .before .before .before .before .bef
 
 effect-of-requires : tie.Need-effect-of-requires Inv-loop2 μ-loop2 Inv-loop μ-loop
 effect-of-requires c κs =
-    let u = c .before .before in
-    let z = sym (u .before .before .front-of .ensures .0) ∙ u .if2 .left in
-    let f = framed _ (clear _ _ _ z .frame) in
+    let f = framed _ (found-at (c .before .before) .clear .frame) in
     let n = c .match .rest in
     (f .0, lesser _ (f .1 .0) (f .1 .1) (n .0 .0 .0 .1) (n .0 .0 .1) (n .0 .1) (n .1))
 
@@ -559,17 +540,11 @@ controller-wired-requires c κs = tt
 
 put-answer-requires : tie.Need-put-answer-requires Inv-loop2 μ-loop2 Inv-loop μ-loop
 put-answer-requires c κs =
-    let joined = c .before in
     let u = c .before .before .before .before in
-    let fronted = u .before .before in
-    let i = fronted .before .before .before .loop .inv in
-    let z = sym (u .before .before .front-of .ensures .0) ∙ u .if2 .left in
-    let n = fronted .front-of .ensures .1 z .1 in
-    let l = restOf (joined .before) in (
-      n
-          ∙ sym (ap length (value-set joined)
-          ∙ answer-length (tagAt l) (callAt l (boardOf (joined .before)) .members)),
-      omega (arith, n, clear _ _ _ z .fits, i .same, i .counted, i .room),
+    let l = restOf u in (
+      found-at u .size
+          ∙ sym (ap length (value-set (c .before)) ∙ answer-length (tagAt l) (callAt l (boardOf u) .members)),
+      omega (arith, answer-inside u),
     )
 
 add-calls : tie.Need-add-calls Inv-loop2 μ-loop2 Inv-loop μ-loop
@@ -582,61 +557,25 @@ add-calls c =
 add-used : tie.Need-add-used Inv-loop2 μ-loop2 Inv-loop μ-loop
 add-used c =
     let u = c .before .before .before .before .before .before .before .before in
-    let fronted = u .before .before in
-    let looped = fronted .before .before .before in
-    let start = looped .before .before .before .before .before in
-    let z = sym (u .before .before .front-of .ensures .0) ∙ u .if2 .left in
-    let f = rw part-rest at (framed _ (clear _ _ _ z .frame) .0) in
-    let n = rw part-rest at (fronted .front-of .ensures .1 z .0) in
-    omega (
-      arith,
-      f,
-      n,
-      length-drop (looped .loop .used) (start .args .list .now),
-      looped .loop .inv .used-in,
-      start .good,
-    )
+    let looped = u .before .before .before .before .before in
+    omega (arith, call-inside u, looped .before .before .before .before .before .good)
+
+-- the two sums of the bytes written
+sum-fits : (u : NotRefused) → writtenOf u + (3 + frontOf u .size) ≤ 0xFFFFFFFFFFFFFFFF
+sum-fits u =
+    let looped = u .before .before .before .before .before in
+    omega (arith, answer-inside u, looped .loop .inv .same, looped .before .before .before .before .before .good)
 
 add-written : tie.Need-add-written Inv-loop2 μ-loop2 Inv-loop μ-loop
-add-written c =
-    let u = c .before .before .before .before .before .before .before .before .before in
-    let fronted = u .before .before in
-    let looped = fronted .before .before .before in
-    let z = sym (u .before .before .front-of .ensures .0) ∙ u .if2 .left in
-    let i = looped .loop .inv in
-    omega (
-      arith,
-      clear _ _ _ z .fits,
-      fronted .front-of .ensures .1 z .1,
-      i .same,
-      i .counted,
-      i .room,
-      looped .before .before .before .before .before .good,
-    )
+add-written c = omega (arith, sum-fits (c .before .before .before .before .before .before .before .before .before))
 
 add-written-2 : tie.Need-add-written-2 Inv-loop2 μ-loop2 Inv-loop μ-loop
-add-written-2 c =
-    let u = c .before .before .before .before .before .before .before .before .before in
-    let fronted = u .before .before in
-    let looped = fronted .before .before .before in
-    let z = sym (u .before .before .front-of .ensures .0) ∙ u .if2 .left in
-    let i = looped .loop .inv in
-    omega (
-      arith,
-      clear _ _ _ z .fits,
-      fronted .front-of .ensures .1 z .1,
-      i .same,
-      i .counted,
-      i .room,
-      looped .before .before .before .before .before .good,
-    )
+add-written-2 c = omega (arith, sum-fits (c .before .before .before .before .before .before .before .before .before))
 
 loop-less : tie.Need-loop-less Inv-loop2 μ-loop2 Inv-loop μ-loop
 loop-less c =
     let u = c .before .before .before .before .before .before .before .before .before in
-    let fronted = u .before .before in
-    let z = sym (u .before .before .front-of .ensures .0) ∙ u .if2 .left in
-    omega (arith, fronted .before .before .loop-test .taken, fronted .front-of .ensures .1 z .0)
+    omega (arith, u .before .before .before .before .loop-test .taken, found-at u .length)
 
 loop-again : tie.Need-loop-again Inv-loop2 μ-loop2 Inv-loop μ-loop
 loop-again c =
@@ -644,16 +583,10 @@ loop-again c =
     let joined = put .before .before in
     let known = joined .before .before in
     let u = known .before in
-    let fronted = u .before .before in
-    let inside = fronted .before .before in
-    let looped = inside .before in
-    let z = sym (u .before .before .front-of .ensures .0) ∙ u .if2 .left in
-    let n = fronted .front-of .ensures .1 z in
-    goes-on _ _ _ _ _ _ _ _ (looped .loop .inv) (inside .loop-test .taken)
-    (λ i. omega (arith, rw part-rest at (known .shared-slice-known2 .given i))) (rw part-rest at z) _
-    (rw part-rest at (board-set joined)) _ (rw part-rest at (value-set joined)) (put .put-answer .last .0)
-    (rw part-rest at (put .put-answer .ensures)) (fronted .front-of .result .length) (fronted .front-of .result .size)
-    (rw part-rest at (n .0)) (rw part-rest at (n .1))
+    let inside = u .before .before .before .before in
+    goes-on _ _ _ _ _ _ _ _ (inside .before .loop .inv) (inside .loop-test .taken) (restOf u) (rest-is u)
+    (λ i. omega (arith, known .shared-slice-known2 .given i)) _ (found-at u) _ (board-set joined) _ (value-set joined)
+    (put .put-answer .last .0) (put .put-answer .ensures)
 
 same-length-2 : tie.Need-same-length-2 Inv-loop2 μ-loop2 Inv-loop μ-loop
 same-length-2 c = omega (arith, c .before .loop .inv .same)
@@ -704,8 +637,8 @@ run-spec =
     clock-after-requires
     enum-told-5
     channel-index-requires-2
-    mul-timer-2
-    element-copy-out-timer-2
+    mul-timer-after
+    element-copy-out-timer-after
     timer-after-requires
     mul-after
     element-set-from-after
@@ -713,9 +646,9 @@ run-spec =
     passing-requires
     channels-requires
     loop2-holds
-    mul-timer-3
-    element-copy-out-timer-3
-    cast-t77
+    mul-timer-2
+    element-copy-out-timer-2
+    cast-t75
     selected-requires
     runs-requires
     advance-cycles-requires
