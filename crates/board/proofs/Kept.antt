@@ -70,7 +70,7 @@ controller-good : (b : Board) → Good b → (q : IrqController) → Good (wired
 unfolding wired
 controller-good b g q =
     record {
-      fits = record { timers = g .fits .timers; clock = g .fits .clock };
+      fits = record { four = g .fits .four; timers = g .fits .timers; clock = g .fits .clock };
       facts = record {
         timers = g .facts .timers;
         enable = g .facts .enable;

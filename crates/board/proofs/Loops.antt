@@ -68,6 +68,11 @@ module _ {A : Type 0} (f : ℕ → A → A) where
   map-ends (suc n) k [] e = absurd (omega arith)
   map-ends (suc n) k (x ∷ xs) e = ap (λ (l : List A). f k x ∷ l) (map-ends n (suc k) xs (omega arith))
 
+  pub map-length : (k : ℕ) (xs : List A) → length (mapFrom f k xs) ≡ length xs
+  unfolding mapFrom
+  map-length k [] = refl
+  map-length k (x ∷ xs) = ap suc (map-length (suc k) xs)
+
 -- ---- a test of every element
 
 -- what is found of every element holds of each

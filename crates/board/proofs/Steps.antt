@@ -26,6 +26,7 @@ use Rattle.clock.proofs.Soundness.{
 }
 use Rattle.clock.proofs.Law.{advance-due as clock-advance-due, advance-own, host-due, line-due as clock-line-due}
 use Rattle.controller.proofs.Laws.{level-set, pending-set}
+use Rattle.channel.specs.Prescaler.{advanced}
 use Rattle.board.specs.declared.Board.{Board}
 use Rattle.board.specs.Channels.{anyLine, soonestOf, advancedAll}
 use Rattle.board.specs.Fields.{withTimers, withClock}
@@ -39,6 +40,7 @@ use Rattle.board.specs.Calls.{
   advancedBoard,
 }
 use Rattle.board.specs.Demand.{DemandCall, advance, hostTime, after, adds, source3}
+use Rattle.board.proofs.Loops.{map-length}
 use Rattle.board.proofs.FourChannels.{
   or-swap,
   channelsDue,
@@ -132,6 +134,7 @@ module _ (c : ℕ) (b : Board) (g : Good b) where
       record {
         good = record {
           fits = record {
+            four = map-length (λ k h. advanced (bit k (b .«timer_enable»)) c h) 0 (b .timers) ∙ g .fits .four;
             timers = channels-fits (b .«timer_enable») c 0 (b .timers) (g .fits .timers);
             clock = sound-fits (rateOf (moved .clock)) (moved .clock) moved-clock;
           };
@@ -176,6 +179,7 @@ module _ (h : HostTime) (b : Board) (small : h .nanoseconds < nanosPerSecond) (g
       record {
         good = record {
           fits = record {
+            four = g .fits .four;
             timers = g .fits .timers;
             clock = sound-fits (rateOf (hosted .clock)) (hosted .clock) hosted-clock;
           };

@@ -4,6 +4,8 @@ use Prim.Native.Nat.{ℕ, min}
 use mathlib.Core.Bool.{Bool, true, false, _&&_, _||_, Bool·beq}
 use mathlib.Core.Option.{Option, none, some}
 use mathlib.Core.List.{List, [], _∷_}
+use mathlib.Core.Path.{_≡_}
+use lib.ListN.{length}
 use lib.Dec.{ltb, eqb}
 use Rattle.wide.specs.Bits.{bit}
 use Rattle.wide.specs.Number.{largest}
@@ -25,8 +27,9 @@ use Rattle.board.specs.Loops.{All, foldFrom}
 use Rattle.board.specs.Channels.{anyLine, soonestOf, allSound}
 use Rattle.board.specs.Fields.{withController}
 
--- what the types of a machine board say of the words that its laws are about
+-- what the types of a machine board say: it has four channels, and the words that its laws are about are words
 pub record BoardFits (b : Board) : Type 0 where
+  pub four : length (b .timers) ≡ 4
   pub timers : All TimerFits (b .timers)
   pub clock : ClockFits (b .clock)
 

@@ -6,27 +6,19 @@ ghost use Rattle.wide.specs.Deadline.{numberOf};
 ghost use Rattle.channel.specs.Channel.{TimerFits};
 ghost use Rattle.board.specs.Loops.{All};
 ghost use Rattle.board.specs.Channels.{advancedAll, soonestOf, anyLine, allSound};
+use crate::Board;
 use channel::ChannelNumber;
 use channel::Cycles;
 use channel::HardwareTimer;
 use wide::deadline::Deadline;
 
-const COUNT: usize = 4;
-
-// The number of channels. The contract also says that the array has as many, which the check does not know of an array
-// in a field.
-pub fn count_of(timers: [HardwareTimer; 4]) -> usize
-    ensures { λ r. ⌜ (r ≡ 4) × (length timers ≡ 4) ⌝ }
-{
-    COUNT
-}
-
-// The contract also says that the channels' words are words.
+// The contract also says that there are four, which the check does not know of an array in a field, and that the
+// channels' words are words.
 pub fn all_sound(timers: [HardwareTimer; 4]) -> bool
-    ensures { λ r. ⌜ (r ≡ allSound timers) × All TimerFits timers ⌝ }
+    ensures { λ r. ⌜ (r ≡ allSound timers) × (length timers ≡ 4) × All TimerFits timers ⌝ }
 {
     let mut all = true;
-    let mut i = COUNT;
+    let mut i = Board::CHANNELS;
     while 0 < i {
         i -= 1;
         let t = timers[i];
@@ -39,7 +31,7 @@ pub fn any_asserted(timers: [HardwareTimer; 4]) -> bool
     ensures { λ r. ⌜ r ≡ anyLine timers ⌝ }
 {
     let mut any = false;
-    let mut i = COUNT;
+    let mut i = Board::CHANNELS;
     while 0 < i {
         i -= 1;
         let t = timers[i];
@@ -53,7 +45,7 @@ pub fn soonest(timers: [HardwareTimer; 4], timer_enable: u8) -> Deadline
     ensures { λ r. ⌜ numberOf r ≡ soonestOf «timer_enable» timers ⌝ }
 {
     let mut soonest = Deadline::Never;
-    let mut i = COUNT;
+    let mut i = Board::CHANNELS;
     while 0 < i {
         i -= 1;
         let t = timers[i];
@@ -73,7 +65,7 @@ pub fn advance_all(
 {
     let mut out = timers;
     let mut i = 0;
-    while i < COUNT {
+    while i < Board::CHANNELS {
         let t = out[i];
         let selected = ChannelNumber(i as u8).selected(timer_enable);
         out[i] = t.advance_cycles(selected, cycles);

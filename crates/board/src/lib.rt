@@ -1,8 +1,6 @@
 // The board: four channels, the clock, the latches of its registers and the controller, by value.
 ghost use mathlib.Core.Path.{_≡_};
-ghost use lib.ListN.{length};
 ghost use Rattle.board.specs.Fields.{freshBoard};
-use crate::channels::count_of;
 use channel::HardwareTimer;
 use clock::Clock;
 use controller::IrqController;
@@ -45,6 +43,9 @@ impl Board {
     // Cycles of a second.
     pub const RATE: u64 = Clock::RATE;
 
+    // The number of channels.
+    pub const CHANNELS: usize = 4;
+
     // Timer enable has a bit for each channel, and so this many values.
     pub const TIMER_ENABLE_VALUES: u8 = 16;
 
@@ -73,13 +74,5 @@ impl Board {
             latches,
             controller,
         }
-    }
-
-    // The number of channels. The contract also says that the board has as many.
-    pub fn channels(self) -> usize
-        ensures { λ r. ⌜ (r ≡ 4) × (length (self .timers) ≡ 4) ⌝ }
-    {
-        let timers = self.timers;
-        count_of(timers)
     }
 }

@@ -117,9 +117,8 @@ pub fn run(board: Board, list: &[u8], answers: &mut [u8]) -> Outcome
                 cycles = p.cycles;
                 if p.made {
                     let enable = b.timer_enable;
-                    let count = b.channels();
                     let mut i = 0;
-                    while i < count {
+                    while i < Board::CHANNELS {
                         let timer = b.timers[i];
                         let selected = ChannelNumber(i as u8).selected(enable);
                         if timer.runs(selected) {

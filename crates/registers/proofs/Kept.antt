@@ -2,9 +2,10 @@
 use Prim.Native.Nat.{ℕ, _+_, _<_}
 use native.Mathlib.Nat.{mod-lt}
 use native.Mathlib.Omega.{arith}
-use mathlib.Core.Path.{refl}
+use mathlib.Core.Path.{_≡_, refl, _∙_}
 use mathlib.Core.Bool.{Bool, cond, _&&_}
 use lib.Dec.{eqb}
+use lib.ListN.{length, length-set}
 use Rattle.wide.specs.Bits.{bit}
 use Rattle.wide.proofs.Choices.{choose}
 use Rattle.channel.specs.Channel.{freshTimer}
@@ -41,6 +42,7 @@ use Rattle.board.specs.declared.Board.{Board}
 use Rattle.board.specs.Loops.{All}
 use Rattle.board.specs.Fields.{withLatches, countLatch}
 use Rattle.board.specs.Board.{heldOf, wired}
+use Rattle.board.proofs.Loops.{map-length}
 use Rattle.board.proofs.Soundness.{facts-sound, clock-facts}
 use Rattle.board.proofs.Steps.{Good, wired-level}
 use Rattle.board.proofs.Kept.{Keeps}
@@ -91,6 +93,7 @@ use Rattle.registers.proofs.Channels.{
 -- ---- all of soundness but the level of source 3, which the end of a call sets
 
 record Unwired (b : Board) : Type 0 where
+  four : length (b .timers) ≡ 4
   timers : All GoodTimer (b .timers)
   enable : b .«timer_enable» < 16
   clock : OwnSound (b .clock)
@@ -98,6 +101,7 @@ record Unwired (b : Board) : Type 0 where
 good-unwired : (b : Board) → Good b → Unwired b
 good-unwired b g =
     record {
+      four = g .fits .four;
       timers = all-good 0 (b .timers) (g .facts .timers) (g .fits .timers);
       enable = g .facts .enable;
       clock = clock-facts b (g .fits .clock) (facts-sound b (g .facts));
@@ -108,6 +112,7 @@ unfolding wired
 unwired-good b p =
     record {
       fits = record {
+        four = p .four;
         timers = good-fits (b .timers) (p .timers);
         clock = sound-fits (rateOf (b .clock)) (b .clock) (p .clock);
       };
@@ -121,7 +126,7 @@ unwired-good b p =
 
 -- the latches have no part in it
 latches-unwired : (b : Board) (ls : Latches) → Unwired b → Unwired (withLatches ls b)
-latches-unwired b ls p = record { timers = p .timers; enable = p .enable; clock = p .clock }
+latches-unwired b ls p = record { four = p .four; timers = p .timers; enable = p .enable; clock = p .clock }
 
 -- ---- a read
 
@@ -137,7 +142,7 @@ module _ (offset : ℕ) where
   live-unwired : (b : Board) → Unwired b → Kept (readLive offset b)
   unfolding readLive
   live-unwired b p =
-      record { timers = p .timers; enable = p .enable; clock = check-kept (b .clock) (p .clock) }
+      record { four = p .four; timers = p .timers; enable = p .enable; clock = check-kept (b .clock) (p .clock) }
 
   -- by a latch, whatever it holds after, or live
   latch-unwired : (b : Board) (v : Bool) (ls : Latches) (byte : ℕ) → Unwired b →
@@ -225,12 +230,14 @@ module _ (v : ℕ) (byte : v < 256) (b : Board) (p : Unwired b) where
   timer-unwired register i =
       choose Unwired (eqb register timerEnableAt)
       (λ _. record {
+        four = p .four;
         timers = p .timers;
         enable = mod-lt (mergeByte i v (b .«timer_enable»)) (omega arith);
         clock = p .clock;
       })
       (λ _. choose Unwired (eqb register timerAckAt && eqb i 3)
       (λ _. record {
+        four = map-length (λ k h. clearedBy (bit k v) h) 0 (b .timers) ∙ p .four;
         timers =
             map-all GoodTimer (λ k h. clearedBy (bit k v) h) (λ k h. cleared-good (bit k v) h) 0 (b .timers)
             (p .timers);
@@ -245,12 +252,14 @@ module _ (v : ℕ) (byte : v < 256) (b : Board) (p : Unwired b) where
       choose Unwired (inTimers offset) (λ _. timer-unwired (registerOf offset) (byteOf offset))
       (λ _. choose Unwired (inClock offset)
       (λ _. record {
+        four = p .four;
         timers = p .timers;
         enable = p .enable;
         clock = clock-written-sound (byteOf offset) v four byte (b .clock) (p .clock) (registerOf offset);
       })
       (λ _. choose Unwired (inChannels offset)
       (λ _. record {
+        four = length-set (b .timers) (channelOf offset) _ ∙ p .four;
         timers =
             set-all GoodTimer (byteWritten (registerOf (placeOf offset)) (byteOf offset) v)
             (byte-written-good (registerOf (placeOf offset)) (byteOf offset) v four byte) freshTimer (channelOf offset)

@@ -58,7 +58,6 @@ use Rattle.list.proofs.run.Statement.{statement}
 use Rattle.list.proofs.run.Tie as tie
 use Rattle.list.proofs.run.Reads as reads
 use Rattle.list.proofs.run.Lts as lts
-use Rattle.board.proofs.Board.channels.Reads as channels-reads
 use Rattle.board.proofs.Board.controller_wired.Reads as controller-wired-reads
 use Rattle.board.proofs.Board.line.Reads as line-reads
 use Rattle.board.proofs.Board.sound.Reads as sound-reads
@@ -85,11 +84,11 @@ use Rattle.registers.proofs.writes.part_at.Reads as part-at-reads
 use Rattle.registers.proofs.writes.timer_after.Reads as timer-after-reads
 
 abbrev Inv-loop2 : tie.InvT-loop2
-Inv-loop2 list answers b₀ calls used written front tag answer cycles line moved enable count i₀ b i =
-    (count ≡ 4) × Advancing enable (cycles .0) i b₀ b
+Inv-loop2 list answers b₀ calls used written front tag answer cycles line moved enable i₀ b i =
+    Advancing enable (cycles .0) i b₀ b
 
 abbrev μ-loop2 : tie.MeasureT-loop2
-μ-loop2 list answers b₀ calls used written front tag answer cycles line moved enable count i₀ b i = count - i
+μ-loop2 list answers b₀ calls used written front tag answer cycles line moved enable i₀ b i = 4 - i
 
 abbrev Inv-loop : tie.InvT-loop
 Inv-loop list answers₀ b₀ calls₀ used₀ written₀ answers b calls used written =
@@ -131,8 +130,6 @@ claims = (
   at-control-reads.Learnt,
   passing-reads.Asked,
   passing-reads.Learnt,
-  channels-reads.Asked,
-  channels-reads.Learnt,
   selected-reads.Asked,
   selected-reads.Learnt,
   runs-reads.Asked,
@@ -244,10 +241,8 @@ carried c =
           (w .13 ∙ w .9 .ensures) (w .11)
       -- an advance is made, or none
       | inr (inr (inr (inr (inr (inr (inr (inl w))))))) ↦ advance-carried l b s y n m a (w .0 .keys3) (w .1 .result)
-          (w .1 .ensures) (ap (λ (x : Cycles). x .0) (w .11)) (w .12) (w .3 .taken)
-          (w .9
-          ∙ all-advanced _ _ _ _ _ (w .5 .inv .1) (omega (arith, w .6 .left, w .5 .inv .0)) refl (w .8 .result)
-          (w .8 .ensures))
+          (w .1 .ensures) (ap (λ (x : Cycles). x .0) (w .10)) (w .11) (w .3 .taken)
+          (w .8 ∙ all-advanced _ _ _ _ _ (w .4 .inv) (w .5 .left) refl (w .7 .result) (w .7 .ensures))
       | inr (inr (inr (inr (inr (inr (inr (inr (inl w)))))))) ↦ skip-carried l b s y n m a (w .0 .keys3) (w .1 .result)
           (w .1 .ensures) (ap (λ (x : Cycles). x .0) (w .6)) (w .7) (w .3 .left) (w .4)
       -- the deadline, and the calls that change host time or the controller at most
@@ -437,22 +432,19 @@ passing-requires c κs = (
   c .before .before .before .before .before .before .before .loop .inv .sound,
 )
 
-channels-requires : tie.Need-channels-requires Inv-loop2 μ-loop2 Inv-loop μ-loop
-channels-requires c κs = tt
-
 loop2-holds : tie.Need-loop2-holds Inv-loop2 μ-loop2 Inv-loop μ-loop
 loop2-holds c =
-    let i = c .before .before .before .before .before .before .before .before .before .before .before .loop .inv in
-    (c .channels .ensures .0, begins _ _ _ (c .channels .ensures .1) (sound-facts _ (i .sound) .timers))
+    let i = c .before .before .before .before .before .before .before .before .before .before .loop .inv in
+    begins _ _ _ (i .fits .four) (sound-facts _ (i .sound) .timers)
 
 mul-timer-2 : tie.Need-mul-timer-2 Inv-loop2 μ-loop2 Inv-loop μ-loop
-mul-timer-2 c = omega (arith, c .loop2-test .taken, c .before .loop2 .inv .0)
+mul-timer-2 c = omega (arith, c .loop2-test .taken)
 
 element-copy-out-timer-2 : tie.Need-element-copy-out-timer-2 Inv-loop2 μ-loop2 Inv-loop μ-loop
-element-copy-out-timer-2 c = omega (arith, c .loop2-test .taken, c .before .loop2 .inv .0)
+element-copy-out-timer-2 c = c .loop2-test .taken
 
-cast-t75 : tie.Need-cast-t75 Inv-loop2 μ-loop2 Inv-loop μ-loop
-cast-t75 c = omega (arith, c .before .loop2-test .taken, c .before .before .loop2 .inv .0)
+cast-t73 : tie.Need-cast-t73 Inv-loop2 μ-loop2 Inv-loop μ-loop
+cast-t73 c = omega (arith, c .before .loop2-test .taken)
 
 selected-requires : tie.Need-selected-requires Inv-loop2 μ-loop2 Inv-loop μ-loop
 selected-requires c κs = tt
@@ -461,67 +453,36 @@ runs-requires : tie.Need-runs-requires Inv-loop2 μ-loop2 Inv-loop μ-loop
 runs-requires c κs = tt
 
 advance-cycles-requires : tie.Need-advance-cycles-requires Inv-loop2 μ-loop2 Inv-loop μ-loop
-advance-cycles-requires c κs = next-phase _ _ _ _ _ (c .before .before .before .before .before .loop2 .inv .1)
-    (omega (
-      arith,
-      c .before .before .before .before .loop2-test .taken,
-      c .before .before .before .before .before
-          .loop2 .inv .0,
-    ))
+advance-cycles-requires c κs = next-phase _ _ _ _ _ (c .before .before .before .before .before .loop2 .inv)
+    (c .before .before .before .before .loop2-test .taken)
 
 mul-after-2 : tie.Need-mul-after-2 Inv-loop2 μ-loop2 Inv-loop μ-loop
-mul-after-2 c =
-    omega (
-      arith,
-      c .before .before .before .before .before .loop2-test .taken,
-      c .before .before .before .before
-          .before .before .loop2 .inv .0,
-    )
+mul-after-2 c = omega (arith, c .before .before .before .before .before .loop2-test .taken)
 
 element-set-from-after-2 : tie.Need-element-set-from-after-2 Inv-loop2 μ-loop2 Inv-loop μ-loop
-element-set-from-after-2 c =
-    omega (
-      arith,
-      c .before .before .before .before .before .loop2-test .taken,
-      c .before .before .before .before
-          .before .before .loop2 .inv .0,
-    )
+element-set-from-after-2 c = c .before .before .before .before .before .loop2-test .taken
 
 add-i : tie.Need-add-i Inv-loop2 μ-loop2 Inv-loop μ-loop
-add-i c =
-    omega (
-      arith,
-      c .before .before .before .before .loop2-test .taken,
-      c .before .before .before .before .before
-          .loop2 .inv .0,
-    )
+add-i c = omega (arith, c .before .before .before .before .loop2-test .taken)
 
 loop2-less : tie.Need-loop2-less Inv-loop2 μ-loop2 Inv-loop μ-loop
-loop2-less c =
-    omega (
-      arith,
-      c .before .before .before .before .loop2-test .taken,
-      c .before .before .before .before .before
-          .loop2 .inv .0,
-    )
+loop2-less c = omega (arith, c .before .before .before .before .loop2-test .taken)
 
 loop2-again : tie.Need-loop2-again Inv-loop2 μ-loop2 Inv-loop μ-loop
 loop2-again c =
     let l = c .before .before .before .before .before .loop2 in
-    let h : l .i < 4 = omega (arith, c .before .before .before .before .loop2-test .taken, l .inv .0) in
-    let e = c .before .before .selected .ensures in (
-      l .inv .0,
-      elim (c .if5 .came) [
-        | inl u ↦ rw (u .2) (turns _ _ _ _ _ (l .inv .1) h _ e _ (u .1 .ensures))
-        | inr u ↦ rw (u .1) (passed-over _ _ _ _ _ (l .inv .1) h _ e (sym (c .before .runs .ensures) ∙ u .0 .left))
-      ],
-    )
+    let h = c .before .before .before .before .loop2-test .taken in
+    let e = c .before .before .selected .ensures in
+    elim (c .if5 .came) [
+      | inl u ↦ rw (u .2) (turns _ _ _ _ _ (l .inv) h _ e _ (u .1 .ensures))
+      | inr u ↦ rw (u .1) (passed-over _ _ _ _ _ (l .inv) h _ e (sym (c .before .runs .ensures) ∙ u .0 .left))
+    ]
 
 advance-requires : tie.Need-advance-requires Inv-loop2 μ-loop2 Inv-loop μ-loop
 advance-requires c κs =
     let i = c .before .before .before .before .before .before .before .before .before .before .before .before .before
-    .before .loop .inv in
-    still-timed _ _ _ _ _ (c .before .before .loop2 .inv .1) (sound-times _ (i .fits .clock) (i .sound))
+    .loop .inv in
+    still-timed _ _ _ _ _ (c .before .before .loop2 .inv) (sound-times _ (i .fits .clock) (i .sound))
 
 deadline-requires : tie.Need-deadline-requires Inv-loop2 μ-loop2 Inv-loop μ-loop
 deadline-requires c κs = c .before .before .before .before .before .before .before .loop .inv .sound
@@ -644,11 +605,10 @@ run-spec =
     element-set-from-after
     at-control-requires
     passing-requires
-    channels-requires
     loop2-holds
     mul-timer-2
     element-copy-out-timer-2
-    cast-t75
+    cast-t73
     selected-requires
     runs-requires
     advance-cycles-requires

@@ -32,7 +32,8 @@ returns c =
         c .before .before .before .all-sound .ensures .0,
       ),
       record {
-        timers = c .before .before .before .all-sound .ensures .1;
+        four = c .before .before .before .all-sound .ensures .1;
+        timers = c .before .before .before .all-sound .ensures .2;
         clock = record {
           seconds = omega (arith, s .good);
           alarm = omega (arith, s .good);

@@ -59,7 +59,7 @@ returns : tie.Need-returns Inv-loop μ-loop
 returns c =
     let l = c .before .loop in
     let z : l .i ≡ 0 = omega arith in
-    (rw z at (l .inv .1), rw z at (l .inv .2))
+    (rw z at (l .inv .1), search needs, rw z at (l .inv .2))
 
 pub all-sound-spec : {M : Type 1} → statement M
 all-sound-spec =
