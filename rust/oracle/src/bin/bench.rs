@@ -1,8 +1,8 @@
 //! Times the proved board and the original Rust on the same lists, through the same driver.
 //!
-//! `bench` prints, for each kind of list, nanoseconds a call of both, median and spread of five repeats, and the
-//! ratio; and the seconds of a ten-year record. `bench NAME` prints one kind alone. Above its table it prints how the
-//! Rust is built.
+//! `bench` prints, for each kind of list, nanoseconds a call of both, median and spread of 25 repeats; the median of the
+//! ratios of the repeats that stand next to each other; and the seconds of a ten-year record. `bench NAME` prints one
+//! kind alone. Above its table it prints how the Rust is built.
 
 use std::process::ExitCode;
 use std::time::Instant;
@@ -12,7 +12,7 @@ use oracle::kinds::{self, Kind, BUFFER};
 use oracle::list;
 use oracle::proved;
 
-const REPEATS: usize = 5;
+const REPEATS: usize = 25;
 
 fn main() -> ExitCode {
     if cfg!(debug_assertions) {
@@ -47,7 +47,8 @@ fn measure(kind: &Kind) {
     let calls = kind.list.len() as u64 * kind.times;
     let mut seconds: [Vec<f64>; 2] = [Vec::new(), Vec::new()];
     let mut buffers = [vec![0; BUFFER], vec![0; BUFFER]];
-    // The two take turns, so that a slow spell of the machine meets both.
+    // The two take turns, so that a slow spell of the machine meets both, and their ratio is that of two repeats next to
+    // each other.
     for _ in 0..REPEATS {
         let runners: [Runner; 2] = [list::run_repeated, proved::run_repeated];
         for ((runner, seconds), buffer) in runners.into_iter().zip(&mut seconds).zip(&mut buffers) {
@@ -59,10 +60,9 @@ fn measure(kind: &Kind) {
         }
     }
     assert!(buffers[0] == buffers[1], "{}: the answers differ", kind.name);
-    let [rust, proved] = seconds.map(|mut seconds| {
-        seconds.sort_by(f64::total_cmp);
-        seconds
-    });
+    let [rust, proved] = &seconds;
+    let ratios = sorted(proved.iter().zip(rust).map(|(proved, rust)| proved / rust).collect());
+    let [rust, proved] = seconds.map(sorted);
     let per_call = |seconds: &[f64]| {
         let scale = 1e9 / calls as f64;
         let [least, median, most] = [0, REPEATS / 2, REPEATS - 1].map(|at| seconds[at] * scale);
@@ -73,8 +73,13 @@ fn measure(kind: &Kind) {
         kind.name,
         per_call(&rust),
         per_call(&proved),
-        proved[REPEATS / 2] / rust[REPEATS / 2],
+        ratios[REPEATS / 2],
         rust[REPEATS / 2],
         proved[REPEATS / 2],
     );
+}
+
+fn sorted(mut values: Vec<f64>) -> Vec<f64> {
+    values.sort_by(f64::total_cmp);
+    values
 }
