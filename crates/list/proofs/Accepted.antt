@@ -20,10 +20,10 @@ use Rattle.board.specs.declared.Latches.{Latches}
 use Rattle.board.specs.declared.calls.Passing.{Passing}
 use Rattle.board.specs.Fields.{withController, channelAt, withChannel}
 use Rattle.board.specs.Board.{line, wired, sound}
-use Rattle.board.specs.Calls.{Call, boardAfter, movedBoard, deadlineCall}
+use Rattle.board.specs.Calls.{boardAfter, movedBoard, deadlineCall}
 use Rattle.board.specs.CodeCalls.{passingOf}
 use Rattle.board.proofs.Soundness.{facts-sound}
-use Rattle.board.proofs.Steps.{Good, good}
+use Rattle.board.proofs.Steps.{good}
 use Rattle.offsets.specs.Registers.{base, registerOf, byteOf, placeOf}
 use Rattle.registers.specs.declared.reads.Reading.{Reading}
 use Rattle.registers.specs.declared.reads.PlainReading.{PlainReading}
@@ -52,7 +52,7 @@ use Rattle.format.specs.Format.{
 use Rattle.format.proofs.Frames.{framed}
 use Rattle.perform.specs.declared.Effect.{Effect}
 use Rattle.perform.specs.declared.Front.{Front}
-use Rattle.perform.specs.Calls.{argument, callOf, callAt, refusalAt}
+use Rattle.perform.specs.Calls.{callAt, refusalAt}
 use Rattle.perform.specs.CodeCalls.{FrontFound, cyclesAt, answeredBytes, Lesser, withEffect, EffectIs}
 use Rattle.perform.proofs.Calls.{read-is, write-is, deadline-is, passes, stays, other-bytes}
 use Rattle.list.specs.declared.Outcome.{Outcome}

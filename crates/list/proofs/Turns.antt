@@ -1,17 +1,17 @@
 -- What becomes of the call at the front of a list, by its refusal. Assumes nothing.
 use Prim.Native.Nat.{ℕ, _+_, _≤_, _<_}
 use native.Mathlib.Omega.{arith}
-use mathlib.Core.Path.{_≡_, refl, sym, ap, _∙_, subst}
-use mathlib.Core.Bool.{false, false≢true}
+use mathlib.Core.Path.{_≡_, refl, ap, _∙_, subst}
+use mathlib.Core.Bool.{false}
 use mathlib.Core.List.{List, [], _∷_}
 use lib.ListN.{length, getD}
-use lib.Dec.{ltb, eqb}
-use borrow.Author.Tests.{ltb-false, lt-ltb, le-ltb, eqb-true, eq-eqb}
-use Rattle.wide.proofs.Choices.{choose, either}
+use lib.Dec.{eqb}
+use borrow.Author.Tests.{eqb-true}
+use Rattle.wide.proofs.Choices.{choose}
 use Rattle.board.specs.declared.Board.{Board}
 use Rattle.board.specs.Calls.{boardAfter}
 use Rattle.board.proofs.Steps.{Good}
-use Rattle.format.specs.Format.{valueLength, answerLength, tagAt, argumentsOf, frameRefusal, answerBytes, recordOf}
+use Rattle.format.specs.Format.{valueLength, answerLength, tagAt, argumentsOf, answerBytes, recordOf}
 use Rattle.format.proofs.Frames.{framed, members-below, record-length, answer-length}
 use Rattle.perform.specs.Calls.{argument, callAt, refusalAt}
 use Rattle.perform.proofs.Refusals.{Clear, clear}

@@ -3,7 +3,7 @@ use mathlib.Core.Path.{_≡_, refl, sym, ap, _∙_}
 use mathlib.Core.Bool.{true, false, true≢false}
 use mathlib.Core.Logic.{inl, inr}
 use mathlib.Core.List.{List}
-use Prim.Native.Nat.{ℕ, _+_, _-_, _≤_, _<_}
+use Prim.Native.Nat.{ℕ, _+_, _-_, _≤_}
 use native.Mathlib.Omega.{arith}
 use lib.ListN.{length, take, drop}
 use borrow.Author.Tests.{not-true, not-false, ne-eqb}
@@ -22,7 +22,6 @@ use Rattle.registers.specs.declared.writes.WritePart.the-variants.{
 }
 use Rattle.registers.proofs.Timing.{sound-times}
 use Rattle.registers.proofs.CodeWrites.{channel-range}
-use Rattle.format.specs.declared.Answer.{Answer}
 use Rattle.format.specs.Format.{tagAt, answerBytes, valueBytes}
 use Rattle.format.proofs.Frames.{framed, part-rest, answer-length}
 use Rattle.perform.specs.Calls.{callAt}
