@@ -1,11 +1,12 @@
 -- The calls 01 and 04 that a run carries out one after another are a list of the deadline's promise. Assumes nothing.
-use Prim.Native.Nat.{ℕ, suc, _+_, _-_, _<_}
+use Prim.Native.Nat.{ℕ, zero, suc, _+_, _-_, _<_}
 use native.Mathlib.Nat.{add-zero, zero-add}
 use native.Mathlib.Omega.{arith}
 use mathlib.Core.Path.{_≡_, refl, sym, ap, _∙_, subst}
 use mathlib.Core.Bool.{true, false}
-use mathlib.Core.List.{List, [], _∷_, _++_}
-use lib.ListN.{length, take, drop}
+use mathlib.Core.List.{List, [], _∷_, _++_, append-assoc}
+use lib.ListN.{length, take, drop, getD, length-append}
+use lib.Seq.{drop-append-le}
 use Rattle.wide.specs.Fields.{beAt}
 use Rattle.clock.specs.Clock.{fromHost}
 use Rattle.board.specs.declared.Board.{Board}
@@ -32,8 +33,9 @@ use Rattle.perform.specs.Calls.{callOf, callAt}
 use Rattle.list.specs.Run.{Turn, done, refused, turnOf, stepped, Run, runOn, nothingDone, runOf}
 use Rattle.list.specs.Demand.{FrontIs, ListIs}
 use Rattle.format.proofs.Frames.{framed}
-use Rattle.list.proofs.Turns.{done-placed}
+use Rattle.list.proofs.Turns.{done-placed, done-fits}
 use Rattle.list.proofs.Runs.{go-on, stop-at}
+use Rattle.list.proofs.TwoParts.{turn-before, joined, run-keeps, two-parts}
 
 -- ---- one call
 
@@ -156,11 +158,132 @@ run-after b l room calls f s h =
     let c = carried calls l room (nothingDone b 0) [] (good b f s) h in
     rw s (c .board ∙ ap (λ (n : ℕ). afterAll (take n calls) b) (sym (c .counted ∙ zero-add (c .count))))
 
--- what is promised of the deadline that the board gave holds of the run's board
-pub run-demand-3 : (b : Board) (l : List ℕ) (room : ℕ) (calls : List DemandCall) → BoardFits b → sound b ≡ true →
-    line b ≡ false → fromHost (b .clock .control) ≡ false → ListIs l calls →
-    (runOf b l room .outcome .board ≡ afterAll (take (runOf b l room .outcome .calls) calls) b)
-    × PromiseAfter (isPresent (exactDeadline b)) (orZero (exactDeadline b)) (orZero (wordDeadline (exactDeadline b))) b
-    (take (runOf b l room .outcome .calls) calls)
-run-demand-3 b l room calls f s low o h =
-    (run-after b l room calls f s h, demand-3 b f s low o (take (runOf b l room .outcome .calls) calls))
+-- ---- bytes behind the calls
+
+-- a run that is refused inside the calls ends there, whatever stands behind them
+ends-inside : (m : List ℕ) (calls : List DemandCall) (l : List ℕ) (room : ℕ) (s : Outcome) (out : List ℕ) →
+    s .refusal ≡ 0 → ListIs l calls → (runOn 0 l room s out .outcome .refusal ≡ 0 → ⊥) →
+    runOn 0 (l ++ m) room s out ≡ runOn 0 l room s out
+unfolding ListIs runOn stepped
+ends-inside m [] l room s out z e r = absurd (r (rw e z))
+ends-inside m (a ∷ calls) l room s out z h r =
+    onward (λ n o x y i q. ends-inside m calls (drop n l) room o x y i q)
+    (turnOf (s .board) l (room - length out)) refl
+  where
+    frame : frameRefusal l ≡ 0
+    frame = front-framed l a (h .0)
+
+    inside : 0 < length l
+    inside = omega (arith, framed l frame)
+
+    longer : 0 < length (l ++ m)
+    longer = omega (arith, inside, length-append l m)
+
+    onward :
+        ((n : ℕ) (o : Outcome) (x : List ℕ) → o .refusal ≡ 0 → ListIs (drop n l) calls →
+        (runOn 0 (drop n l) room o x .outcome .refusal ≡ 0 → ⊥) →
+        runOn 0 (drop n l ++ m) room o x ≡ runOn 0 (drop n l) room o x) →
+        (t : Turn) → turnOf (s .board) l (room - length out) ≡ t →
+        runOn 0 (l ++ m) room s out ≡ runOn 0 l room s out
+    onward next (refused n) e =
+        stop-at (l ++ m) room s out longer n (turn-before (s .board) l m (room - length out) frame ∙ e)
+        ∙ sym (stop-at l room s out inside n e)
+    onward next (done b n x) e =
+        let i = subst (λ (k : ℕ). ListIs (drop k l) calls)
+        (sym (done-length l (s .board) (room - length out) b n x e)) (h .1) in
+        let g = go-on l room s out inside b n x e in
+        let f = done-fits (s .board) l (room - length out) b n x e in
+        go-on (l ++ m) room s out longer b n x (turn-before (s .board) l m (room - length out) frame ∙ e)
+        ∙ ap (λ (k : List ℕ). runOn 0 k room (stepped s (done b n x)) (out ++ x)) (drop-append-le n l m (f .1 .0))
+        ∙ next n (stepped s (done b n x)) (out ++ x) refl i (λ y. r (ap (λ (q : Run). q .outcome .refusal) g ∙ y))
+        ∙ sym g
+
+-- ---- a stretch of a run
+
+-- bytes in front of bytes
+bytes-before : (l m : List ℕ) → ((i : ℕ) → getD (l ++ m) i 0 < 256) → (i : ℕ) → getD l i 0 < 256
+bytes-before [] m h i = omega arith
+bytes-before (x ∷ l) m h zero = h 0
+bytes-before (x ∷ l) m h (suc i) = bytes-before l m (λ j. h (suc j)) i
+
+-- a run over a sound board is refused inside the calls: what stands behind them has no part in it
+run-ends : (b : Board) (l m : List ℕ) (room : ℕ) (calls : List DemandCall) → sound b ≡ true → ListIs l calls →
+    (runOf b l room .outcome .refusal ≡ 0 → ⊥) → runOf b (l ++ m) room ≡ runOf b l room
+unfolding runOf
+run-ends b l m room calls s h r =
+    rw s (ends-inside m calls l room (nothingDone b 0) [] refl h (rw s at r))
+
+-- of a run over b whose list is `first`, `stretch` and `last`, one after another: the calls are those of the stretch
+module _ (b : Board) (first stretch last : List ℕ) (room : ℕ) (calls : List DemandCall) where
+  -- the run up to the stretch, the run up to its end, and the whole run
+  abbrev pub Before : Run
+  Before = runOf b first room
+
+  abbrev pub Through : Run
+  Through = runOf b (first ++ stretch) room
+
+  abbrev pub Whole : Run
+  Whole = runOf b ((first ++ stretch) ++ last) room
+
+  -- the board at the stretch's start
+  abbrev pub AtStart : Board
+  AtStart = Before .outcome .board
+
+  -- the calls of the stretch that the run carries out: all of them, or those before the one that it refuses
+  abbrev pub CarriedOut : List DemandCall
+  CarriedOut = take (Through .outcome .calls - Before .outcome .calls) calls
+
+  pub record Stretch : Type 0 where
+    -- the board at its end is the board after these calls
+    pub board : Through .outcome .board ≡ afterAll CarriedOut AtStart
+    -- and what is promised of the deadline of the board at its start holds of them
+    pub promise : PromiseAfter (isPresent (exactDeadline AtStart)) (orZero (exactDeadline AtStart))
+        (orZero (wordDeadline (exactDeadline AtStart))) AtStart CarriedOut
+    -- the whole run does the same up to there, and goes on from there over what stands behind the stretch
+    pub goes-on : Through .outcome .refusal ≡ 0 →
+        Whole ≡ joined Through (runOf (Through .outcome .board) last (room - length (Through .answers)))
+    -- or it is refused inside the stretch, and ends there
+    pub ends : (Through .outcome .refusal ≡ 0 → ⊥) → Whole ≡ Through
+
+  -- the stretch by itself, over the board at its start
+  abbrev Alone : Run
+  Alone = runOf AtStart stretch (room - length (Before .answers))
+
+  -- by parts: the run through the stretch is the run up to it, and then the stretch by itself
+  by-parts : Through ≡ joined Before Alone → Good AtStart → ListIs stretch calls → line AtStart ≡ false →
+      fromHost (AtStart .clock .control) ≡ false →
+      (Through .outcome .board ≡ afterAll CarriedOut AtStart)
+      × PromiseAfter (isPresent (exactDeadline AtStart)) (orZero (exactDeadline AtStart))
+      (orZero (wordDeadline (exactDeadline AtStart))) AtStart CarriedOut
+  by-parts e g h low o =
+      let s = facts-sound AtStart (g .facts) in
+      let n : Alone .outcome .calls ≡ Through .outcome .calls - Before .outcome .calls =
+      omega (arith, ap (λ (q : Run). q .outcome .calls) e) in
+      (
+        ap (λ (q : Run). q .outcome .board) e
+        ∙ run-after AtStart stretch (room - length (Before .answers)) calls (g .fits) s h
+        ∙ ap (λ (k : ℕ). afterAll (take k calls) AtStart) n,
+        demand-3 AtStart (g .fits) s low o CarriedOut,
+      )
+
+  -- what is promised of the deadline holds of every stretch of calls 01 and 04 of a run, whatever stands before it and
+  -- behind it
+  pub run-demand-3 : BoardFits b → ((i : ℕ) → getD (first ++ stretch) i 0 < 256) → ListIs stretch calls →
+      Before .outcome .refusal ≡ 0 → line AtStart ≡ false → fromHost (AtStart .clock .control) ≡ false → Stretch
+  run-demand-3 f bytes h z low o =
+      let few = bytes-before first stretch bytes in
+      let g = run-keeps b first room f few z in
+      let e = two-parts b first stretch room f few z in
+      let p = by-parts e g h low o in
+      record {
+        board = p .0;
+        promise = p .1;
+        goes-on = two-parts b (first ++ stretch) last room f bytes;
+        ends = λ r.
+            ap (λ (l : List ℕ). runOf b l room) (append-assoc first stretch last)
+            ∙ two-parts b first (stretch ++ last) room f few z
+            ∙ ap (joined Before)
+            (run-ends AtStart stretch last (room - length (Before .answers)) calls (facts-sound AtStart (g .facts)) h
+            (λ y. r (ap (λ (q : Run). q .outcome .refusal) e ∙ y)))
+            ∙ sym e;
+      }

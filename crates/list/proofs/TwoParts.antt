@@ -23,7 +23,7 @@ use Rattle.list.proofs.Runs.{next-done, next-refused}
 
 -- ---- bytes behind a call have no part in it
 
-turn-before : (b : Board) (l m : List ℕ) (room : ℕ) → frameRefusal l ≡ 0 → turnOf b (l ++ m) room ≡ turnOf b l room
+pub turn-before : (b : Board) (l m : List ℕ) (room : ℕ) → frameRefusal l ≡ 0 → turnOf b (l ++ m) room ≡ turnOf b l room
 unfolding turnOf refusalAt
 turn-before b l m room e = rw (frame-before l e m, arguments-before l e m, tag-before l e m, e)
 
@@ -154,6 +154,14 @@ run-good zero (x ∷ l) room s out h g =
         rw (next-done x l room s out b n a e)
         (next (n - 1) (stepped s (done b n a)) (out ++ a)
         (rw e at (step-good (x ∷ l) h s g (room - length out))))
+
+-- so does a whole run that is not refused, for its board was sound
+pub run-keeps : (b : Board) (l : List ℕ) (room : ℕ) → BoardFits b → ((i : ℕ) → getD l i 0 < 256) →
+    runOf b l room .outcome .refusal ≡ 0 → Good (runOf b l room .outcome .board)
+unfolding runOf
+run-keeps b l room f bytes z =
+    either (sound b) (λ s. rw s (run-good 0 l room (nothingDone b 0) [] bytes (good b f s)))
+    (λ s. let one : _≡_ {A = ℕ} 1 0 = rw s at z in absurd (omega arith))
 
 -- ---- the whole
 
