@@ -1,10 +1,10 @@
--- What a contract quotes of the deadline. Each theorem is about a sound machine board whose line is low, whose clock
--- does not run from host time, and whose deadline is d. Assumes nothing.
+-- What a contract quotes of the deadline. Each theorem is about a sound machine board whose line is low and whose clock
+-- does not run from host time: first where its deadline is d, last where it gives none. Assumes nothing.
 use Prim.Native.Nat.{ℕ, _+_, _-_, _≤_, _<_, min}
 use native.Mathlib.Omega.{arith}
 use mathlib.Core.Path.{_≡_, sym, ap, _∙_}
-use mathlib.Core.Bool.{true, false, _||_}
-use mathlib.Core.Option.{Option, some}
+use mathlib.Core.Bool.{true, false, _||_, or-false, or-true}
+use mathlib.Core.Option.{Option, none, some}
 use mathlib.Core.List.{List}
 use lib.Dec.{leb}
 use borrow.Author.Tests.{le-leb, lt-leb}
@@ -17,9 +17,9 @@ use Rattle.clock.specs.Clock.{fromHost}
 use Rattle.board.specs.declared.Board.{Board}
 use Rattle.board.specs.Board.{BoardFits, line, exactDeadline, wired, sound}
 use Rattle.board.specs.Calls.{answerOf, refusalOf, skipAnswer, movedBoard, advancedBoard, skipCall, skipLength}
-use Rattle.board.specs.Demand.{DemandCall, afterAll, total}
+use Rattle.board.specs.Demand.{DemandCall, afterAll, total, source3}
 use Rattle.board.proofs.Steps.{good, boardDue, line-due, wired-line, advance-step}
-use Rattle.board.proofs.Demand3.{line-after}
+use Rattle.board.proofs.Demand3.{line-after, source-after}
 use Rattle.board.proofs.Answers.{answer-accepted}
 
 module _ (b : Board) (f : BoardFits b) (s : sound b ≡ true) (low : line b ≡ false)
@@ -29,13 +29,27 @@ module _ (b : Board) (f : BoardFits b) (s : sound b ≡ true) (low : line b ≡ 
   line-is : (calls : List DemandCall) → line (afterAll calls b) ≡ leb d (total calls b)
   line-is calls = line-after b f s low o calls ∙ ap (λ (x : Option ℕ). due x (total calls b)) given
 
-  -- after exactly D cycles, split in any way, the line is high
-  pub high-at-deadline : (calls : List DemandCall) → total calls b ≡ d → line (afterAll calls b) ≡ true
-  high-at-deadline calls e = line-is calls ∙ le-leb d (total calls b) (omega arith)
+  pending-is : (calls : List DemandCall) → source3 (afterAll calls b) ≡ (source3 b || leb d (total calls b))
+  pending-is calls =
+      source-after b f s low o calls ∙ ap (λ (x : Option ℕ). source3 b || due x (total calls b)) given
 
-  -- one cycle before it is low
-  pub low-before-deadline : (calls : List DemandCall) → total calls b + 1 ≡ d → line (afterAll calls b) ≡ false
-  low-before-deadline calls e = line-is calls ∙ lt-leb d (total calls b) (omega arith)
+  -- as long as the cycles add up to less than D, split in any way, the line is low
+  pub low-below-deadline : (calls : List DemandCall) → total calls b < d → line (afterAll calls b) ≡ false
+  low-below-deadline calls l = line-is calls ∙ lt-leb d (total calls b) l
+
+  -- and source 3's pending bit is as it was
+  pub kept-below-deadline : (calls : List DemandCall) → total calls b < d → source3 (afterAll calls b) ≡ source3 b
+  kept-below-deadline calls l =
+      pending-is calls ∙ ap (λ v. source3 b || v) (lt-leb d (total calls b) l) ∙ or-false (source3 b)
+
+  -- as soon as they add up to D or more it is high
+  pub high-from-deadline : (calls : List DemandCall) → d ≤ total calls b → line (afterAll calls b) ≡ true
+  high-from-deadline calls l = line-is calls ∙ le-leb d (total calls b) l
+
+  -- and source 3's pending bit is set
+  pub pending-from-deadline : (calls : List DemandCall) → d ≤ total calls b → source3 (afterAll calls b) ≡ true
+  pending-from-deadline calls l =
+      pending-is calls ∙ ap (λ v. source3 b || v) (le-leb d (total calls b) l) ∙ or-true (source3 b)
 
   -- what is due after one advance
   due-after : (c t : ℕ) → boardDue (advancedBoard c b) t ≡ leb d (c + t)
@@ -72,3 +86,17 @@ module _ (b : Board) (f : BoardFits b) (s : sound b ≡ true) (low : line b ≡ 
       let z : refusalOf b 0 ≡ 0 = rw s in
       let a = answer-accepted skipCall b z in
       (rw (a, by), rw (a, by, flag-back) v, rw (a, by) high, λ c k. advance-reaches c ∙ lt-leb d c k)
+
+-- where it gives no deadline
+module _ (b : Board) (f : BoardFits b) (s : sound b ≡ true) (low : line b ≡ false)
+    (o : fromHost (b .clock .control) ≡ false) (none-given : exactDeadline b ≡ none) (calls : List DemandCall) where
+  -- no number of cycles raises the line
+  pub low-without-deadline : line (afterAll calls b) ≡ false
+  low-without-deadline = line-after b f s low o calls ∙ ap (λ (x : Option ℕ). due x (total calls b)) none-given
+
+  -- or changes source 3's pending bit
+  pub kept-without-deadline : source3 (afterAll calls b) ≡ source3 b
+  kept-without-deadline =
+      source-after b f s low o calls
+      ∙ ap (λ (x : Option ℕ). source3 b || due x (total calls b)) none-given
+      ∙ or-false (source3 b)

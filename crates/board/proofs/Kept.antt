@@ -29,7 +29,6 @@ use Rattle.board.specs.Calls.{
   answerOf,
   hostTimeRefusal,
   hostTimeCall,
-  movedBoard,
   advancedBoard,
   advanceCall,
   deadlineCall,

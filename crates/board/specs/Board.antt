@@ -3,22 +3,17 @@
 use Prim.Native.Nat.{ℕ, min}
 use mathlib.Core.Bool.{Bool, true, false, _&&_, _||_, Bool·beq}
 use mathlib.Core.Option.{Option, none, some}
-use mathlib.Core.List.{List, [], _∷_}
 use mathlib.Core.Path.{_≡_}
 use lib.ListN.{length}
 use lib.Dec.{ltb, eqb}
 use Rattle.wide.specs.Bits.{bit}
 use Rattle.wide.specs.Number.{largest}
 use Rattle.wide.specs.Deadline.{sooner}
-use Rattle.channel.specs.declared.HardwareTimer.{HardwareTimer}
-use Rattle.channel.specs.Channel.{TimerFits, freshTimer}
-use Rattle.clock.specs.declared.Clock.{Clock}
+use Rattle.channel.specs.Channel.{TimerFits}
 use Rattle.clock.specs.Clock.{rateOf}
-use Rattle.clock.specs.Fields.{freshClock}
 use Rattle.clock.specs.Sound.{ClockFits, soundClock}
 use Rattle.clock.specs.Deadline.{clockLine, clockDeadline}
-use Rattle.controller.specs.declared.IrqController.{IrqController}
-use Rattle.controller.specs.Controller.{fresh, sourceSet}
+use Rattle.controller.specs.Controller.{sourceSet}
 use Rattle.board.specs.declared.Latch.{Latch}
 use Rattle.board.specs.declared.Latch.the-variants.{Empty, Held}
 use Rattle.board.specs.declared.Latches.{Latches}
