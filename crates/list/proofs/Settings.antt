@@ -179,7 +179,9 @@ settings =
     && gives (exactDeadline settingF) 96_000_000
     -- G seconds 2^64 − 1: 47,999,999 cycles leave that subsecond, 48,000,000 leave 0
     && eqb (advancedBoard 47_999_999 settingG .clock .subsecond) 47_999_999
+    && eqb (advancedBoard 47_999_999 settingG .clock .seconds) (2 ^ 64 - 1)
     && eqb (advancedBoard 48_000_000 settingG .clock .subsecond) 0
+    && eqb (advancedBoard 48_000_000 settingG .clock .seconds) (2 ^ 64 - 1)
     -- H pending bits 5 and 9, enable 0x0200: 9; 0x0220: 5
     && settingH 0x0200 .valid
     && eqb (settingH 0x0200 .number .0) 9
