@@ -3,11 +3,14 @@ use Prim.Native.Nat.{ℕ, zero, suc, _+_, _-_, _<_}
 use native.Mathlib.Nat.{add-zero, zero-add}
 use native.Mathlib.Omega.{arith}
 use mathlib.Core.Path.{_≡_, refl, sym, ap, _∙_, subst}
-use mathlib.Core.Bool.{true, false}
+use mathlib.Core.Bool.{Bool, true, false}
 use mathlib.Core.List.{List, [], _∷_, _++_, append-assoc}
 use lib.ListN.{length, take, drop, getD, length-append}
 use lib.Seq.{drop-append-le}
-use Rattle.wide.specs.Fields.{beAt}
+use lib.Dec.{eqb}
+use Rattle.wide.specs.Bits.{flagOf}
+use Rattle.wide.specs.Fields.{beAt, be}
+use Rattle.wide.proofs.Choices.{choose}
 use Rattle.clock.specs.Clock.{fromHost}
 use Rattle.board.specs.declared.Board.{Board}
 use Rattle.board.specs.Board.{BoardFits, line, exactDeadline, wordDeadline, sound}
@@ -19,17 +22,27 @@ use Rattle.board.specs.Calls.{
   answerOf,
   isPresent,
   orZero,
+  movedBoard,
   advanceCall,
   hostTimeCall,
 }
 use Rattle.board.specs.Demand.{DemandCall, advance, hostTime, after, afterAll, PromiseAfter}
 use Rattle.board.proofs.Soundness.{facts-sound}
-use Rattle.board.proofs.Steps.{Good, good, call-step}
+use Rattle.board.proofs.Steps.{Good, good, wired-line, call-step}
 use Rattle.board.proofs.Answers.{answer-accepted}
 use Rattle.board.proofs.Demand3.{demand-3}
 use Rattle.list.specs.declared.Outcome.{Outcome}
-use Rattle.format.specs.Format.{valueLength, tagAt, membersAt, argumentsOf, frameRefusal}
-use Rattle.perform.specs.Calls.{callOf, callAt}
+use Rattle.format.specs.Format.{
+  valueLength,
+  tagAt,
+  membersAt,
+  argumentsOf,
+  frameRefusal,
+  membersBytes,
+  answerBytes,
+  recordOf,
+}
+use Rattle.perform.specs.Calls.{callOf, callAt, refusalAt}
 use Rattle.list.specs.Run.{Turn, done, refused, turnOf, stepped, Run, runOn, nothingDone, runOf}
 use Rattle.list.specs.Demand.{FrontIs, ListIs}
 use Rattle.format.proofs.Frames.{framed}
@@ -85,6 +98,34 @@ module _ (l : List ℕ) (b : Board) (room : ℕ) where
 
   done-length : (b′ : Board) (n : ℕ) (x : List ℕ) → turnOf b l room ≡ done b′ n x → n ≡ 3 + valueLength (tagAt l)
   done-length b′ n x e = done-placed b l room b′ n x e .1 .0
+
+-- it answers the record of its tag and members
+module _ (l : List ℕ) (b : Board) (room : ℕ) where
+  abbrev Answered : Turn → Type 0
+  Answered (done b′ n x) = x ≡ recordOf (tagAt l) (answerBytes (tagAt l) (callAt l b .members))
+  Answered (refused n) = n ≡ n
+
+  turn-answered : Answered (turnOf b l room)
+  unfolding turnOf
+  turn-answered = choose Answered (eqb (refusalAt b l room) 0) (λ _. refl) (λ _. refl)
+
+advance-record : (tag : ℕ) (ms : List ℕ) (v : Bool) → tag ≡ 4 → ms ≡ flagOf v ∷ [] →
+    recordOf tag (answerBytes tag ms) ≡ 4 ∷ 0 ∷ 1 ∷ flagOf v ∷ []
+unfolding recordOf membersBytes be
+advance-record tag ms true e h = rw (e, h)
+advance-record tag ms false e h = rw (e, h)
+
+-- an advance that is done answers the line of the board that it leaves
+pub line-answered : (l : List ℕ) (b : Board) (room c : ℕ) → FrontIs l (advance c) → (b′ : Board) (n : ℕ) (x : List ℕ) →
+    turnOf b l room ≡ done b′ n x → x ≡ 4 ∷ 0 ∷ 1 ∷ flagOf (line b′) ∷ []
+line-answered l b room c f b′ n x e =
+    let call = advance-at (tagAt l) l b (f .1 .0) in
+    let left = done-placed b l room b′ n x e .1 .1 .1 ∙ ap (λ (y : Call). boardAfter y) call in
+    let moved : line b′ ≡ line (movedBoard (beAt l 3 8) b) =
+    ap line left ∙ wired-line (movedBoard (beAt l 3 8) b) in
+    subst (Answered l b room) e (turn-answered l b room)
+    ∙ advance-record (tagAt l) (callAt l b .members) (line b′) (f .1 .0)
+    (ap (λ (y : Call). y .members) call ∙ ap (λ (v : Bool). flagOf v ∷ []) (sym moved))
 
 -- ---- the run
 
@@ -258,11 +299,10 @@ module _ (b : Board) (first stretch last : List ℕ) (room : ℕ) (calls : List 
   by-parts e g h low o =
       let s = facts-sound AtStart (g .facts) in
       let n : Alone .outcome .calls ≡ Through .outcome .calls - Before .outcome .calls =
-      omega (arith, ap (λ (q : Run). q .outcome .calls) e) in
-      (
+      omega (arith, ap (λ (q : Run). q .outcome .calls) e) in (
         ap (λ (q : Run). q .outcome .board) e
-        ∙ run-after AtStart stretch (room - length (Before .answers)) calls (g .fits) s h
-        ∙ ap (λ (k : ℕ). afterAll (take k calls) AtStart) n,
+            ∙ run-after AtStart stretch (room - length (Before .answers)) calls (g .fits) s h
+            ∙ ap (λ (k : ℕ). afterAll (take k calls) AtStart) n,
         demand-3 AtStart (g .fits) s low o CarriedOut,
       )
 
