@@ -2,17 +2,15 @@
 
 use std::cell::RefCell;
 
+use calls::{Answer, Call, Refusal, LINE_SOURCE};
+
 use crate::bus::Device;
-use crate::call::{refusal, Answer, Call};
 use crate::controller;
 use crate::deadline;
 use crate::fields::Fields;
 use crate::host_time;
 use crate::irqc::IrqController;
 use crate::timing::access::Timing;
-
-/// The controller's source that is set to the line.
-const LINE_SOURCE: u8 = 3;
 
 /// A board. One that is not sound stays as its fields: every call refuses it, and the Rust cannot hold all
 /// of them, such as a negative zero offset or a value in an empty latch.
@@ -33,7 +31,7 @@ pub struct Devices {
 /// What a direct call returns besides the board.
 #[derive(Clone, Copy, Debug, PartialEq, Eq)]
 pub struct Reply {
-    pub refusal: u8,
+    pub refusal: Option<Refusal>,
     pub answer: Answer,
 }
 
@@ -75,12 +73,12 @@ impl Board {
         let sound = self.sound();
         let own = call.refusal();
         match self {
-            Self::Sound(devices) if sound && own == refusal::NONE => Reply {
-                refusal: refusal::NONE,
+            Self::Sound(devices) if sound && own.is_none() => Reply {
+                refusal: None,
                 answer: devices.carry_out(call),
             },
             _ => Reply {
-                refusal: if sound { own } else { refusal::NOT_SOUND },
+                refusal: if sound { own } else { Some(Refusal::UnsoundBoard) },
                 answer: call.zero_answer(),
             },
         }

@@ -7,8 +7,8 @@ pub mod passes;
 
 use std::fmt::{self, Write};
 
-use crate::call::{Call, HEADER_LENGTH};
-use crate::list::{first_call, Outcome};
+use calls::{list_of, Call, Outcome};
+
 use crate::registers::{self, channel, of_channel, CHANNELS};
 
 /// A board under comparison: runs the first list over a fresh board, and then the second so many times over the board
@@ -146,7 +146,7 @@ const FEW: usize = 14;
 /// The calls of a list as bytes; what is not a whole call is the last part.
 fn calls_of(mut list: &[u8]) -> Vec<Vec<u8>> {
     let mut parts = Vec::new();
-    while let Ok((_, used)) = first_call(list) {
+    while let Ok((_, used)) = Call::decode(list) {
         parts.push(list[..used].to_vec());
         list = &list[used..];
         if list.is_empty() {
@@ -157,11 +157,6 @@ fn calls_of(mut list: &[u8]) -> Vec<Vec<u8>> {
         parts.push(list.to_vec());
     }
     parts
-}
-
-/// The list of some calls.
-pub fn list_of(calls: &[Call]) -> Vec<u8> {
-    calls.iter().flat_map(Call::encode).collect()
 }
 
 /// Lists that show what a board holds, each to be run over the board as it is left: the line; the deadline and the
@@ -202,7 +197,10 @@ impl fmt::Display for Difference {
             writeln!(
                 f,
                 "{name}: calls {}, list bytes {}, answer bytes {}, refusal {}",
-                outcome.calls, outcome.list_bytes, outcome.answer_bytes, outcome.refusal
+                outcome.calls,
+                outcome.list_bytes,
+                outcome.answer_bytes,
+                outcome.refusal_number()
             )?;
             writeln!(
                 f,
@@ -221,9 +219,9 @@ impl fmt::Display for Difference {
 fn calls_text(list: &[u8]) -> String {
     let mut text = String::new();
     for part in calls_of(list) {
-        let call = match first_call(&part) {
-            Ok((call, _)) if part.len() >= HEADER_LENGTH => format!("{call:?}"),
-            _ => "not a whole call".to_string(),
+        let call = match Call::decode(&part) {
+            Ok((call, _)) => format!("{call:?}"),
+            Err(refusal) => format!("not a whole call: {refusal}"),
         };
         writeln!(text, "  {}  {call}", hex(&part)).expect("a string takes all text");
     }

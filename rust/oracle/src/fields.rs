@@ -1,9 +1,10 @@
 //! Every field of the board, in document 01's order, and what document 01 says of them:
 //! sound, the line and the time. Written from that document, not from the Rust.
 
+use calls::NANOSECONDS_PER_SECOND;
+
 use crate::sys::MASTER_CLOCK;
 
-const NANOSECONDS_PER_SECOND: u32 = 1_000_000_000;
 /// Cycles from one poll of an alarm on host time to the next.
 pub const POLL_LIMIT: u32 = 48_000;
 
@@ -138,14 +139,14 @@ impl Fields {
         if self.runs_from_host_time() {
             (self.host_ns() + self.offset_ns()).max(0)
         } else {
-            let fraction = u64::from(self.subsecond) * 1_000_000_000 / u64::from(MASTER_CLOCK);
-            i128::from(self.seconds) * 1_000_000_000 + i128::from(fraction)
+            let fraction = u64::from(self.subsecond) * u64::from(NANOSECONDS_PER_SECOND) / u64::from(MASTER_CLOCK);
+            nanoseconds(self.seconds, 0) + i128::from(fraction)
         }
     }
 
     /// The seconds of that time, capped at 2^64 - 1.
     pub fn time_seconds(&self) -> u64 {
-        u64::try_from(self.time_ns() / 1_000_000_000).unwrap_or(u64::MAX)
+        u64::try_from(self.time_ns() / i128::from(NANOSECONDS_PER_SECOND)).unwrap_or(u64::MAX)
     }
 
     /// Document 01's line: true if it is high.
@@ -187,6 +188,7 @@ impl Fields {
     }
 }
 
-fn nanoseconds(seconds: u64, nanoseconds: u32) -> i128 {
-    i128::from(seconds) * 1_000_000_000 + i128::from(nanoseconds)
+/// A time in nanoseconds.
+pub(crate) fn nanoseconds(seconds: u64, nanoseconds: u32) -> i128 {
+    i128::from(seconds) * i128::from(NANOSECONDS_PER_SECOND) + i128::from(nanoseconds)
 }

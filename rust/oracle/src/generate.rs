@@ -1,7 +1,8 @@
 //! Call lists and sound boards by seed, the same on every machine, with a bias to limits.
 
+use calls::{Call, NANOSECONDS_PER_SECOND};
+
 use crate::board::Board;
-use crate::call::{answer_length, refusal, Call, HEADER_LENGTH};
 use crate::deadline;
 use crate::fields::{Channel, Fields, Latch, POLL_LIMIT};
 use crate::registers::{self, channel, of_channel, CHANNELS};
@@ -9,14 +10,14 @@ use crate::sys::MASTER_CLOCK;
 use crate::writes;
 
 const BUFFER: usize = 32_768;
-const SECOND: i128 = 1_000_000_000;
+const SECOND: i128 = NANOSECONDS_PER_SECOND as i128;
 
 /// Numbers at which some rule changes; neighbours are taken too.
 const LIMITS: [u64; 9] = [
     0,
     POLL_LIMIT as u64,
     MASTER_CLOCK as u64,
-    SECOND as u64,
+    NANOSECONDS_PER_SECOND as u64,
     1 << 32,
     1 << 33,
     1 << 63,
@@ -96,8 +97,8 @@ impl Random {
     }
 
     fn nanoseconds(&mut self) -> u32 {
-        let any = self.below(SECOND as u64) as u32;
-        self.pick(&[0, 1, 999_999_999, any])
+        let any = self.below(u64::from(NANOSECONDS_PER_SECOND)) as u32;
+        self.pick(&[0, 1, NANOSECONDS_PER_SECOND - 1, any])
     }
 
     fn latch(&mut self) -> Latch {
@@ -253,8 +254,8 @@ struct Generator {
 impl Generator {
     fn call(&mut self, call: Call) {
         self.starts.push(self.list.len());
-        self.list.extend(call.encode());
-        self.answer_bytes += HEADER_LENGTH + answer_length(call.tag());
+        call.encode_into(&mut self.list);
+        self.answer_bytes += call.answer_bytes();
         self.board.call(call);
     }
 
@@ -433,7 +434,7 @@ impl Generator {
     /// Any call that is accepted.
     fn any_call(&mut self) {
         let call = self.random.call();
-        if call.refusal() == refusal::NONE {
+        if call.refusal().is_none() {
             self.call(call);
         }
     }
@@ -514,7 +515,7 @@ impl Generator {
     /// A call with a refusal of its own, and perhaps a call after it.
     fn refused_call(&mut self) {
         let seconds = self.random.number();
-        let nanoseconds = self.random.pick(&[1_000_000_000, u32::MAX]);
+        let nanoseconds = self.random.pick(&[NANOSECONDS_PER_SECOND, u32::MAX]);
         let address = self.random.pick(&[registers::SIZE, u16::MAX]);
         let byte = self.random.word() as u8;
         let call = self.random.pick(&[

@@ -3,13 +3,15 @@
 
 use std::cell::Cell;
 
+use crate::fields;
+
 thread_local! {
     static HOST_TIME_NS: Cell<i128> = const { Cell::new(0) };
 }
 
 /// Sets the host time of this thread from the board's two host fields.
 pub(crate) fn set(seconds: u64, nanoseconds: u32) {
-    HOST_TIME_NS.set(i128::from(seconds) * 1_000_000_000 + i128::from(nanoseconds));
+    HOST_TIME_NS.set(fields::nanoseconds(seconds, nanoseconds));
 }
 
 /// The host time in nanoseconds.

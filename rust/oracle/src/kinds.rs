@@ -1,8 +1,10 @@
 //! The kinds of list that are measured: `bench` takes their time, `instructions` counts their instructions.
 
-use crate::call::Call;
+use calls::Call;
+
 use crate::generate::Random;
 use crate::registers::{self, channel, of_channel, CHANNELS};
+use crate::sys::MASTER_CLOCK;
 use crate::writes::{byte, two_words, word};
 
 /// The calls of a measured list.
@@ -86,7 +88,7 @@ fn kinds() -> Vec<Kind> {
     let mut mixed = Vec::new();
     while mixed.len() < CALLS {
         let call = random.call();
-        if call.refusal() == 0 {
+        if call.refusal().is_none() {
             mixed.push(call);
         }
     }
@@ -104,8 +106,8 @@ fn kinds() -> Vec<Kind> {
         kind("skip", running(0), skips.clone()),
         kind("mixed", running(0), mixed),
     ];
-    // Ten years of interrupts, one each simulated minute: prescaler 47,999 gives a tick each millisecond.
-    let mut minute = program(0, 1, 47_999, 60_000, 60_000);
+    // Ten years of interrupts, one each simulated minute: this prescaler gives a tick each millisecond.
+    let mut minute = program(0, 1, MASTER_CLOCK / 1_000 - 1, 60_000, 60_000);
     minute.push(byte(registers::ENABLE + 3, 1));
     kinds.push(Kind {
         name: "ten-years",

@@ -15,7 +15,6 @@ macro_rules! info {
 
 pub mod board;
 pub mod bus;
-pub mod call;
 pub mod compare;
 pub mod controller;
 pub mod deadline;
@@ -24,8 +23,6 @@ pub mod generate;
 mod host_time;
 pub mod kinds;
 pub mod list;
-#[cfg(feature = "proved")]
-pub mod proved;
 pub mod record;
 pub mod writes;
 
@@ -55,7 +52,7 @@ mod devices {
 pub mod irqc;
 
 /// timing.rs with `host_time_ns` replaced by build.rs. The child modules reach its private items.
-#[allow(dead_code, unused_imports)]
+#[allow(dead_code, unused_imports, clippy::manual_range_contains)]
 mod timing {
     include!(concat!(env!("OUT_DIR"), "/timing.rs"));
 

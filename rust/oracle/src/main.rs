@@ -4,8 +4,8 @@
 use std::io::{self, Read, Write};
 use std::process::ExitCode;
 
+use calls::{answers, HEADER_LENGTH};
 use oracle::board::Board;
-use oracle::call::HEADER_LENGTH;
 use oracle::{generate, list};
 
 /// The largest list, and the length of the answer buffer.
@@ -52,18 +52,22 @@ fn run_list(list: &[u8]) -> String {
     let mut text = print_answers(&buffer[..outcome.answer_bytes]);
     text.push_str(&format!(
         "end {} {} {}\n",
-        outcome.calls, outcome.refusal, outcome.list_bytes
+        outcome.calls,
+        outcome.refusal_number(),
+        outcome.list_bytes
     ));
     text
 }
 
-fn print_answers(mut answers: &[u8]) -> String {
+fn print_answers(buffer: &[u8]) -> String {
     let mut text = String::new();
-    while let [tag, high, low, rest @ ..] = answers {
-        let length = usize::from(u16::from_be_bytes([*high, *low]));
-        let value: String = rest[..length].iter().map(|byte| format!("{byte:02x}")).collect();
+    for record in answers(buffer) {
+        let (tag, answer) = record.expect("a run writes whole answers");
+        let value: String = answer.encode(tag)[HEADER_LENGTH..]
+            .iter()
+            .map(|byte| format!("{byte:02x}"))
+            .collect();
         text.push_str(&format!("{tag:02x} {}\n", if value.is_empty() { "-" } else { &value }));
-        answers = &answers[HEADER_LENGTH + length..];
     }
     text
 }

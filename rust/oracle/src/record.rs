@@ -3,12 +3,14 @@
 
 use std::collections::BTreeSet;
 
+use calls::{list_of, tags, value_length, Call, Outcome, NANOSECONDS_PER_SECOND};
+
 use crate::board::Board;
-use crate::call::{answer_length, refusal, tags, value_length, Call, HEADER_LENGTH};
 use crate::fields::Fields;
 use crate::generate::{self, Random};
-use crate::list::{self, Outcome};
+use crate::list;
 use crate::registers::{self, channel, of_channel, CHANNELS};
+use crate::writes::{byte, word};
 
 /// The longest file, and the longest answer buffer, that `replay` takes.
 pub const FILE_LIMIT: usize = 65_535;
@@ -102,7 +104,7 @@ impl Record {
             &two(self.outcome.calls),
             &two(self.outcome.list_bytes),
             &two(self.outcome.answer_bytes),
-            &[self.outcome.refusal],
+            &[self.outcome.refusal_number()],
             &self.start.list,
             &self.answers,
         ]
@@ -126,10 +128,10 @@ impl Coverage {
         for record in recordings.into_iter().flat_map(|recording| &recording.records) {
             coverage.records += 1;
             coverage.calls += record.outcome.calls;
-            coverage.refusals.insert(record.outcome.refusal);
+            coverage.refusals.insert(record.outcome.refusal_number());
             let mut done = &record.start.list[..record.outcome.list_bytes];
             while !done.is_empty() {
-                let (call, used) = list::first_call(done).expect("a call done is whole");
+                let (call, used) = Call::decode(done).expect("a call done is whole");
                 coverage.tags.insert(call.tag());
                 match call {
                     Call::Read { address } => coverage.read.insert(address),
@@ -157,25 +159,15 @@ fn mixed(seed: u64) -> Start {
 
 /// Bytes of the answers of calls that are all done.
 fn answer_bytes(calls: &[Call]) -> usize {
-    calls.iter().map(|call| HEADER_LENGTH + answer_length(call.tag())).sum()
-}
-
-fn encode(calls: &[Call]) -> Vec<u8> {
-    calls.iter().flat_map(Call::encode).collect()
+    calls.iter().map(Call::answer_bytes).sum()
 }
 
 /// The calls on a board, into a buffer a little longer than their answers.
 fn whole(random: &mut Random, calls: &[Call]) -> Start {
     Start {
         timer_enable: 15,
-        list: encode(calls),
+        list: list_of(calls),
         buffer: answer_bytes(calls) + random.below(9) as usize,
-    }
-}
-
-fn write_word(calls: &mut Vec<Call>, address: u16, value: u32) {
-    for (byte, address) in value.to_be_bytes().into_iter().zip(address..) {
-        calls.push(Call::Write { address, byte });
     }
 }
 
@@ -184,7 +176,7 @@ fn write_word(calls: &mut Vec<Call>, address: u16, value: u32) {
 fn prepared(random: &mut Random, realtime: bool) -> Vec<Call> {
     let mut calls = vec![Call::HostTime {
         seconds: random.number(),
-        nanoseconds: random.below(1_000_000_000) as u32,
+        nanoseconds: random.below(u64::from(NANOSECONDS_PER_SECOND)) as u32,
     }];
     for number in 0..CHANNELS {
         for register in [
@@ -195,30 +187,21 @@ fn prepared(random: &mut Random, realtime: bool) -> Vec<Call> {
             channel::RELOAD_LOW,
             channel::RELOAD_HIGH,
         ] {
-            write_word(&mut calls, of_channel(number, register), random.word() as u32);
+            calls.extend(word(of_channel(number, register), random.word() as u32));
         }
         let prescaler = random.below(3) as u32;
-        write_word(&mut calls, of_channel(number, channel::PRESCALER), prescaler);
+        calls.extend(word(of_channel(number, channel::PRESCALER), prescaler));
         let flags = random.pick(&[12, 12, 4]);
-        calls.push(Call::Write {
-            address: of_channel(number, channel::CONTROL) + 3,
-            byte: flags | number as u8,
-        });
+        calls.push(byte(of_channel(number, channel::CONTROL) + 3, flags | number as u8));
     }
-    calls.push(Call::Write {
-        address: registers::CLOCK_CONTROL + 3,
-        byte: if realtime { 7 } else { 3 },
-    });
+    calls.push(byte(registers::CLOCK_CONTROL + 3, if realtime { 7 } else { 3 }));
     for register in [registers::SECONDS_HIGH, registers::SECONDS_LOW] {
-        write_word(&mut calls, register, random.word() as u32);
+        calls.extend(word(register, random.word() as u32));
     }
     for register in [registers::ALARM_HIGH, registers::ALARM_LOW] {
-        write_word(&mut calls, register, random.word() as u32 | 1 << 31);
+        calls.extend(word(register, random.word() as u32 | 1 << 31));
     }
-    calls.push(Call::Write {
-        address: registers::ALARM_ENABLE + 3,
-        byte: 1,
-    });
+    calls.push(byte(registers::ALARM_ENABLE + 3, 1));
     for address in 4..6 {
         let byte = random.word() as u8;
         calls.push(Call::ControllerWrite { address, byte });
@@ -315,7 +298,7 @@ fn registers_written(random: &mut Random) -> Vec<Start> {
 fn accepted(random: &mut Random) -> Call {
     loop {
         let call = random.call();
-        if call.refusal() == refusal::NONE {
+        if call.refusal().is_none() {
             return call;
         }
     }
@@ -328,9 +311,9 @@ fn refusals(random: &mut Random) -> Vec<Start> {
     for timer_enable in [16, 17, 31, 32, 64, 128, 255] {
         for list in [
             vec![],
-            encode(&[Call::Output]),
+            list_of(&[Call::Output]),
             vec![0xFF],
-            encode(&[Call::Deadline; 3]),
+            list_of(&[Call::Deadline; 3]),
         ] {
             for buffer in [0, 90] {
                 starts.push(Start {
@@ -343,10 +326,10 @@ fn refusals(random: &mut Random) -> Vec<Start> {
     }
     for (end, whole_call) in refused_ends(random) {
         let calls: Vec<Call> = (0..random.below(4)).map(|_| accepted(random)).collect();
-        let mut list = encode(&calls);
+        let mut list = list_of(&calls);
         list.extend(end);
         if whole_call && random.once_in(2) {
-            list.extend(Call::Output.encode());
+            Call::Output.encode_into(&mut list);
         }
         // An exact buffer too: the refusals here come before 11.
         let more = random.below(40) as usize;
@@ -410,8 +393,8 @@ fn refused_calls(random: &mut Random) -> Vec<Call> {
         }
     }
     for _ in 0..8 {
-        let any = 1_000_000_000 + random.below(1 << 31) as u32;
-        for nanoseconds in [1_000_000_000, 1_000_000_001, any, u32::MAX] {
+        let any = NANOSECONDS_PER_SECOND + random.below(1 << 31) as u32;
+        for nanoseconds in [NANOSECONDS_PER_SECOND, NANOSECONDS_PER_SECOND + 1, any, u32::MAX] {
             let seconds = random.number();
             calls.push(Call::HostTime { seconds, nanoseconds });
         }
@@ -444,7 +427,7 @@ fn short_buffers(random: &mut Random) -> Vec<Start> {
         for buffer in 0..=answer_bytes(&calls) + 1 {
             starts.push(Start {
                 timer_enable: random.below(16) as u8,
-                list: encode(&calls),
+                list: list_of(&calls),
                 buffer,
             });
         }

@@ -1,6 +1,6 @@
 //! Register writes as calls: a byte, a word of four bytes, two words.
 
-use crate::call::Call;
+use calls::Call;
 
 pub fn byte(address: u16, byte: u8) -> Call {
     Call::Write { address, byte }

@@ -1,7 +1,7 @@
 //! The interrupt controller by itself, with every operation of irqc.rs.
 
 // The library takes and gives the controller's three words in one number.
-// SAFETY: the signatures are those of crates/pec/src/irqc.rs; its contracts ask nothing of the caller.
+// SAFETY: the signatures are those of crates/pec/src/irqc.rt; its contracts ask nothing of the caller.
 unsafe extern "C" {
     safe fn pec_irqc_new() -> u64;
     safe fn pec_irqc_reset(word: u64) -> u64;

@@ -2,34 +2,29 @@
 //!
 //! The functions here call the static library `libpec.a`, which `rt staticlib pec` proves and writes from
 //! crates/pec. Each is safe: the library's contracts ask nothing of their callers, and it keeps nothing between
-//! calls. A call list is bytes: tag 1, length 2, value, for each call, all big-endian; an answer has its call's tag
-//! and the same form.
+//! calls. A call list and its answers are bytes that the caller lends; the types of the crate rust/calls, which stand
+//! here too, make and read them.
 //!
 //! ```
-//! // A read of the register byte at address 0x83, an advance of one cycle, the controller's output, and a cut call.
-//! let list = [2, 0, 2, 0, 0x83, 4, 0, 8, 0, 0, 0, 0, 0, 0, 0, 1, 0x0A, 0, 0, 0xFF];
-//! let mut answers = [0; 64];
-//! let outcome = pec::run(&list, &mut answers);
-//! assert_eq!(outcome, pec::Outcome { calls: 3, list_bytes: 19, answer_bytes: 13, refusal: 2 });
-//! assert_eq!(answers[..13], [2, 0, 1, 1, 4, 0, 1, 0, 0x0A, 0, 2, 0, 0]);
+//! use pec::{answers, list_of, Answer, Call, Refusal};
+//!
+//! // The register byte at address 0x83, an advance of one cycle, the controller's output, and a cut call.
+//! let mut list = list_of(&[Call::Read { address: 0x83 }, Call::Advance { cycles: 1 }, Call::Output]);
+//! list.push(0xFF);
+//! let mut buffer = [0; 64];
+//! let outcome = pec::run(&list, &mut buffer);
+//! assert_eq!((outcome.calls, outcome.list_bytes), (3, 19));
+//! assert_eq!(outcome.refusal, Some(Refusal::TruncatedHeader));
+//! let given = answers(&buffer[..outcome.answer_bytes]).collect::<Result<Vec<_>, _>>()?;
+//! let output = Answer::Output { valid: false, number: 0 };
+//! assert_eq!(given, [(0x02, Answer::Byte(1)), (0x04, Answer::Line(false)), (0x0A, output)]);
+//! # Ok::<(), pec::DamagedAnswers>(())
 //! ```
 
 mod controller;
 
+pub use calls::{answers, list_of, Answer, Answers, Call, DamagedAnswers, Fault, Outcome, Refusal};
 pub use controller::{Controller, IrqOutput};
-
-/// What a run gives besides the board and the answers.
-#[derive(Clone, Copy, Debug, Default, PartialEq, Eq)]
-pub struct Outcome {
-    /// The calls done.
-    pub calls: usize,
-    /// The bytes of the list that they used.
-    pub list_bytes: usize,
-    /// The bytes of answers that they wrote, from the buffer's first byte on.
-    pub answer_bytes: usize,
-    /// The number of the refusal that stopped the run, 0 for none.
-    pub refusal: u8,
-}
 
 // A slice goes as its pointer and its length.
 unsafe extern "C" {
@@ -56,10 +51,14 @@ unsafe extern "C" {
     ) -> u8;
 }
 
-/// The outcome of a call of the library that writes calls, list bytes and answer bytes and gives the refusal.
+/// The outcome of a call of the library that writes calls, list bytes and answer bytes and gives the refusal's number,
+/// 0 for none.
 fn outcome_of(run: impl FnOnce(&mut usize, &mut usize, &mut usize) -> u8) -> Outcome {
     let mut outcome = Outcome::default();
-    outcome.refusal = run(&mut outcome.calls, &mut outcome.list_bytes, &mut outcome.answer_bytes);
+    let number = run(&mut outcome.calls, &mut outcome.list_bytes, &mut outcome.answer_bytes);
+    if number != 0 {
+        outcome.refusal = Some(Refusal::from_number(number).expect("the library's refusals are 0 to 11"));
+    }
     outcome
 }
 
@@ -96,3 +95,8 @@ pub fn run_repeated(first: &[u8], list: &[u8], times: u64, answers: &mut [u8]) -
         )
     })
 }
+
+// The example of README.md, compiled and run with the tests of the documentation.
+#[cfg(doctest)]
+#[doc = include_str!("../README.md")]
+struct Readme;

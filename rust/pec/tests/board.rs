@@ -1,8 +1,7 @@
 //! The functions of the crate pass slices, results and repeats as they say.
 
-use pec::{run, run_repeated, Controller, Outcome};
+use pec::{list_of, run, run_repeated, Call, Controller, Outcome, Refusal};
 
-const ADVANCE_ONE: [u8; 11] = [4, 0, 8, 0, 0, 0, 0, 0, 0, 0, 1];
 const OUTPUT: [u8; 3] = [0x0A, 0, 0];
 
 #[test]
@@ -17,27 +16,23 @@ fn an_empty_list_changes_nothing() {
 fn a_short_buffer_refuses_the_answer_and_stays() {
     let mut answers = [7; 5];
     let outcome = run(&OUTPUT, &mut answers[..4]);
-    assert_eq!((outcome.calls, outcome.refusal), (0, 11));
+    assert_eq!((outcome.calls, outcome.refusal), (0, Some(Refusal::BufferTooSmall)));
     assert_eq!(answers, [7; 5]);
     let outcome = run(&OUTPUT, &mut answers);
-    assert_eq!((outcome.calls, outcome.answer_bytes, outcome.refusal), (1, 5, 0));
+    assert_eq!((outcome.calls, outcome.answer_bytes, outcome.refusal), (1, 5, None));
     assert_eq!(answers, [0x0A, 0, 2, 0, 0]);
 }
 
 #[test]
 fn repeats_go_on_from_the_board_that_is_left() {
     // One-shot channel 0 with compare 3 counts cycles; its counter's lowest byte is at address 0x28B.
-    let configure = [
-        [3, 0, 3, 0x02, 0x93, 3],
-        [3, 0, 3, 0x02, 0x83, 12],
-        [3, 0, 3, 0x00, 0x07, 1],
-    ]
-    .concat();
-    let step = [&ADVANCE_ONE[..], &[2, 0, 2, 0x02, 0x8B]].concat();
+    let configure = [(0x293, 3), (0x283, 12), (0x007, 1)].map(|(address, byte)| Call::Write { address, byte });
+    let configure = list_of(&configure);
+    let step = list_of(&[Call::Advance { cycles: 1 }, Call::Read { address: 0x28B }]);
     let mut answers = [0; 16];
     for (times, line, count) in [(1, 0, 1), (2, 0, 2), (3, 1, 3), (4, 1, 3)] {
         let outcome = run_repeated(&configure, &step, times, &mut answers);
-        assert_eq!((outcome.calls, outcome.refusal), (2, 0));
+        assert_eq!((outcome.calls, outcome.refusal), (2, None));
         assert_eq!(answers[..8], [4, 0, 1, line, 2, 0, 1, count], "{times}");
     }
     // None at all: the results are the first list's.

@@ -7,10 +7,10 @@
 use std::process::ExitCode;
 use std::time::Instant;
 
-use oracle::compare::{list_of, Runner};
+use calls::{list_of, NANOSECONDS_PER_SECOND};
+use oracle::compare::Runner;
 use oracle::kinds::{self, Kind, BUFFER};
 use oracle::list;
-use oracle::proved;
 
 const REPEATS: usize = 25;
 
@@ -50,12 +50,12 @@ fn measure(kind: &Kind) {
     // The two take turns, so that a slow spell of the machine meets both, and their ratio is that of two repeats next to
     // each other.
     for _ in 0..REPEATS {
-        let runners: [Runner; 2] = [list::run_repeated, proved::run_repeated];
+        let runners: [Runner; 2] = [list::run_repeated, pec::run_repeated];
         for ((runner, seconds), buffer) in runners.into_iter().zip(&mut seconds).zip(&mut buffers) {
             let start = Instant::now();
             let outcome = runner(&first, &list, kind.times, buffer);
             seconds.push(start.elapsed().as_secs_f64());
-            assert_eq!(outcome.refusal, 0, "{}", kind.name);
+            assert_eq!(outcome.refusal, None, "{}", kind.name);
             assert_eq!(outcome.calls, kind.list.len(), "{}", kind.name);
         }
     }
@@ -64,7 +64,7 @@ fn measure(kind: &Kind) {
     let ratios = sorted(proved.iter().zip(rust).map(|(proved, rust)| proved / rust).collect());
     let [rust, proved] = seconds.map(sorted);
     let per_call = |seconds: &[f64]| {
-        let scale = 1e9 / calls as f64;
+        let scale = f64::from(NANOSECONDS_PER_SECOND) / calls as f64;
         let [least, median, most] = [0, REPEATS / 2, REPEATS - 1].map(|at| seconds[at] * scale);
         format!("{median:.1} ({least:.1} to {most:.1})")
     };

@@ -8,11 +8,11 @@ use std::process::ExitCode;
 use std::time::Instant;
 
 use oracle::compare::{controller, passes, Count, Difference, Pair};
-use oracle::{list, proved};
+use oracle::list;
 
 const PAIR: Pair = Pair {
     rust: list::run_repeated,
-    other: proved::run_repeated,
+    other: pec::run_repeated,
 };
 
 fn main() -> ExitCode {

@@ -6,12 +6,12 @@
 use std::env;
 use std::process::{Command, ExitCode};
 
-use oracle::compare::{list_of, Runner};
+use calls::list_of;
+use oracle::compare::Runner;
 use oracle::kinds::{self, Kind, BUFFER};
 use oracle::list;
-use oracle::proved;
 
-const BOARDS: [(&str, Runner); 2] = [("Rust", list::run_repeated), ("Proved", proved::run_repeated)];
+const BOARDS: [(&str, Runner); 2] = [("Rust", list::run_repeated), ("Proved", pec::run_repeated)];
 
 /// The repetitions of a list in the two runs whose totals are compared. The first repetition is in both: it leaves a
 /// board as the later ones find it.
@@ -93,8 +93,11 @@ fn repeat(name: &str, board: &str, times: &str) -> Result<(), String> {
     let times = times.parse().map_err(|_| "the repetitions are a number")?;
     let mut answers = vec![0; BUFFER];
     let outcome = runner(&list_of(&kind.first), &list_of(&kind.list), times, &mut answers);
-    if outcome.refusal != 0 || outcome.calls != kind.list.len() {
-        return Err(format!("{name}, {board}: the list was refused"));
+    if let Some(refusal) = outcome.refusal {
+        return Err(format!(
+            "{name}, {board}: call {} was refused: {refusal}",
+            outcome.calls
+        ));
     }
     Ok(())
 }

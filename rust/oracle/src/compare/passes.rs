@@ -2,10 +2,12 @@
 
 use std::thread;
 
-use super::{list_of, readouts, Count, Difference, Pair};
-use crate::call::{answer_length, Call, HEADER_LENGTH};
+use calls::{list_of, Call};
+
+use super::{readouts, Count, Difference, Pair};
 use crate::generate;
 use crate::registers::{self, channel, of_channel, CHANNELS};
+use crate::sys::MASTER_CLOCK;
 use crate::writes::{byte, two_words, word};
 
 /// The answer buffer of a run that is to have room.
@@ -125,7 +127,9 @@ pub fn prepared() -> Vec<Vec<u8>> {
     busy.push(byte(registers::ENABLE + 3, 15));
     busy.push(Call::ControllerWrite { address: 5, byte: 8 });
     let mut fired = busy.clone();
-    fired.push(Call::Advance { cycles: 48_000_001 });
+    fired.push(Call::Advance {
+        cycles: u64::from(MASTER_CLOCK) + 1,
+    });
     busy.push(Call::Advance { cycles: 10 });
 
     [vec![], about_to_commit, alarm_due, busy, fired]
@@ -174,7 +178,9 @@ fn every_tag() -> Vec<Call> {
         Call::ControllerWrite { address: 4, byte: 0x80 },
         Call::ControllerRead { address: 0 },
         Call::Output,
-        Call::Advance { cycles: 48_000_000 },
+        Call::Advance {
+            cycles: u64::from(MASTER_CLOCK),
+        },
         Call::Deadline,
         Call::Skip,
     ]
@@ -202,13 +208,13 @@ pub fn damaged(pair: &Pair) -> Compared {
 pub fn short_buffers(pair: &Pair) -> Compared {
     let calls = every_tag();
     let list = list_of(&calls);
-    let room: usize = calls.iter().map(|call| HEADER_LENGTH + answer_length(call.tag())).sum();
+    let room: usize = calls.iter().map(Call::answer_bytes).sum();
     let mut count = Count::default();
     for buffer in 0..=room + 1 {
         count.add(pair.compare(&list, None, buffer)?);
     }
     for call in calls {
-        let record = HEADER_LENGTH + answer_length(call.tag());
+        let record = call.answer_bytes();
         let list = list_of(&vec![call; BUFFER / record + 2]);
         for buffer in [
             BUFFER - 1,

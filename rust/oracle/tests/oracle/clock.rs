@@ -1,7 +1,7 @@
 //! The clock: control changes, offsets, commits of the shadows, and the poll of an alarm on host time.
 
+use calls::Call;
 use oracle::board::Board;
-use oracle::call::Call;
 use oracle::fields::Fields;
 
 use crate::rules::{carry_out, set_source_3};
@@ -276,13 +276,13 @@ fn due_on_host_time() -> Fields {
 fn poll_is_made_at_48_000_cycles() {
     let fields = due_on_host_time();
     let mut board = Board::from_fields(&fields);
-    assert!(!advance(&mut board, 47_999));
-    assert_eq!(board.fields().poll, 47_999);
+    assert!(!advance(&mut board, u64::from(POLL) - 1));
+    assert_eq!(board.fields().poll, POLL - 1);
     assert!(advance(&mut board, 1));
     assert_eq!(board.fields().poll, 0);
 
     let mut board = Board::from_fields(&fields);
-    assert!(advance(&mut board, 48_000));
+    assert!(advance(&mut board, u64::from(POLL)));
     let mut board = Board::from_fields(&fields);
     assert!(advance(&mut board, 0), "an advance of 0 makes the check at once");
 
@@ -292,8 +292,8 @@ fn poll_is_made_at_48_000_cycles() {
         host_nanoseconds: 999_999_999,
         ..fields
     });
-    assert!(!advance(&mut board, 48_000 * 3 + 47_999));
-    assert_eq!(board.fields().poll, 47_999);
+    assert!(!advance(&mut board, u64::from(POLL) * 4 - 1));
+    assert_eq!(board.fields().poll, POLL - 1);
     host_time(&mut board, 9, 0);
     assert!(board.fields().alarm_armed);
     assert!(advance(&mut board, u64::MAX));

@@ -1,9 +1,9 @@
 //! The comparison finds planted faults and shortens what shows them; the lists of its passes are not refused.
 
-use oracle::call::Call;
+use calls::{list_of, Call, Outcome};
 use oracle::compare::passes::{self, BUFFER, REGISTERS_BUFFER};
-use oracle::compare::{list_of, readouts, shortest, Pair};
-use oracle::list::{run_repeated, Outcome};
+use oracle::compare::{readouts, shortest, Pair};
+use oracle::list::run_repeated;
 use oracle::registers;
 
 const ADVANCE: u8 = 4;
@@ -13,7 +13,7 @@ const SKIP: u8 = 6;
 fn flipped(first: &[u8], list: &[u8], times: u64, answers: &mut [u8]) -> Outcome {
     let outcome = run_repeated(first, list, times, answers);
     let last = if times == 0 { first } else { list };
-    if outcome.refusal == 0 && last.ends_with(&[SKIP, 0, 0]) {
+    if outcome.refusal.is_none() && last.ends_with(&[SKIP, 0, 0]) {
         answers[outcome.answer_bytes - 1] ^= 1;
     }
     outcome
@@ -112,10 +112,10 @@ fn the_lists_of_the_passes_run_to_their_ends() {
     let mut answers = vec![0; REGISTERS_BUFFER];
     let state = passes::state_readout();
     for prepared in passes::prepared() {
-        assert_eq!(run_repeated(&prepared, &[], 0, &mut answers).refusal, 0);
-        assert_eq!(run_repeated(&prepared, &state, 1, &mut answers).refusal, 0);
+        assert_eq!(run_repeated(&prepared, &[], 0, &mut answers).refusal, None);
+        assert_eq!(run_repeated(&prepared, &state, 1, &mut answers).refusal, None);
     }
     for readout in readouts() {
-        assert_eq!(run_repeated(&readout, &[], 0, &mut vec![0; BUFFER]).refusal, 0);
+        assert_eq!(run_repeated(&readout, &[], 0, &mut vec![0; BUFFER]).refusal, None);
     }
 }

@@ -1,7 +1,7 @@
-//! Demand 3 of docs/00-demands.md: the exact deadline over lists of advances and host times.
+//! Demand 3: the exact deadline over lists of advances and host times.
 
+use calls::Call;
 use oracle::board::Board;
-use oracle::call::Call;
 use oracle::fields::Fields;
 use oracle::generate::Random;
 
@@ -13,7 +13,7 @@ fn some_call(random: &mut Random, rest: Option<u128>) -> Call {
     if random.once_in(4) {
         return Call::HostTime {
             seconds: random.number(),
-            nanoseconds: random.pick(&[0, 999_999_999, 1_000_000_000]),
+            nanoseconds: random.pick(&[0, SECOND as u32 - 1, SECOND as u32]),
         };
     }
     let any = random.number();
@@ -70,8 +70,8 @@ fn the_line_is_high_exactly_from_the_deadline_on() {
             let call = some_call(&mut random, deadline.map(|deadline| deadline.saturating_sub(total)));
             let reply = board.call(call);
             match call {
-                Call::Advance { cycles } if reply.refusal == 0 => total += u128::from(cycles),
-                _ => refused += usize::from(reply.refusal == 7),
+                Call::Advance { cycles } if reply.refusal.is_none() => total += u128::from(cycles),
+                _ => refused += usize::from(number(&reply) == 7),
             }
             reached = check(&board, total);
         }

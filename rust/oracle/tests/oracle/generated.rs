@@ -3,11 +3,11 @@
 
 use std::collections::BTreeMap;
 
+use calls::{Answer, Call, Outcome, Refusal};
 use oracle::board::Board;
-use oracle::call::{answer_length, Answer, Call, HEADER_LENGTH};
 use oracle::fields::Fields;
 use oracle::generate;
-use oracle::list::{first_call, run, Outcome};
+use oracle::list::run;
 use oracle::registers::{self, channel, of_channel};
 
 use crate::rules::carry_out;
@@ -97,14 +97,9 @@ impl Counts {
         );
         let polled = before.runs_from_host_time() && before.alarm_armed && cycles > 0;
         self.note("realtime alarm by poll", polled && alarm);
-        self.note(
-            "poll before the alarm",
-            polled && !alarm && u64::from(before.poll) + cycles.min(1 << 32) >= 48_000,
-        );
-        self.note(
-            "no poll yet",
-            polled && u64::from(before.poll) + cycles.min(1 << 32) < 48_000,
-        );
+        let poll_due = u64::from(before.poll) + cycles.min(1 << 32) >= u64::from(POLL);
+        self.note("poll before the alarm", polled && !alarm && poll_due);
+        self.note("no poll yet", polled && !poll_due);
         self.note(
             "realtime alarm by an advance of 0",
             before.runs_from_host_time() && cycles == 0 && alarm,
@@ -176,16 +171,15 @@ fn run_by_direct_calls(list: &[u8], length: usize, counts: &mut Counts) -> (Outc
     let mut answers = Vec::new();
     while outcome.list_bytes < list.len() {
         let before = board.fields();
-        let next = first_call(&list[outcome.list_bytes..]).and_then(|(call, used)| {
+        let next = Call::decode(&list[outcome.list_bytes..]).and_then(|(call, used)| {
             // On a copy, as the call may be refused for its answer's length alone.
             let mut copy = Board::from_fields(&before);
             let reply = copy.call(call);
-            let mut record = vec![0; HEADER_LENGTH + answer_length(call.tag())];
-            reply.answer.store(call.tag(), &mut record);
+            let record = reply.answer.encode(call.tag());
             match reply.refusal {
-                0 if answers.len() + record.len() > length => Err(11),
-                0 => Ok((call, used, copy, reply.answer, record)),
-                number => Err(number),
+                None if answers.len() + record.len() > length => Err(Refusal::BufferTooSmall),
+                None => Ok((call, used, copy, reply.answer, record)),
+                Some(refusal) => Err(refusal),
             }
         });
         match next {
@@ -201,9 +195,9 @@ fn run_by_direct_calls(list: &[u8], length: usize, counts: &mut Counts) -> (Outc
                 // Compares the 64-bit deadline with the exact one.
                 deadline(&mut Board::from_fields(&after));
             }
-            Err(number) => {
-                counts.note(format!("refusal {number}"), true);
-                outcome.refusal = number;
+            Err(refusal) => {
+                counts.note(format!("refusal {}", refusal.number()), true);
+                outcome.refusal = Some(refusal);
                 break;
             }
         }

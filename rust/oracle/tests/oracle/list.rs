@@ -1,9 +1,9 @@
 //! The call list: decoding, the order of the refusals, the answer buffer.
 
+use calls::{answer_length, list_of, tags, value_length, Call, Outcome, Refusal, HEADER_LENGTH};
 use oracle::board::Board;
-use oracle::call::{answer_length, tags, value_length, Answer, Call, HEADER_LENGTH};
 use oracle::fields::Fields;
-use oracle::list::{run, Outcome};
+use oracle::list::run;
 
 use crate::support::*;
 
@@ -25,7 +25,7 @@ fn refusal(list: &[u8]) -> u8 {
     let (outcome, answers, board) = run_fresh(list);
     assert_eq!((outcome.calls, outcome.list_bytes, answers.len()), (0, 0, 0));
     assert_eq!(board.fields(), Fields::fresh());
-    outcome.refusal
+    outcome.refusal_number()
 }
 
 #[test]
@@ -34,6 +34,7 @@ fn tags_and_lengths_are_document_01s() {
     for tag in 0..=255 {
         let known = LENGTHS.iter().find(|lengths| lengths.0 == tag);
         assert_eq!(value_length(tag), known.map(|lengths| lengths.1));
+        assert_eq!(answer_length(tag), known.map(|lengths| lengths.2));
         for length in 0..=300_u16 {
             let mut list = vec![0; HEADER_LENGTH + usize::from(length)];
             list[0] = tag;
@@ -42,7 +43,6 @@ fn tags_and_lengths_are_document_01s() {
                 assert_eq!(refusal(&list), 3);
                 continue;
             };
-            assert_eq!(answer_length(tag), answer);
             if usize::from(length) != value {
                 assert_eq!(refusal(&list), 4);
                 continue;
@@ -52,93 +52,11 @@ fn tags_and_lengths_are_document_01s() {
                 calls: 1,
                 list_bytes: list.len(),
                 answer_bytes: HEADER_LENGTH + answer,
-                refusal: 0,
+                refusal: None,
             };
             assert_eq!(outcome, expected);
             assert_eq!(answers[..3], [tag, 0, answer as u8]);
         }
-    }
-}
-
-#[test]
-fn calls_are_decoded_big_endian() {
-    let calls = [
-        (
-            Call::HostTime {
-                seconds: 0x0102_0304_0506_0708,
-                nanoseconds: 0x090A_0B0C,
-            },
-            vec![1, 0, 12, 1, 2, 3, 4, 5, 6, 7, 8, 9, 10, 11, 12],
-        ),
-        (Call::Read { address: 0x0102 }, vec![2, 0, 2, 1, 2]),
-        (
-            Call::Write {
-                address: 0x0102,
-                byte: 3,
-            },
-            vec![3, 0, 3, 1, 2, 3],
-        ),
-        (
-            Call::Advance {
-                cycles: 0x0102_0304_0506_0708,
-            },
-            vec![4, 0, 8, 1, 2, 3, 4, 5, 6, 7, 8],
-        ),
-        (Call::Deadline, vec![5, 0, 0]),
-        (Call::Skip, vec![6, 0, 0]),
-        (Call::Source { number: 1, level: 2 }, vec![7, 0, 2, 1, 2]),
-        (Call::ControllerRead { address: 0x0102_0304 }, vec![8, 0, 4, 1, 2, 3, 4]),
-        (
-            Call::ControllerWrite {
-                address: 0x0102_0304,
-                byte: 5,
-            },
-            vec![9, 0, 5, 1, 2, 3, 4, 5],
-        ),
-        (Call::Output, vec![10, 0, 0]),
-    ];
-    for (call, bytes) in calls {
-        assert_eq!(call.encode(), bytes);
-        assert_eq!(Call::decode(bytes[0], &bytes[HEADER_LENGTH..]), call);
-    }
-}
-
-#[test]
-fn answers_are_encoded_big_endian() {
-    let record = |tag: u8, value: &[u8]| [&[tag, 0, value.len() as u8], value].concat();
-    let counted: Vec<u8> = (1..=25).collect();
-    let deadline = Answer::Deadline {
-        present: true,
-        exact: 0x0203_0405_0607_0809_0A0B_0C0D_0E0F_1011,
-        capped: 0x1213_1415_1617_1819,
-    };
-    let skip = Answer::Skip {
-        passed: 0x0203_0405_0607_0809,
-        line: true,
-    };
-    let output = Answer::Output { valid: true, number: 2 };
-    let answers = [
-        (Answer::Empty, record(0x01, &[])),
-        (Answer::Byte(2), record(0x02, &[2])),
-        (Answer::Empty, record(0x03, &[])),
-        (Answer::Line(true), record(0x04, &[1])),
-        (deadline, record(0x05, &counted)),
-        (skip, record(0x06, &[2, 3, 4, 5, 6, 7, 8, 9, 1])),
-        (Answer::Empty, record(0x07, &[])),
-        (Answer::Byte(2), record(0x08, &[2])),
-        (Answer::Empty, record(0x09, &[])),
-        (output, record(0x0A, &[1, 2])),
-    ];
-    for (call, (answer, bytes)) in CALLS.into_iter().zip(answers) {
-        let tag = bytes[0];
-        assert_eq!(call.tag(), tag);
-        let mut stored = vec![0xEE; bytes.len()];
-        answer.store(tag, &mut stored);
-        assert_eq!(stored, bytes);
-        // The zero answer has the same form.
-        let mut stored = vec![0xEE; bytes.len()];
-        call.zero_answer().store(tag, &mut stored);
-        assert_eq!(stored, record(tag, &vec![0; bytes.len() - HEADER_LENGTH]));
     }
 }
 
@@ -195,14 +113,14 @@ fn refusals_of_the_calls_own() {
         (
             Call::HostTime {
                 seconds: 0,
-                nanoseconds: 1_000_000_000,
+                nanoseconds: SECOND as u32,
             },
             7,
         ),
         (
             Call::HostTime {
                 seconds: u64::MAX,
-                nanoseconds: 999_999_999,
+                nanoseconds: SECOND as u32 - 1,
             },
             0,
         ),
@@ -215,16 +133,16 @@ fn refusals_of_the_calls_own() {
         (Call::Source { number: 15, level: 1 }, 0),
         (Call::ControllerRead { address: u32::MAX }, 0),
     ];
-    for (call, number) in cases {
+    for (call, expected) in cases {
         let mut board = Board::fresh();
         let reply = board.call(call);
-        assert_eq!(reply.refusal, number, "{call:?}");
+        assert_eq!(number(&reply), expected, "{call:?}");
         assert_eq!(reply.answer, call.zero_answer());
-        if number != 0 {
+        if expected != 0 {
             assert_eq!(board.fields(), Fields::fresh());
             // The call's own comes before 11.
             let outcome = run(&mut board, &call.encode(), &mut []);
-            assert_eq!(outcome.refusal, number);
+            assert_eq!(outcome.refusal_number(), expected);
         }
     }
 }
@@ -233,8 +151,8 @@ fn refusals_of_the_calls_own() {
 fn an_answer_longer_than_the_rest_is_refused_with_11() {
     let first = Call::Write { address: 0x83, byte: 7 };
     for call in CALLS {
-        let list = encode(&[first, call]);
-        let whole = 3 + HEADER_LENGTH + answer_length(call.tag());
+        let list = list_of(&[first, call]);
+        let whole = first.answer_bytes() + call.answer_bytes();
         for length in 0..whole + 2 {
             let mut board = Board::fresh();
             let mut buffer = vec![0xEE; length];
@@ -244,7 +162,7 @@ fn an_answer_longer_than_the_rest_is_refused_with_11() {
                 calls: done,
                 list_bytes: [0, 6, list.len()][done],
                 answer_bytes: [0, 3, whole][done],
-                refusal: if done == 2 { 0 } else { 11 },
+                refusal: if done == 2 { None } else { Some(Refusal::BufferTooSmall) },
             };
             assert_eq!(outcome, expected, "{call:?} into {length}");
             // The board is that of the calls done, and the rest of the buffer is as it was.
@@ -266,7 +184,7 @@ fn a_list_cut_anywhere_does_its_whole_calls() {
         Call::Write { address: 7, byte: 1 },
         Call::Skip,
     ];
-    let list = encode(&calls);
+    let list = list_of(&calls);
     let ends = [0, 11, 14, 20, 23];
     for length in 0..=list.len() {
         let (outcome, _, _) = run_fresh(&list[..length]);
@@ -278,7 +196,7 @@ fn a_list_cut_anywhere_does_its_whole_calls() {
             _ => 5,
         };
         assert_eq!(
-            (outcome.calls, outcome.list_bytes, outcome.refusal),
+            (outcome.calls, outcome.list_bytes, outcome.refusal_number()),
             (calls, ends[calls], refusal)
         );
     }

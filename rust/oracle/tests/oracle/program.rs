@@ -3,10 +3,8 @@
 use std::io::Write;
 use std::process::{Command, Output, Stdio};
 
-use oracle::call::Call;
+use calls::{list_of, Call};
 use oracle::generate;
-
-use crate::support::encode;
 
 /// Runs the program on the input and gives what it prints.
 fn oracle(arguments: &[&str], input: &[u8]) -> Output {
@@ -37,7 +35,7 @@ fn example_of_document_01() {
 
 #[test]
 fn empty_answers_and_wide_ones_are_printed() {
-    let list = encode(&[
+    let list = list_of(&[
         Call::HostTime {
             seconds: 1,
             nanoseconds: 2,
@@ -62,7 +60,7 @@ fn empty_list() {
 #[test]
 fn longest_list_and_one_byte_more() {
     // 6,553 calls of five bytes and three bytes of an unknown tag: 6,553 * 5 + 3 = 32,768.
-    let sources = encode(&[Call::Source { number: 0, level: 0 }]).repeat(6_553);
+    let sources = list_of(&[Call::Source { number: 0, level: 0 }]).repeat(6_553);
     let mut list = [&sources[..], &[0, 0, 0]].concat();
     assert_eq!(list.len(), 32_768);
     let text = printed(&list);
@@ -74,7 +72,7 @@ fn longest_list_and_one_byte_more() {
 #[test]
 fn answers_past_the_buffer_are_refused() {
     // A deadline's record has 28 bytes; 1,170 of them fill 32,760 bytes and the next does not fit.
-    let text = printed(&encode(&[Call::Deadline]).repeat(1_171));
+    let text = printed(&list_of(&[Call::Deadline]).repeat(1_171));
     assert_eq!(text.lines().count(), 1_171);
     assert!(text.ends_with("\nend 1170 11 3510\n"));
 }

@@ -2,8 +2,8 @@
 
 use std::collections::BTreeSet;
 
+use calls::Call;
 use oracle::board::Board;
-use oracle::call::Call;
 use oracle::fields::{Fields, Latch};
 use oracle::generate::Random;
 use oracle::registers::{self, channel, of_channel};
@@ -121,7 +121,7 @@ fn addresses_from_0x380_on_are_refused() {
         for address in [0x380, 0x381, 0x400, 0x7FFF, 0x8000, 0xFFFF] {
             for call in [Call::Read { address }, Call::Write { address, byte: 0xFF }] {
                 let mut board = Board::from_fields(&fields);
-                assert_eq!(board.call(call).refusal, 6);
+                assert_eq!(number(&board.call(call)), 6);
                 assert_eq!(board.fields(), fields);
             }
         }

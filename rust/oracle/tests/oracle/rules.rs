@@ -1,8 +1,8 @@
 //! Document 01's rules for every call, written from its sentences over exact numbers and whole fields; for
 //! register offsets, read values and write effects it points to timing.rs. The board is compared with them.
 
+use calls::{Answer, Call};
 use oracle::board::Board;
-use oracle::call::{Answer, Call};
 use oracle::deadline;
 use oracle::fields::{Channel, Fields, Latch};
 use oracle::generate::Random;
@@ -45,15 +45,11 @@ fn tick(channel: &mut Channel, ticks: u128) {
             channel.counter = counter as u64;
             if compare <= counter {
                 channel.pending = true;
-                if reload == 0 {
-                    channel.control = disabled;
-                } else {
-                    let next = compare + ((counter - compare) / reload + 1) * reload;
-                    if next > TOP {
-                        channel.control = disabled;
-                    } else {
-                        channel.compare = next as u64;
-                    }
+                // With reload 0 there is no quotient, and so no next compare.
+                let periods = (counter - compare).checked_div(reload);
+                match periods.map(|periods| compare + (periods + 1) * reload) {
+                    Some(next) if next <= TOP => channel.compare = next as u64,
+                    _ => channel.control = disabled,
                 }
             }
         }
@@ -447,7 +443,7 @@ fn every_call_follows_the_rules() {
     let mut calls = [0; 11];
     for (mut random, fields) in sound_boards(400_000) {
         let call = random.call();
-        if call.refusal() == 0 {
+        if call.refusal().is_none() {
             compare(&fields, call);
             calls[usize::from(call.tag())] += 1;
         }

@@ -1,7 +1,7 @@
 //! Document 01's settings A to J, and the wrong readings that it names.
 
+use calls::{list_of, Answer, Call};
 use oracle::board::Board;
-use oracle::call::{Answer, Call};
 use oracle::fields::Fields;
 use oracle::generate::Random;
 
@@ -9,11 +9,11 @@ use crate::support::*;
 
 /// The answers of a list on a fresh board, every call of which must be accepted.
 fn answers(calls: &[Call]) -> Vec<u8> {
-    let list = encode(calls);
+    let list = list_of(calls);
     let (outcome, answers, _) = run_fresh(&list);
     assert_eq!(
         (outcome.calls, outcome.refusal, outcome.list_bytes),
-        (calls.len(), 0, list.len())
+        (calls.len(), None, list.len())
     );
     answers
 }
@@ -176,8 +176,8 @@ fn i_seven_bytes_do_not_commit() {
         (0x89, 1),
         (0x8A, 1),
     ];
-    let (outcome, _, board) = run_fresh(&encode(&writes(&seven)));
-    assert_eq!((outcome.calls, outcome.refusal), (8, 0));
+    let (outcome, _, board) = run_fresh(&list_of(&writes(&seven)));
+    assert_eq!((outcome.calls, outcome.refusal), (8, None));
     let expected = Fields {
         clock_control: 3,
         seconds_shadow: 0x0101_0101_0101_0100,
@@ -187,7 +187,7 @@ fn i_seven_bytes_do_not_commit() {
     assert_eq!(board.fields(), expected);
 
     let eight = [&writes(&seven)[..], &writes(&[(0x8B, 1)])].concat();
-    let (_, _, board) = run_fresh(&encode(&eight));
+    let (_, _, board) = run_fresh(&list_of(&eight));
     let committed = Fields {
         seconds: 0x0101_0101_0101_0101,
         seconds_shadow: 0x0101_0101_0101_0101,

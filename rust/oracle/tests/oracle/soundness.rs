@@ -1,9 +1,9 @@
 //! Sound: each clause of document 01, what is refused without it, and that every call keeps it.
 
+use calls::{list_of, Call, Outcome, Refusal};
 use oracle::board::Board;
-use oracle::call::Call;
 use oracle::fields::Fields;
-use oracle::list::{run, Outcome};
+use oracle::list::run;
 
 use crate::support::*;
 
@@ -29,16 +29,16 @@ const CLAUSES: [(&str, Edit, Edit); 19] = [
     ("timer enable", |f| f.timer_enable = 16, |f| f.timer_enable = 15),
     ("clock control", |f| f.clock_control = 8, |f| f.clock_control = 7),
     ("alarm enable", |f| f.alarm_enable = 2, |f| f.alarm_enable = 1),
-    ("subsecond", |f| f.subsecond = 48_000_000, |f| f.subsecond = 47_999_999),
+    ("subsecond", |f| f.subsecond = F, |f| f.subsecond = F - 1),
     (
         "offset nanoseconds",
-        |f| f.offset_nanoseconds = 1_000_000_000,
-        |f| f.offset_nanoseconds = 999_999_999,
+        |f| f.offset_nanoseconds = SECOND as u32,
+        |f| f.offset_nanoseconds = SECOND as u32 - 1,
     ),
     (
         "host nanoseconds",
-        |f| f.host_nanoseconds = 1_000_000_000,
-        |f| f.host_nanoseconds = 999_999_999,
+        |f| f.host_nanoseconds = SECOND as u32,
+        |f| f.host_nanoseconds = SECOND as u32 - 1,
     ),
     (
         "negative zero",
@@ -47,7 +47,7 @@ const CLAUSES: [(&str, Edit, Edit); 19] = [
     ),
     ("seconds mask", |f| f.seconds_mask = 255, |f| f.seconds_mask = 254),
     ("alarm mask", |f| f.alarm_mask = 255, |f| f.alarm_mask = 254),
-    ("poll", |f| f.poll = 48_000, |f| f.poll = 47_999),
+    ("poll", |f| f.poll = POLL, |f| f.poll = POLL - 1),
     (
         "alarm pending and armed",
         |f| (f.alarm_pending, f.alarm_armed, f.alarm) = (true, true, 1),
@@ -90,17 +90,17 @@ fn a_board_that_is_not_sound_is_refused_with_1() {
         for call in CALLS {
             let reply = board.call(call);
             assert_eq!(
-                (reply.refusal, reply.answer),
+                (number(&reply), reply.answer),
                 (1, call.zero_answer()),
                 "{name}, {call:?}"
             );
         }
         // 1 comes before every refusal of the call's own and of the list.
-        assert_eq!(board.call(Call::Source { number: 16, level: 2 }).refusal, 1);
-        for list in [&[][..], &[1], &encode(&CALLS)] {
+        assert_eq!(number(&board.call(Call::Source { number: 16, level: 2 })), 1);
+        for list in [&[][..], &[1], &list_of(&CALLS)] {
             let mut buffer = [0xEE; 100];
             let refused = Outcome {
-                refusal: 1,
+                refusal: Some(Refusal::UnsoundBoard),
                 ..Outcome::default()
             };
             assert_eq!(run(&mut board, list, &mut buffer), refused);
@@ -112,7 +112,7 @@ fn a_board_that_is_not_sound_is_refused_with_1() {
         sound(&mut fields);
         assert!(fields.sound(), "{name}");
         for call in CALLS {
-            assert_eq!(Board::from_fields(&fields).call(call).refusal, 0, "{name}, {call:?}");
+            assert_eq!(Board::from_fields(&fields).call(call).refusal, None, "{name}, {call:?}");
         }
     }
     // The clauses on an empty latch hold of each latch.
@@ -163,11 +163,11 @@ fn every_call_keeps_a_sound_board_sound() {
             let reply = board.call(call);
             let after = board.fields();
             assert!(after.sound(), "{before:?} {call:?} {after:?}");
-            if reply.refusal == 0 {
+            if reply.refusal.is_none() {
                 accepted[usize::from(call.tag())] += 1;
                 deadline(&mut board);
             } else {
-                refused[usize::from(reply.refusal)] += 1;
+                refused[usize::from(number(&reply))] += 1;
                 assert_eq!((reply.answer, after), (call.zero_answer(), before));
             }
         }

@@ -1,10 +1,10 @@
 //! Short forms that the tests share.
 
-use oracle::board::Board;
-use oracle::call::{Answer, Call};
+use calls::{Answer, Call, Outcome, Refusal};
+use oracle::board::{Board, Reply};
 use oracle::fields::Fields;
 use oracle::generate::Random;
-use oracle::list::{run, Outcome};
+use oracle::list::run;
 
 /// Cycles a second and cycles from poll to poll, as document 01 gives them.
 pub const F: u32 = 48_000_000;
@@ -32,7 +32,7 @@ pub const CALLS: [Call; 10] = [
 /// The answer of a call that must be accepted.
 pub fn accepted(board: &mut Board, call: Call) -> Answer {
     let reply = board.call(call);
-    assert_eq!(reply.refusal, 0, "{call:?}");
+    assert_eq!(reply.refusal, None, "{call:?}");
     reply.answer
 }
 
@@ -102,9 +102,9 @@ pub fn set_offset(fields: &mut Fields, offset: i128) {
     fields.offset_nanoseconds = (magnitude % SECOND as u128) as u32;
 }
 
-/// A list of the calls.
-pub fn encode(calls: &[Call]) -> Vec<u8> {
-    calls.iter().flat_map(Call::encode).collect()
+/// Document 01's number of a direct call's refusal, 0 for none.
+pub fn number(reply: &Reply) -> u8 {
+    reply.refusal.map_or(0, Refusal::number)
 }
 
 /// Runs a list on a fresh board; gives the outcome, the answers and the board.

@@ -1,54 +1,66 @@
-//! The ten calls and their answers: members, tags, lengths, big-endian form, and the refusals by number. Tags, lengths
+//! The ten calls and their answers: members, tags, lengths, big-endian form, and a call's own refusals. Tags, lengths
 //! and the bytes of calls and answers come from one table, `FORMS`.
 
-/// Document 01's refusals.
-pub mod refusal {
-    pub const NONE: u8 = 0;
-    pub const NOT_SOUND: u8 = 1;
-    pub const HEADER_CUT: u8 = 2;
-    pub const UNKNOWN_TAG: u8 = 3;
-    pub const WRONG_LENGTH: u8 = 4;
-    pub const VALUE_CUT: u8 = 5;
-    pub const ADDRESS: u8 = 6;
-    pub const NANOSECONDS: u8 = 7;
-    pub const SOURCE_NUMBER: u8 = 8;
-    pub const SOURCE_OF_LINE: u8 = 9;
-    pub const LEVEL: u8 = 10;
-    pub const BUFFER_SHORT: u8 = 11;
-}
+use crate::{Fault, Refusal, NANOSECONDS_PER_SECOND};
+
+/// The first address that a read or a write is refused for.
+const ADDRESS_LIMIT: u16 = 0x380;
+/// The highest source of the controller.
+const LAST_SOURCE: u8 = 15;
+/// The controller's source that is set to the line.
+pub const LINE_SOURCE: u8 = 3;
 
 /// A call with its value.
 #[derive(Clone, Copy, Debug, PartialEq, Eq)]
 pub enum Call {
+    /// Sets the host time, from which the clock runs in realtime; makes no alarm check.
     HostTime { seconds: u64, nanoseconds: u32 },
+    /// Reads a register byte; answers [`Answer::Byte`].
     Read { address: u16 },
+    /// Writes a register byte.
     Write { address: u16, byte: u8 },
+    /// Advances the board; answers [`Answer::Line`].
     Advance { cycles: u64 },
+    /// Asks for the cycles until the next interrupt; answers [`Answer::Deadline`].
     Deadline,
+    /// Advances once to the deadline, where the line is low and there is one; answers [`Answer::Skip`].
     Skip,
+    /// Sets the level, 0 or 1, of a source of the controller.
     Source { number: u8, level: u8 },
+    /// Reads a register byte of the controller; answers [`Answer::Byte`].
     ControllerRead { address: u32 },
+    /// Writes a register byte of the controller.
     ControllerWrite { address: u32, byte: u8 },
+    /// Asks for the controller's output; answers [`Answer::Output`].
     Output,
 }
 
 /// The answer of an accepted call, or the same members all 0.
 #[derive(Clone, Copy, Debug, PartialEq, Eq)]
 pub enum Answer {
+    /// Of a host time, a write, a source and a controller write.
     Empty,
+    /// Of a read and a controller read.
     Byte(u8),
+    /// Of an advance: whether the line is high.
     Line(bool),
+    /// Whether there is a deadline, D, and the smaller of D and 2^64 - 1; zeros if there is none.
     Deadline { present: bool, exact: u128, capped: u64 },
+    /// The cycles that a skip passed, and whether the line is high.
     Skip { passed: u64, line: bool },
+    /// Whether a source is presented, and which.
     Output { valid: bool, number: u8 },
 }
 
-/// The form of a call: its tag, and the widths in bytes of the members of its value and of its answer.
+/// The form of a call: its tag, the widths in bytes of the members of its value and of its answer, and the lengths of
+/// both.
 #[derive(Clone, Copy)]
 struct Form {
     tag: u8,
     value: &'static [usize],
     answer: &'static [usize],
+    value_length: usize,
+    answer_length: usize,
 }
 
 /// Document 01's table of calls, in the order of the tags.
@@ -66,7 +78,20 @@ const FORMS: [Form; 10] = [
 ];
 
 const fn form(tag: u8, value: &'static [usize], answer: &'static [usize]) -> Form {
-    Form { tag, value, answer }
+    Form {
+        tag,
+        value,
+        answer,
+        value_length: sum(value),
+        answer_length: sum(answer),
+    }
+}
+
+const fn sum(widths: &[usize]) -> usize {
+    match widths {
+        [] => 0,
+        [first, rest @ ..] => *first + sum(rest),
+    }
 }
 
 /// The value of an expression over a tag's form, or none for an unknown tag. In the expression the form is a constant,
@@ -93,16 +118,12 @@ pub fn tags() -> impl Iterator<Item = u8> {
 
 /// The length of a tag's value, or none for an unknown tag.
 pub fn value_length(tag: u8) -> Option<usize> {
-    by_form!(tag, FORM => sum(FORM.value))
+    by_form!(tag, FORM => FORM.value_length)
 }
 
-/// The length of the value of a known tag's answer.
-pub fn answer_length(tag: u8) -> usize {
-    by_form!(tag, FORM => sum(FORM.answer)).expect("the tag is known")
-}
-
-fn sum(widths: &[usize]) -> usize {
-    widths.iter().sum()
+/// The length of the value of a tag's answer, or none for an unknown tag.
+pub fn answer_length(tag: u8) -> Option<usize> {
+    by_form!(tag, FORM => FORM.answer_length)
 }
 
 /// Bytes before a value: tag 1, length 2.
@@ -138,10 +159,37 @@ fn write<const MEMBERS: usize>(tag: u8, widths: &[usize], members: [u128; MEMBER
     }
 }
 
+/// The tag and the value of the first record, where the value has the length that the tag gives it; else the refusal,
+/// 2 to 5.
+#[inline(always)]
+fn first_record(bytes: &[u8], length_of: impl Fn(u8) -> Option<usize>) -> Result<(u8, &[u8]), Refusal> {
+    let &[tag, high, low, ref rest @ ..] = bytes else {
+        return Err(Refusal::TruncatedHeader);
+    };
+    let expected = length_of(tag).ok_or(Refusal::UnknownTag)?;
+    if usize::from(u16::from_be_bytes([high, low])) != expected {
+        return Err(Refusal::WrongLength);
+    }
+    let value = rest.get(..expected).ok_or(Refusal::TruncatedValue)?;
+    Ok((tag, value))
+}
+
+/// The list of some calls.
+pub fn list_of(calls: &[Call]) -> Vec<u8> {
+    let mut list = Vec::new();
+    for call in calls {
+        call.encode_into(&mut list);
+    }
+    list
+}
+
 impl Call {
-    /// The call of a known tag from a value of that tag's length.
-    pub fn decode(tag: u8, value: &[u8]) -> Self {
-        by_form!(tag, FORM => Self::of(FORM.tag, read(FORM.value, value))).expect("the tag is known")
+    /// The first call of a list, and its bytes; or the refusal, 2 to 5. An empty list, which a run does not refuse, has
+    /// no first call and gives 2.
+    pub fn decode(list: &[u8]) -> Result<(Self, usize), Refusal> {
+        let (tag, value) = first_record(list, value_length)?;
+        let call = by_form!(tag, FORM => Self::of(FORM.tag, read(FORM.value, value)));
+        Ok((call.expect("the tag is known"), HEADER_LENGTH + value.len()))
     }
 
     /// The call of a known tag with these members.
@@ -206,24 +254,42 @@ impl Call {
 
     /// The call as it stands in a list.
     pub fn encode(&self) -> Vec<u8> {
-        let encoded = by_form!(self.tag(), FORM => {
-            let mut record = vec![0; HEADER_LENGTH + sum(FORM.value)];
-            write(FORM.tag, FORM.value, self.members(), &mut record);
-            record
-        });
-        encoded.expect("the tag is known")
+        let mut list = Vec::new();
+        self.encode_into(&mut list);
+        list
     }
 
-    /// The refusals of the call's own, in document 01's order; 1 is the board's.
-    pub fn refusal(&self) -> u8 {
+    /// Puts the call at the end of a list.
+    pub fn encode_into(&self, list: &mut Vec<u8>) {
+        let start = list.len();
+        let encoded = by_form!(self.tag(), FORM => {
+            list.resize(start + HEADER_LENGTH + FORM.value_length, 0);
+            write(FORM.tag, FORM.value, self.members(), &mut list[start..]);
+        });
+        encoded.expect("the tag is known");
+    }
+
+    /// The call's own refusal, in document 01's order; 1 is the board's, 2 to 5 and 11 are the run's.
+    pub fn refusal(&self) -> Option<Refusal> {
         match *self {
-            Self::HostTime { nanoseconds, .. } if nanoseconds >= 1_000_000_000 => refusal::NANOSECONDS,
-            Self::Read { address } | Self::Write { address, .. } if address >= 0x380 => refusal::ADDRESS,
-            Self::Source { number, .. } if number > 15 => refusal::SOURCE_NUMBER,
-            Self::Source { number: 3, .. } => refusal::SOURCE_OF_LINE,
-            Self::Source { level, .. } if level > 1 => refusal::LEVEL,
-            _ => refusal::NONE,
+            Self::HostTime { nanoseconds, .. } if nanoseconds >= NANOSECONDS_PER_SECOND => {
+                Some(Refusal::NanosecondsOutOfRange)
+            }
+            Self::Read { address } | Self::Write { address, .. } if address >= ADDRESS_LIMIT => {
+                Some(Refusal::AddressOutOfRange)
+            }
+            Self::Source { number, .. } if number > LAST_SOURCE => Some(Refusal::SourceOutOfRange),
+            Self::Source {
+                number: LINE_SOURCE, ..
+            } => Some(Refusal::ReservedSource),
+            Self::Source { level, .. } if level > 1 => Some(Refusal::LevelOutOfRange),
+            _ => None,
         }
+    }
+
+    /// The bytes of the call's answer in a buffer.
+    pub fn answer_bytes(&self) -> usize {
+        HEADER_LENGTH + answer_length(self.tag()).expect("the tag is known")
     }
 
     /// The call's answer with every member 0, which a refused direct call gives.
@@ -269,7 +335,26 @@ impl Answer {
         }
     }
 
-    /// Writes the answer's record, under its call's tag, over bytes of the record's length.
+    /// The first answer of a buffer: its call's tag, the answer, and its bytes.
+    pub fn decode(buffer: &[u8]) -> Result<(u8, Self, usize), Fault> {
+        let (tag, value) = first_record(buffer, answer_length).map_err(Fault::Form)?;
+        let members = by_form!(tag, FORM => read(FORM.answer, value)).expect("the tag is known");
+        let answer = Self::of(tag, members);
+        // Any number but 0 makes a flag true, and only 1 is its byte.
+        if answer.members() != members {
+            return Err(Fault::InvalidFlag);
+        }
+        Ok((tag, answer, HEADER_LENGTH + value.len()))
+    }
+
+    /// The answer to a call of a known tag, as it stands in a buffer.
+    pub fn encode(&self, tag: u8) -> Vec<u8> {
+        let mut record = vec![0; HEADER_LENGTH + answer_length(tag).expect("the tag is known")];
+        self.store(tag, &mut record);
+        record
+    }
+
+    /// Writes the answer to a call of a known tag over bytes of the record's length.
     pub fn store(&self, tag: u8, record: &mut [u8]) {
         by_form!(tag, FORM => write(tag, FORM.answer, self.members(), record)).expect("the tag is known");
     }

@@ -1,0 +1,55 @@
+//! The calls, answers and refusals of the PeC board as types, and their bytes.
+//!
+//! "Document 01" in this crate is the definition of the board, 'The PeC board and its deadline'. A call list is bytes:
+//! tag 1, length 2, value, for each call, all big-endian; an answer has its call's tag and the same form.
+//!
+//! ```
+//! use calls::{answers, list_of, Answer, Call, Refusal};
+//!
+//! let list = list_of(&[Call::Write { address: 0x83, byte: 3 }, Call::Skip]);
+//! assert_eq!(list, [3, 0, 3, 0, 0x83, 3, 6, 0, 0]);
+//! assert_eq!(Call::decode(&list[6..]), Ok((Call::Skip, 3)));
+//! assert_eq!(Call::decode(&list[..5]), Err(Refusal::TruncatedValue));
+//! assert_eq!(Call::Read { address: 0x380 }.refusal(), Some(Refusal::AddressOutOfRange));
+//!
+//! // What a run with a timer due after 30 cycles would write for this list.
+//! let buffer = [3, 0, 0, 6, 0, 9, 0, 0, 0, 0, 0, 0, 0, 30, 1];
+//! for record in answers(&buffer) {
+//!     match record? {
+//!         (0x06, Answer::Skip { passed, line }) => assert_eq!((passed, line), (30, true)),
+//!         (tag, answer) => assert_eq!((tag, answer), (0x03, Answer::Empty)),
+//!     }
+//! }
+//! # Ok::<(), calls::DamagedAnswers>(())
+//! ```
+
+mod answers;
+mod call;
+mod refusal;
+
+pub use answers::{answers, Answers, DamagedAnswers, Fault};
+pub use call::{answer_length, list_of, tags, value_length, Answer, Call, HEADER_LENGTH, LINE_SOURCE};
+pub use refusal::Refusal;
+
+/// Nanoseconds in a second; a nanosecond field of document 01 is below it.
+pub const NANOSECONDS_PER_SECOND: u32 = 1_000_000_000;
+
+/// The result of a run besides the board and the answers.
+#[derive(Clone, Copy, Debug, Default, PartialEq, Eq)]
+pub struct Outcome {
+    /// The calls done.
+    pub calls: usize,
+    /// The bytes of the list that they used.
+    pub list_bytes: usize,
+    /// The bytes of answers that they wrote, from the buffer's first byte on.
+    pub answer_bytes: usize,
+    /// The refusal that stopped the run; none where every call was done.
+    pub refusal: Option<Refusal>,
+}
+
+impl Outcome {
+    /// Document 01's number of the refusal, 0 for none.
+    pub fn refusal_number(&self) -> u8 {
+        self.refusal.map_or(0, Refusal::number)
+    }
+}

@@ -1,0 +1,81 @@
+//! Document 01's refusals: their numbers, and their meanings in words.
+
+use std::error::Error;
+use std::fmt;
+
+/// Why a run stopped before the end of its list, or why a direct call was not carried out. The number of each is
+/// document 01's, and so are the words in quotes.
+#[derive(Clone, Copy, Debug, PartialEq, Eq, PartialOrd, Ord, Hash)]
+#[repr(u8)]
+pub enum Refusal {
+    /// 'Board not sound, nothing done'.
+    UnsoundBoard = 1,
+    /// 'One or two bytes left': fewer than a tag and a length.
+    TruncatedHeader = 2,
+    /// 'Unknown tag'.
+    UnknownTag = 3,
+    /// 'Wrong length': not that of the tag's value.
+    WrongLength = 4,
+    /// 'Value cut': fewer bytes are left than the length says.
+    TruncatedValue = 5,
+    /// Read or write: 'address ≥ 0x380'.
+    AddressOutOfRange = 6,
+    /// Host time: 'nanoseconds ≥ 10^9'.
+    NanosecondsOutOfRange = 7,
+    /// Source: 'number > 15'.
+    SourceOutOfRange = 8,
+    /// Source: 'number 3', which is set to the line.
+    ReservedSource = 9,
+    /// Source: 'level above 1'.
+    LevelOutOfRange = 10,
+    /// 'Answer longer than the buffer's rest'.
+    BufferTooSmall = 11,
+}
+
+impl Refusal {
+    /// Every refusal, in the order of the numbers.
+    pub const ALL: [Self; 11] = [
+        Self::UnsoundBoard,
+        Self::TruncatedHeader,
+        Self::UnknownTag,
+        Self::WrongLength,
+        Self::TruncatedValue,
+        Self::AddressOutOfRange,
+        Self::NanosecondsOutOfRange,
+        Self::SourceOutOfRange,
+        Self::ReservedSource,
+        Self::LevelOutOfRange,
+        Self::BufferTooSmall,
+    ];
+
+    /// Document 01's number, 1 to 11.
+    pub fn number(self) -> u8 {
+        self as u8
+    }
+
+    /// The refusal of a number; none for 0, which is no refusal, and for numbers above 11.
+    pub fn from_number(number: u8) -> Option<Self> {
+        let place = usize::from(number).checked_sub(1)?;
+        Self::ALL.get(place).copied()
+    }
+}
+
+impl fmt::Display for Refusal {
+    fn fmt(&self, f: &mut fmt::Formatter<'_>) -> fmt::Result {
+        f.write_str(match self {
+            Self::UnsoundBoard => "the board is not sound",
+            Self::TruncatedHeader => "one or two bytes are left, fewer than a tag and a length",
+            Self::UnknownTag => "the tag is unknown",
+            Self::WrongLength => "the length is not that of the tag",
+            Self::TruncatedValue => "the value is cut",
+            Self::AddressOutOfRange => "the address is 0x380 or above",
+            Self::NanosecondsOutOfRange => "the nanoseconds are 1,000,000,000 or more",
+            Self::SourceOutOfRange => "the source number is above 15",
+            Self::ReservedSource => "source 3 is set from the line only",
+            Self::LevelOutOfRange => "the level is above 1",
+            Self::BufferTooSmall => "the answer is longer than the rest of the buffer",
+        })
+    }
+}
+
+impl Error for Refusal {}
