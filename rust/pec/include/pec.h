@@ -1,4 +1,4 @@
-/* The C interface of the proved PeC board, libpec.a. The contract of each function is in crates/pec/src.
+/* The C interface of the proved PeC board, libpec.a, for C and C++. The contract of each function is in crates/pec/src.
 
    A byte slice is a pointer and a length. Pointers must be valid for their lengths, and what is written must not
    overlap anything else that is lent; a pointer with length 0 must not be null. The library keeps nothing between
@@ -9,6 +9,10 @@
 #include <stdbool.h>
 #include <stddef.h>
 #include <stdint.h>
+
+#ifdef __cplusplus
+extern "C" {
+#endif
 
 /* Runs a list over a fresh board. Gives the calls done, the list bytes they used and the answer bytes; the result is the
    refusal, 0 for none. */
@@ -37,5 +41,9 @@ uint8_t pec_irqc_read(uint64_t word, uint32_t address);
 uint8_t pec_irqc_debug_read(uint64_t word, uint32_t address);
 uint64_t pec_irqc_write(uint64_t word, uint32_t address, uint8_t value);
 uint32_t pec_irqc_size(uint64_t word);
+
+#ifdef __cplusplus
+}
+#endif
 
 #endif

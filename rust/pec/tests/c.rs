@@ -1,4 +1,5 @@
-//! C programs over the header and the archive: document 01's worked answers, and the memory that the library uses.
+//! C and C++ programs over the header and the archive: document 01's worked answers, and the memory that the library
+//! uses.
 
 use std::env;
 use std::io::Write;
@@ -13,19 +14,26 @@ fn archive() -> PathBuf {
     directory.join("libpec.a")
 }
 
-/// Compiles a C program of this folder and gives what it prints for an input.
-fn printed(name: &str, input: &[u8]) -> String {
+/// The compiler and the options for a language.
+const C: (&str, [&str; 3]) = ("cc", ["-std=c11", "-x", "c"]);
+const CPP: (&str, [&str; 3]) = ("c++", ["-std=c++17", "-x", "c++"]);
+
+/// Compiles a program of this folder as C or as C++ and gives what it prints for an input.
+fn printed(name: &str, (compiler, language): (&str, [&str; 3]), input: &[u8]) -> String {
     let here = Path::new(env!("CARGO_MANIFEST_DIR"));
-    let program = Path::new(env!("CARGO_TARGET_TMPDIR")).join(name);
-    let compiled = Command::new("cc")
-        .args(["-std=c11", "-O1", "-Wall", "-Wextra", "-Werror", "-pthread", "-I"])
+    let program = Path::new(env!("CARGO_TARGET_TMPDIR")).join(format!("{name}-{compiler}"));
+    let compiled = Command::new(compiler)
+        .args(["-O1", "-Wall", "-Wextra", "-Werror", "-pedantic", "-pthread", "-I"])
         .arg(here.join("include"))
+        .args(language)
         .arg(here.join(format!("tests/{name}.c")))
+        // The archive is not a source.
+        .args(["-x", "none"])
         .arg(archive())
         .arg("-o")
         .arg(&program)
         .status()
-        .expect("cc runs");
+        .unwrap_or_else(|error| panic!("{compiler} cannot be run: {error}"));
     assert!(compiled.success());
     let mut child = Command::new(program)
         .stdin(Stdio::piped())
@@ -44,9 +52,11 @@ fn printed(name: &str, input: &[u8]) -> String {
 }
 
 #[test]
-fn a_c_program_links_the_archive() {
+fn a_program_links_the_archive_from_c_and_from_cpp() {
     let run = "02000101040001000a00020000 3 2 19\n";
-    assert_eq!(printed("listing", &[]), format!("{run}{run}109 105\n"));
+    for language in [C, CPP] {
+        assert_eq!(printed("listing", language, &[]), format!("{run}{run}109 105\n"));
+    }
 }
 
 #[test]
@@ -61,7 +71,7 @@ fn a_run_uses_little_stack() {
     }
     list.extend([4, 0, 8, 0, 0, 0, 0, 0, 0, 0, 9, 5, 0, 0, 6, 0, 0]);
     list.extend([7, 0, 2, 5, 1, 8, 0, 4, 0, 0, 0, 1, 9, 0, 5, 0, 0, 0, 5, 255, 10, 0, 0]);
-    let text = printed("stack", &list);
+    let text = printed("stack", C, &list);
     let [alone, run] = [0, 1].map(|place| {
         let figure = text.split_whitespace().nth(place).expect("two figures");
         figure.parse::<usize>().expect("decimal")

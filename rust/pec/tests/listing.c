@@ -1,4 +1,5 @@
-/* Runs document 01's worked list, twice by way of the repeated run, and setting H on the controller. */
+/* Runs document 01's worked list, twice by way of the repeated run, and setting H on the controller. The text is C and
+   C++: the test compiles it as both. */
 #include "pec.h"
 
 #include <stdio.h>
