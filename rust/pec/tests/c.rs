@@ -6,6 +6,8 @@ use std::io::Write;
 use std::path::{Path, PathBuf};
 use std::process::{Command, Stdio};
 
+use pec::{list_of, Call};
+
 fn archive() -> PathBuf {
     let directory = env::var_os("PEC_LIB_DIR").map_or_else(
         || Path::new(env!("CARGO_MANIFEST_DIR")).join("../../target/staticlib"),
@@ -62,16 +64,22 @@ fn a_program_links_the_archive_from_c_and_from_cpp() {
 #[test]
 fn a_run_uses_little_stack() {
     // One call of each tag, and reads and writes in every block of registers.
-    let mut list = vec![1, 0, 12, 0, 0, 0, 0, 0, 0, 0, 7, 0, 0, 0, 5];
+    let mut calls = vec![Call::HostTime {
+        seconds: 7,
+        nanoseconds: 5,
+    }];
     for address in [
-        0x007u16, 0x00F, 0x083, 0x088, 0x08C, 0x097, 0x09B, 0x0A3, 0x283, 0x288, 0x28C, 0x2A3,
+        0x007, 0x00F, 0x083, 0x088, 0x08C, 0x097, 0x09B, 0x0A3, 0x283, 0x288, 0x28C, 0x2A3,
     ] {
-        let [high, low] = address.to_be_bytes();
-        list.extend([3, 0, 3, high, low, 0x0F, 2, 0, 2, high, low]);
+        calls.extend([Call::Write { address, byte: 0x0F }, Call::Read { address }]);
     }
-    list.extend([4, 0, 8, 0, 0, 0, 0, 0, 0, 0, 9, 5, 0, 0, 6, 0, 0]);
-    list.extend([7, 0, 2, 5, 1, 8, 0, 4, 0, 0, 0, 1, 9, 0, 5, 0, 0, 0, 5, 255, 10, 0, 0]);
-    let text = printed("stack", C, &list);
+    calls.extend([Call::Advance { cycles: 9 }, Call::Deadline, Call::Skip]);
+    calls.extend([
+        Call::Source { number: 5, level: 1 },
+        Call::ControllerRead { address: 1 },
+    ]);
+    calls.extend([Call::ControllerWrite { address: 5, byte: 255 }, Call::Output]);
+    let text = printed("stack", C, &list_of(&calls));
     let [alone, run] = [0, 1].map(|place| {
         let figure = text.split_whitespace().nth(place).expect("two figures");
         figure.parse::<usize>().expect("decimal")
