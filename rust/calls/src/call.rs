@@ -159,19 +159,22 @@ fn write<const MEMBERS: usize>(tag: u8, widths: &[usize], members: [u128; MEMBER
     }
 }
 
-/// The tag and the value of the first record, where the value has the length that the tag gives it; else the refusal,
-/// 2 to 5.
+/// The first record of some bytes: its tag, the length that it says, and what follows; or refusal 2.
 #[inline(always)]
-fn first_record(bytes: &[u8], length_of: impl Fn(u8) -> Option<usize>) -> Result<(u8, &[u8]), Refusal> {
+fn header(bytes: &[u8]) -> Result<(u8, usize, &[u8]), Refusal> {
     let &[tag, high, low, ref rest @ ..] = bytes else {
         return Err(Refusal::TruncatedHeader);
     };
-    let expected = length_of(tag).ok_or(Refusal::UnknownTag)?;
-    if usize::from(u16::from_be_bytes([high, low])) != expected {
+    Ok((tag, usize::from(u16::from_be_bytes([high, low])), rest))
+}
+
+/// The value at the front of `rest` with the length that its tag gives it; or refusal 4 or 5.
+#[inline(always)]
+fn value(rest: &[u8], said: usize, expected: usize) -> Result<&[u8], Refusal> {
+    if said != expected {
         return Err(Refusal::WrongLength);
     }
-    let value = rest.get(..expected).ok_or(Refusal::TruncatedValue)?;
-    Ok((tag, value))
+    rest.get(..expected).ok_or(Refusal::TruncatedValue)
 }
 
 /// The list of some calls.
@@ -187,9 +190,12 @@ impl Call {
     /// The first call of a list, and its bytes; or the refusal, 2 to 5. An empty list, which a run does not refuse, has
     /// no first call and gives 2.
     pub fn decode(list: &[u8]) -> Result<(Self, usize), Refusal> {
-        let (tag, value) = first_record(list, value_length)?;
-        let call = by_form!(tag, FORM => Self::of(FORM.tag, read(FORM.value, value)));
-        Ok((call.expect("the tag is known"), HEADER_LENGTH + value.len()))
+        let (tag, said, rest) = header(list)?;
+        let decoded = by_form!(tag, FORM => {
+            let value = value(rest, said, FORM.value_length)?;
+            (Self::of(FORM.tag, read(FORM.value, value)), HEADER_LENGTH + FORM.value_length)
+        });
+        decoded.ok_or(Refusal::UnknownTag)
     }
 
     /// The call of a known tag with these members.
@@ -337,14 +343,18 @@ impl Answer {
 
     /// The first answer of a buffer: its call's tag, the answer, and its bytes.
     pub fn decode(buffer: &[u8]) -> Result<(u8, Self, usize), Fault> {
-        let (tag, value) = first_record(buffer, answer_length).map_err(Fault::Form)?;
-        let members = by_form!(tag, FORM => read(FORM.answer, value)).expect("the tag is known");
+        let (tag, said, rest) = header(buffer).map_err(Fault::Form)?;
+        let read = by_form!(tag, FORM => {
+            let value = value(rest, said, FORM.answer_length).map_err(Fault::Form)?;
+            (read(FORM.answer, value), HEADER_LENGTH + FORM.answer_length)
+        });
+        let (members, used) = read.ok_or(Fault::Form(Refusal::UnknownTag))?;
         let answer = Self::of(tag, members);
         // Any number but 0 makes a flag true, and only 1 is its byte.
         if answer.members() != members {
             return Err(Fault::InvalidFlag);
         }
-        Ok((tag, answer, HEADER_LENGTH + value.len()))
+        Ok((tag, answer, used))
     }
 
     /// The answer to a call of a known tag, as it stands in a buffer.
