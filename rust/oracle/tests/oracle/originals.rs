@@ -5,7 +5,7 @@ mod replacement;
 
 use replacement::{replace_host_time, BOARD_TIME_BODY, SYSTEM_TIME_BODY};
 
-const TIMING: &str = include_str!("../../original/timing.rs");
+pub const TIMING: &str = include_str!("../../original/timing.rs");
 
 #[test]
 fn only_the_body_of_host_time_is_replaced() {

@@ -19,7 +19,7 @@ fn oracle(arguments: &[&str], input: &[u8]) -> Output {
     child.wait_with_output().unwrap()
 }
 
-fn printed(input: &[u8]) -> String {
+pub fn printed(input: &[u8]) -> String {
     let output = oracle(&[], input);
     assert!(output.status.success());
     String::from_utf8(output.stdout).unwrap()
