@@ -1,0 +1,16 @@
+-- What the functions promise that put a text into a buffer from an index on, as much of it as fits, and give the index
+-- behind it.
+use Prim.Native.Nat.{ℕ, _+_, _^_, _<_}
+use mathlib.Core.Path.{_≡_}
+use mathlib.Core.List.{List}
+use lib.ListN.{length}
+use lib.Seq.{sets}
+
+-- the index behind the text is a number of the machine
+pub record Counted (text : List ℕ) (at : ℕ) : Type 0 where
+  pub fits : at + length text < 2 ^ 64
+
+-- the text stands in the buffer; a store outside the buffer does nothing
+pub record Put (text : List ℕ) (at : ℕ) (old new : List ℕ) (next : ℕ) : Type 0 where
+  pub ends : next ≡ at + length text
+  pub stores : new ≡ sets old at text
