@@ -44,7 +44,8 @@ loop-again c =
       omega arith,
       rw add-one
           (left-put (getD l i 0 ∷ []) (drop (suc i) l)
-          (drop-cons l i 0 (c .before .before .before .before .before .loop-test .taken)) (looped .loop .inv .1) (c .before .before .put .ensures)),
+          (drop-cons l i 0 (c .before .before .before .before .before .loop-test .taken)) (looped .loop .inv .1)
+          (c .before .before .put .ensures)),
     )
 
 same-length : tie.Need-same-length Inv-loop μ-loop

@@ -27,8 +27,8 @@ put-hex-requires c κs =
     let looped = c .before .before .before in
     let l = looped .before .before .before .args .bytes .now in
     let i = looped .loop .i in
-    left-counted (hexText (getD l i 0)) (bytesText (drop (suc i) l)) (bytes-from l i (c .before .before .loop-test .taken))
-    (looped .loop .inv .1) (looped .before .before .before .pre)
+    left-counted (hexText (getD l i 0)) (bytesText (drop (suc i) l))
+    (bytes-from l i (c .before .before .loop-test .taken)) (looped .loop .inv .1) (looped .before .before .before .pre)
 
 add-i : tie.Need-add-i Inv-loop μ-loop
 add-i c = omega arith
@@ -44,7 +44,8 @@ loop-again c =
       omega arith,
       rw add-one
           (left-put (hexText (getD l i 0)) (bytesText (drop (suc i) l))
-          (bytes-from l i (c .before .before .before .before .before .loop-test .taken)) (looped .loop .inv .1) (c .before .before .put-hex .ensures)),
+          (bytes-from l i (c .before .before .before .before .before .loop-test .taken)) (looped .loop .inv .1)
+          (c .before .before .put-hex .ensures)),
     )
 
 same-length : tie.Need-same-length Inv-loop μ-loop
@@ -52,8 +53,8 @@ same-length c = c .before .loop .inv .1 .same
 
 returns : tie.Need-returns Inv-loop μ-loop
 returns c =
-    left-none (bytes-none (c .before .before .before .before .args .bytes .now) (c .before .loop .i) (c .loop-test .left))
-    (c .before .loop .inv .1)
+    left-none (bytes-none (c .before .before .before .before .args .bytes .now) (c .before .loop .i)
+    (c .loop-test .left)) (c .before .loop .inv .1)
 
 pub put-bytes-spec : {M : Type 1} → statement M
 put-bytes-spec =
