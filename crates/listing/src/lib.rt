@@ -138,6 +138,14 @@ fn put_end(text: &mut [u8], at: usize, calls: usize, refusal: u8, used: usize) -
     put(text, f, b'\n')
 }
 
+// Writes words at the start of a buffer, as much of them as fits, and gives their length.
+pub fn put_text(words: &[u8], text: &mut [u8]) -> usize
+    ensures { λ r. ⌜ r ≡ length (now (words .entry)) ⌝ }
+    ensures { λ r. ⌜ now (text .exit) ≡ over (now (words .entry)) (now (text .entry)) ⌝ }
+{
+    put_all(text, 0, words)
+}
+
 // Writes the listing of a run's answers and of its end at the start of a buffer, as much of it as fits, and gives the
 // listing's length.
 pub fn listing(answers: &[u8], calls: usize, refusal: u8, used: usize, text: &mut [u8]) -> usize

@@ -1,64 +1,55 @@
 // Reads a call list from standard input, runs it over a fresh board, and prints each answer's tag and value in
-// hexadecimal; last the calls done, the refusal and the list bytes used, in decimal.
+// hexadecimal; last the calls done, the refusal and the list bytes used, in decimal. Where the input cannot be read it
+// prints nothing but a message on standard error, and where the output cannot be written it prints such a message.
+ghost use mathlib.Core.Path.{_≡_};
+ghost use Prim.Native.Nat.{_+_, _*_, _≤_};
+ghost use lib.ListN.{length, take};
+ghost use Rattle.io.specs.Counts.{Counts};
+ghost use Rattle.board.specs.Fields.{freshBoard};
+ghost use Rattle.list.specs.Run.{runOf};
+ghost use Rattle.listing.specs.Listing.{over};
+ghost use Rattle.listrun.specs.Printed.{listed, printedOf};
 use board::Board;
 
-// Prints bytes in hexadecimal, `-` where there are none.
-fn print_bytes(s: &[u8]) {
-    if s.len() == 0 {
-        io::write_all(1, b"-");
-        return;
-    }
-    let mut i = 0;
-    while i < s.len() {
-        io::print_hex(1, s[i] as u64, 2);
-        i += 1;
-    }
-}
+// The longest list.
+const LIST_LIMIT: usize = 32768;
 
-// Prints the tag and the value of each answer record.
-fn print_answers(s: &[u8]) {
-    let mut at = 0;
-    while at < s.len() {
-        if s.len() - at < 3 {
-            return;
-        }
-        let size = wide::fields::get(s, at + 1, 2) as usize;
-        if s.len() - at - 3 < size {
-            return;
-        }
-        io::print_hex(1, wide::fields::get(s, at, 1), 2);
-        io::write_all(1, b" ");
-        let from = at + 3;
-        let to = from + size;
-        print_bytes(&s[from..to]);
-        io::write_all(1, b"\n");
-        at = to;
-    }
-}
-
-// Runs a list over a fresh board, and prints the answers and the outcome.
-fn run_list(list: &[u8], answers: &mut [u8]) {
+// Runs a list over a fresh board, and writes the listing at the start of a buffer, as much of it as fits. Gives the
+// listing's length.
+fn run_list(list: &[u8], answers: &mut [u8], text: &mut [u8]) -> usize
+    ensures { λ r. ⌜ r ≡ length (listed (runOf freshBoard (now (list .entry)) (length (now (answers .entry))))) ⌝ }
+    ensures { λ r. ⌜ now (text .exit)
+        ≡ over (listed (runOf freshBoard (now (list .entry)) (length (now (answers .entry))))) (now (text .entry)) ⌝ }
+    ensures { λ r. ⌜ r ≤ 2 * length (now (answers .entry)) + 67 ⌝ }
+{
     let r = list::run(Board::fresh(), list, answers);
     let written = r.written;
-    if written <= answers.len() {
-        print_answers(&answers[..written]);
+    listing::listing(&answers[..written], r.calls, r.refusal, r.used, text)
+}
+
+// Writes what is printed of a list at the start of a buffer, which has room for it, and gives its length.
+fn print_list(list: &[u8], answers: &mut [u8; 32768], text: &mut [u8; 65603]) -> usize
+    ensures { λ r. ⌜ Counts r (now (text .exit)) ⌝ }
+    ensures { λ r. ⌜ take r (now (text .exit)) ≡ printedOf (now (list .entry)) ⌝ }
+{
+    if LIST_LIMIT < list.len() {
+        return listing::put_text(b"too long\n", text);
     }
-    io::write_all(1, b"end ");
-    io::print_decimal(1, r.calls as u64);
-    io::write_all(1, b" ");
-    io::print_decimal(1, r.refusal as u64);
-    io::write_all(1, b" ");
-    io::print_decimal(1, r.used as u64);
-    io::write_all(1, b"\n");
+    run_list(list, answers, text)
 }
 
 fn main() {
-    let mut input = [0u8; 32769];
-    let n = io::read_full(0, &mut input);
-    if 32768 < n {
-        io::write_all(1, b"too long\n");
+    let mut list = [0u8; 32769];
+    let r = input::read_all(0, &mut list);
+    if r.failed {
+        os::fail(b"listrun: standard input");
         return;
     }
+    let n = r.count;
     let mut answers = [0u8; 32768];
-    run_list(&input[..n], &mut answers);
+    let mut text = [0u8; 65603];
+    let length = print_list(&list[..n], &mut answers, &mut text);
+    if !io::write_all(1, &text[..length]) {
+        os::fail(b"listrun: standard output");
+    }
 }

@@ -1,6 +1,10 @@
--- `run_list` meets its contract: it does not fail. Assumes nothing.
+-- `run_list` meets its contract. Assumes nothing.
+use native.Mathlib.Omega.{arith}
+use mathlib.Core.Path.{sym, ap, _∙_}
+use lib.ListN.{length, take}
 use lib.Seq.{length-take-le}
-use mathlib.Core.Path.{sym}
+use Rattle.listing.specs.Listing.{over}
+use Rattle.listrun.proofs.Texts.{over-is, written-fits, listed-is}
 use borrow.Author.Needs.{needs}
 use Rattle.listrun.proofs.run_list.Statement.{statement}
 use Rattle.listrun.proofs.run_list.Tie as tie
@@ -11,56 +15,40 @@ fresh-requires c κs = search needs
 run-requires : tie.Need-run-requires
 run-requires c κs = search needs
 
-slice-reshare-prefix-print-answers : tie.Need-slice-reshare-prefix-print-answers
-slice-reshare-prefix-print-answers c = search needs
+slice-reshare-prefix-listing : tie.Need-slice-reshare-prefix-listing
+slice-reshare-prefix-listing c =
+    let ran = c .before .before in
+    written-fits _ _ _ _ _ _ (ran .before .before .fresh .ensures) (ran .run .ensures .0) (ran .run .ensures .1)
 
-slice-aggregate-print-answers : tie.Need-slice-aggregate-print-answers
-slice-aggregate-print-answers c = sym (length-take-le _ _ (c .before .if1 .taken))
+slice-aggregate-listing : tie.Need-slice-aggregate-listing
+slice-aggregate-listing c =
+    let ran = c .before .before .before in
+    sym
+    (length-take-le _ _
+    (written-fits _ _ _ _ _ _ (ran .before .before .fresh .ensures) (ran .run .ensures .0) (ran .run .ensures .1)))
 
-print-answers-requires : tie.Need-print-answers-requires
-print-answers-requires c κs = search needs
-
-slice-aggregate-write-all : tie.Need-slice-aggregate-write-all
-slice-aggregate-write-all c = search needs
-
-write-all-requires : tie.Need-write-all-requires
-write-all-requires c κs = search needs
-
-print-decimal-requires : tie.Need-print-decimal-requires
-print-decimal-requires c κs = search needs
-
-slice-aggregate-write-all-2 : tie.Need-slice-aggregate-write-all-2
-slice-aggregate-write-all-2 c = search needs
-
-write-all-requires-2 : tie.Need-write-all-requires-2
-write-all-requires-2 c κs = search needs
-
-cast-print-decimal : tie.Need-cast-print-decimal
-cast-print-decimal c = search needs
-
-print-decimal-requires-2 : tie.Need-print-decimal-requires-2
-print-decimal-requires-2 c κs = search needs
-
-slice-aggregate-write-all-3 : tie.Need-slice-aggregate-write-all-3
-slice-aggregate-write-all-3 c = search needs
-
-write-all-requires-3 : tie.Need-write-all-requires-3
-write-all-requires-3 c κs = search needs
-
-print-decimal-requires-3 : tie.Need-print-decimal-requires-3
-print-decimal-requires-3 c κs = search needs
-
-slice-aggregate-write-all-4 : tie.Need-slice-aggregate-write-all-4
-slice-aggregate-write-all-4 c = search needs
-
-write-all-requires-4 : tie.Need-write-all-requires-4
-write-all-requires-4 c κs = search needs
+listing-requires : tie.Need-listing-requires
+listing-requires c κs = search needs
 
 same-length : tie.Need-same-length
 same-length c = search needs
 
+same-length-2 : tie.Need-same-length-2
+same-length-2 c = search needs
+
 returns : tie.Need-returns
-returns c = search needs
+returns c =
+    let made = c .before .before in
+    let back = made .before .before .before .before in
+    let ran = back .before in
+    let start = ran .before .before .before .before .before .before in
+    let f = ran .before .before .fresh .ensures in
+    let w = written-fits _ _ _ _ _ _ f (ran .run .ensures .0) (ran .run .ensures .1) in
+    let p = over-is _ _ (start .args .text .now) _ _
+    (listed-is _ _ _ _ _ _ f (ran .run .ensures .0) (ran .run .ensures .1)) (made .listing .ensures .0)
+    (made .listing .ensures .1 .0) in
+    let n = length-take-le (ran .run .result .written) (ran .run .last .1 .1 .0) w in
+    (p .0, (p .1, omega (arith, made .listing .ensures .1 .1, n, w, back .answers .given)))
 
 pub run-list-spec : {M : Type 1} → statement M
 run-list-spec =
@@ -68,20 +56,9 @@ run-list-spec =
     (tie.spec
     fresh-requires
     run-requires
-    slice-reshare-prefix-print-answers
-    slice-aggregate-print-answers
-    print-answers-requires
-    slice-aggregate-write-all
-    write-all-requires
-    print-decimal-requires
-    slice-aggregate-write-all-2
-    write-all-requires-2
-    cast-print-decimal
-    print-decimal-requires-2
-    slice-aggregate-write-all-3
-    write-all-requires-3
-    print-decimal-requires-3
-    slice-aggregate-write-all-4
-    write-all-requires-4
+    slice-reshare-prefix-listing
+    slice-aggregate-listing
+    listing-requires
     same-length
+    same-length-2
     returns)

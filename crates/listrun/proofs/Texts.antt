@@ -1,0 +1,100 @@
+-- Laws of what is printed: a text in a buffer that has room for it, the answers that a run wrote, and the two cases of
+-- the rule. Assumes nothing.
+use Prim.Native.Nat.{ℕ, zero, suc, _+_, _-_, _*_, _≤_, _<_}
+use native.Mathlib.Omega.{arith}
+use mathlib.Core.Path.{_≡_, refl, sym, ap, _∙_}
+use mathlib.Core.List.{List, [], _∷_, _++_}
+use lib.ListN.{length, take, drop, length-append}
+use lib.Seq.{take-all, take-append-seam, length-take-le}
+use borrow.Author.Tests.{lt-ltb, le-ltb}
+use Rattle.io.specs.Counts.{Counts}
+use Rattle.board.specs.declared.Board.{Board}
+use Rattle.board.specs.Board.{sound}
+use Rattle.board.specs.Calls.{notSound}
+use Rattle.board.specs.Fields.{freshBoard}
+use Rattle.list.specs.declared.Outcome.{Outcome}
+use Rattle.list.specs.Run.{Turn, done, refused, turnOf, stepped, Run, runOn, nothingDone, runOf, over as overAnswers}
+use Rattle.wide.proofs.Choices.{choose}
+use Rattle.listing.specs.Listing.{ascii, listingOf, over}
+use Rattle.listrun.specs.Printed.{listLimit, answerRoom, listed, printedOf}
+
+-- ---- a text in a buffer that has room for it
+
+pub text-is : (t p old new : List ℕ) (r : ℕ) → t ≡ p → r ≡ length t → new ≡ over t old → length t ≤ length old →
+    Counts r new × (take r new ≡ p)
+unfolding over
+text-is t p old new r q e f h =
+    let g : new ≡ t ++ drop (length t) old = f ∙ ap (λ (l : List ℕ). l ++ drop (length t) old)
+    (take-all (length old) t h) in
+    let n : r ≤ length new = omega (arith, ap length g, length-append t (drop (length t) old)) in (
+      (n, sym (length-take-le r new n)),
+      rw (g, e) (take-append-seam t (drop (length t) old) ∙ q),
+    )
+
+pub over-is : (t p old new : List ℕ) (r : ℕ) → t ≡ p → r ≡ length t → new ≡ over t old →
+    (r ≡ length p) × (new ≡ over p old)
+over-is t p old new r q e f = (e ∙ ap length q, f ∙ ap (λ (l : List ℕ). over l old) q)
+
+-- ---- the answers that a run wrote
+
+-- the answer bytes that a run counts are those that it wrote
+abbrev Counted : Run → Type 0
+Counted r = r .outcome .written ≡ length (r .answers)
+
+next-counted : (x : ℕ) (l : List ℕ) (room : ℕ) (s : Outcome) (out : List ℕ) → s .written ≡ length out →
+    ((k : ℕ) (o : Outcome) (a : List ℕ) → o .written ≡ length a → Counted (runOn k l room o a)) →
+    (t : Turn) → turnOf (s .board) (x ∷ l) (room - length out) ≡ t → Counted (runOn 0 (x ∷ l) room s out)
+unfolding runOn stepped
+next-counted x l room s out h next (done b n a) e =
+    rw (e, runOn) (next (n - 1) (stepped s (done b n a)) (out ++ a) (omega (arith, length-append out a)))
+next-counted x l room s out h next (refused n) e = rw (e, runOn) h
+
+written-on : (k : ℕ) (l : List ℕ) (room : ℕ) (s : Outcome) (out : List ℕ) → s .written ≡ length out →
+    Counted (runOn k l room s out)
+unfolding runOn
+written-on k [] room s out h = h
+written-on (suc k) (x ∷ l) room s out h = written-on k l room s out h
+written-on zero (x ∷ l) room s out h =
+    next-counted x l room s out h (λ k o a. written-on k l room o a) (turnOf (s .board) (x ∷ l) (room - length out)) refl
+
+written-is : (b : Board) (l : List ℕ) (room : ℕ) → Counted (runOf b l room)
+unfolding runOf
+written-is b l room =
+    choose (λ (r : Run). Counted r) (sound b) {x = runOn 0 l room (nothingDone b 0) []}
+    {y = record { outcome = nothingDone b notSound; answers = [] }} (λ _. written-on 0 l room (nothingDone b 0) [] refl) (λ _. refl)
+
+module _ (list : List ℕ) (board : Board) (before after : List ℕ) (o : Outcome) (room : ℕ) (fresh : board ≡ freshBoard)
+    (ran : o ≡ runOf board list room .outcome) (wrote : after ≡ overAnswers (runOf board list room .answers) before)
+  where
+    counted : o .written ≡ length (runOf board list room .answers)
+    counted = ap (λ (q : Outcome). q .written) ran ∙ written-is board list room
+
+    -- they lie within the buffer
+    pub written-fits : o .written ≤ length after
+    unfolding overAnswers
+    written-fits =
+        let a = runOf board list room .answers in
+        omega (arith, counted, ap length wrote, length-append a (drop (length a) before))
+
+    -- they are listed
+    pub listed-is :
+        listingOf (take (o .written) after) (o .calls) (o .refusal) (o .used) ≡ listed (runOf freshBoard list room)
+    unfolding listed overAnswers
+    listed-is =
+        let a = runOf board list room .answers in
+        let front : take (o .written) after ≡ a = rw (counted, wrote) (take-append-seam a (drop (length a) before)) in
+        ap (λ (l : List ℕ). listingOf l (o .calls) (o .refusal) (o .used)) front
+        ∙ ap (λ (q : Outcome). listingOf a (q .calls) (q .refusal) (q .used)) ran
+        ∙ ap (λ (b : Board). listed (runOf b list room)) fresh
+
+-- ---- the two cases
+
+pub printed-long : (l : List ℕ) → listLimit < length l → ascii "too long\n" ≡ printedOf l
+unfolding printedOf
+printed-long l h = rw (lt-ltb listLimit (length l) h)
+
+pub printed-run : (l : List ℕ) (room : ℕ) → length l ≤ listLimit → room ≡ answerRoom →
+    listed (runOf freshBoard l room) ≡ printedOf l
+unfolding printedOf
+printed-run l room h e =
+    ap (λ (n : ℕ). listed (runOf freshBoard l n)) e ∙ rw (le-ltb listLimit (length l) h)
