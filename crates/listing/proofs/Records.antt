@@ -16,10 +16,10 @@ unfolding beAt be
 length-told tag n l h = omega arith
 
 -- an answer at the front: its tag and length, big-endian, and its value
-pub answer-listed : (tag : ℕ) (value rest : List ℕ) → tag < 256 → length value < 65536 →
+pub record-listed : (tag : ℕ) (value rest : List ℕ) → tag < 256 → length value < 65536 →
     answerLines (be 1 tag ++ be 2 (length value) ++ value ++ rest) ≡ answerLine tag value ++ answerLines rest
 unfolding be
-answer-listed tag value rest t h =
+record-listed tag value rest t h =
     let n = length value in
     let l = tag ∷ be 2 n ++ (value ++ rest) in
     let told : lengthAt l ≡ n = length-told tag n (value ++ rest) h in

@@ -1,29 +1,33 @@
 -- Document 01's example, from the bytes of the list to the text, by one computation. Assumes nothing.
 use mathlib.Core.Path.{_≡_, refl}
 use mathlib.Core.List.{[], _∷_}
-use Rattle.wide.specs.Fields.{beAt, be, withByte}
-use Rattle.channel.specs.Channel.{enabledOf, irqEnabledOf, disabled, soundTimer, lineOf}
+use Rattle.wide.specs.Fields.{beAt, be}
+use Rattle.channel.specs.Channel.{enabledOf, soundTimer, lineOf}
 use Rattle.channel.specs.Prescaler.{advanced}
-use Rattle.channel.specs.Modes.{oneShot, reloaded, matched, periodic, distance, freeRunning, tickedIn, ticked}
-use Rattle.channel.specs.Deadline.{ticksToGo, deadlineOf}
-use Rattle.channel.specs.Registers.{wordOf, controlWritten, byteWritten as channelWritten}
-use Rattle.clock.specs.Clock.{shifted, ownNanoseconds, timeOf, timeSeconds, alarmReached, checkAlarm, movedTime, endAdvance, advanceClock}
+use Rattle.clock.specs.Clock.{alarmReached, checkAlarm, movedTime, endAdvance, advanceClock}
 use Rattle.clock.specs.Sound.{soundOffset, soundAlarm, soundParts as clockParts, alarmAhead, soundClock}
-use Rattle.clock.specs.Deadline.{clockDeadline}
-use Rattle.clock.specs.Registers.{signedDifference, setTime, timeKept, changeControl, writeControl, marked, shadowByte, offsetFor, commitSeconds, writeSeconds, timeNanoseconds}
-use Rattle.controller.specs.Bits.{withBit, without}
-use Rattle.controller.specs.Controller.{sourceSet, outputOf, lowestFrom, byteWritten, pendingCleared}
+use Rattle.controller.specs.Bits.{withBit}
+use Rattle.controller.specs.Controller.{sourceSet, outputOf, lowestFrom}
 use Rattle.board.specs.Loops.{mapFrom, foldFrom}
 use Rattle.board.specs.Board.{line, exactDeadline, wired, soundParts, sound}
 use Rattle.board.specs.Calls.{movedBoard, advancedBoard}
-use Rattle.offsets.specs.Words.{timerWord, clockWord, liveWord}
-use Rattle.registers.specs.Reads.{readLive, readCountHigh, readChannel, secondsLatched, readLow, readHigh, readAt}
-use Rattle.offsets.specs.Writes.{timerWritten, clockWritten, writtenAt}
+use Rattle.offsets.specs.Words.{clockWord, liveWord}
+use Rattle.registers.specs.Reads.{readLive, readAt}
 use Rattle.registers.specs.Calls.{addressRefusal}
 use Rattle.format.specs.Format.{membersAt, frameRefusal, membersBytes, recordOf}
 use Rattle.perform.specs.Calls.{callOf, refusalAt}
 use Rattle.list.specs.Run.{turnOf, stepped, runOn, runOf}
-use Rattle.listing.specs.Listing.{ascii, placesOf, decimalText, bytesText, valueText, answerLine, linesOn, endLine, listingOf}
+use Rattle.listing.specs.Listing.{
+  ascii,
+  placesOf,
+  decimalText,
+  bytesText,
+  valueText,
+  answerLine,
+  linesOn,
+  endLine,
+  listingOf,
+}
 use Rattle.listrun.specs.Printed.{listed, printedOf}
 
 pub example-printed :
@@ -32,14 +36,9 @@ pub example-printed :
     ∷ 0x0A ∷ 0x00 ∷ 0x00 ∷ 0xFF ∷ [])
     ≡ ascii "02 01\n04 00\n0a 0000\nend 3 2 19\n"
 unfolding
-    beAt be withByte enabledOf irqEnabledOf disabled soundTimer lineOf advanced oneShot reloaded matched
-    periodic distance freeRunning tickedIn ticked ticksToGo deadlineOf wordOf controlWritten channelWritten
-    shifted ownNanoseconds timeOf timeSeconds alarmReached checkAlarm movedTime endAdvance advanceClock
-    soundOffset soundAlarm clockParts alarmAhead soundClock clockDeadline signedDifference setTime timeKept
-    changeControl writeControl marked shadowByte offsetFor commitSeconds writeSeconds timeNanoseconds withBit
-    without sourceSet outputOf lowestFrom byteWritten pendingCleared mapFrom foldFrom line exactDeadline wired
-    soundParts sound movedBoard advancedBoard timerWord clockWord liveWord readLive readCountHigh readChannel
-    secondsLatched readLow readHigh readAt timerWritten clockWritten writtenAt addressRefusal membersAt
-    frameRefusal membersBytes recordOf callOf refusalAt turnOf stepped runOn runOf ascii placesOf decimalText
-    bytesText valueText answerLine linesOn endLine listingOf listed printedOf
+    beAt be enabledOf soundTimer lineOf advanced alarmReached checkAlarm movedTime endAdvance advanceClock
+    soundOffset soundAlarm clockParts alarmAhead soundClock withBit sourceSet outputOf lowestFrom mapFrom
+    foldFrom line exactDeadline wired soundParts sound movedBoard advancedBoard clockWord liveWord readLive
+    readAt addressRefusal membersAt frameRefusal membersBytes recordOf callOf refusalAt turnOf stepped runOn
+    runOf ascii placesOf decimalText bytesText valueText answerLine linesOn endLine listingOf listed printedOf
 example-printed = refl

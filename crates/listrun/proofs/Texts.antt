@@ -1,6 +1,6 @@
 -- Laws of what is printed: a text in a buffer that has room for it, the answers that a run wrote, and the two cases of
 -- the rule. Assumes nothing.
-use Prim.Native.Nat.{ℕ, zero, suc, _+_, _-_, _*_, _≤_, _<_}
+use Prim.Native.Nat.{ℕ, zero, suc, _+_, _-_, _≤_, _<_}
 use native.Mathlib.Omega.{arith}
 use mathlib.Core.Path.{_≡_, refl, sym, ap, _∙_}
 use mathlib.Core.List.{List, [], _∷_, _++_}
@@ -55,13 +55,15 @@ unfolding runOn
 written-on k [] room s out h = h
 written-on (suc k) (x ∷ l) room s out h = written-on k l room s out h
 written-on zero (x ∷ l) room s out h =
-    next-counted x l room s out h (λ k o a. written-on k l room o a) (turnOf (s .board) (x ∷ l) (room - length out)) refl
+    next-counted x l room s out h (λ k o a. written-on k l room o a)
+    (turnOf (s .board) (x ∷ l) (room - length out)) refl
 
 written-is : (b : Board) (l : List ℕ) (room : ℕ) → Counted (runOf b l room)
 unfolding runOf
 written-is b l room =
     choose (λ (r : Run). Counted r) (sound b) {x = runOn 0 l room (nothingDone b 0) []}
-    {y = record { outcome = nothingDone b notSound; answers = [] }} (λ _. written-on 0 l room (nothingDone b 0) [] refl) (λ _. refl)
+    {y = record { outcome = nothingDone b notSound; answers = [] }}
+    (λ _. written-on 0 l room (nothingDone b 0) [] refl) (λ _. refl)
 
 module _ (list : List ℕ) (board : Board) (before after : List ℕ) (o : Outcome) (room : ℕ) (fresh : board ≡ freshBoard)
     (ran : o ≡ runOf board list room .outcome) (wrote : after ≡ overAnswers (runOf board list room .answers) before)

@@ -6,7 +6,7 @@
 // answer buffer 2; calls done 2, list bytes used 2, answer bytes 2, refusal 1; the list; the answers. rust/oracle has
 // the program that records.
 //
-// Call 0 stands for a record that cannot be read; crates/recording says when a list and a call agree.
+// Call 0 stands for a record that cannot be read, or a file; crates/recording says when a list and a call agree.
 use recording::tally::Tally;
 use recording::tally::joined;
 use recording::tally::none;
@@ -63,8 +63,12 @@ fn replay_file(name: &[u8]) -> Tally {
         return none(1);
     }
     let mut bytes = io::large_buffer();
-    let n = io::read_full(fd, &mut bytes);
+    let r = input::read_all(fd, &mut bytes);
     libc::close(fd);
+    if r.failed {
+        return none(1);
+    }
+    let n = r.count;
     if FILE_LIMIT < n {
         return none(1);
     }

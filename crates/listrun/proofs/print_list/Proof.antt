@@ -1,6 +1,5 @@
 -- `print_list` meets its contract. Assumes nothing.
 use native.Mathlib.Omega.{arith}
-use mathlib.Core.Path.{refl}
 use Rattle.listing.specs.Listing.{ascii}
 use Rattle.listrun.proofs.Texts.{text-is, printed-long, printed-run}
 use borrow.Author.Needs.{needs}

@@ -1,9 +1,7 @@
 -- `run_list` meets its contract. Assumes nothing.
 use native.Mathlib.Omega.{arith}
-use mathlib.Core.Path.{sym, ap, _∙_}
-use lib.ListN.{length, take}
+use mathlib.Core.Path.{sym}
 use lib.Seq.{length-take-le}
-use Rattle.listing.specs.Listing.{over}
 use Rattle.listrun.proofs.Texts.{over-is, written-fits, listed-is}
 use borrow.Author.Needs.{needs}
 use Rattle.listrun.proofs.run_list.Statement.{statement}
