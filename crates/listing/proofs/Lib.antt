@@ -1,5 +1,5 @@
 mod Puts
-mod Numbers
+pub mod Numbers
 mod Lines
 mod Answers
 pub mod Records

@@ -20,7 +20,8 @@ ascii (c then s) = code c ∷ ascii s
 abbrev pub hexText : ℕ → List ℕ
 hexText byte = digits 16 2 byte
 
--- the decimal digits of a number, the fewest and at least one; the first number is as large or larger
+-- how many decimal digits the number n takes, at least one: one more than its tenth takes, from ten on. The first
+-- number, n or larger, only bounds the recursion
 unfoldable pub placesOf : ℕ → ℕ → ℕ
 placesOf zero n = 1
 placesOf (suc k) n = elim (ltb n 10) [ true ↦ 1 | false ↦ suc (placesOf k (n / 10)) ]

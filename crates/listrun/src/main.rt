@@ -27,7 +27,8 @@ fn run_list(list: &[u8], answers: &mut [u8], text: &mut [u8]) -> usize
     listing::listing(&answers[..written], r.calls, r.refusal, r.used, text)
 }
 
-// Writes what is printed of a list at the start of a buffer, which has room for it, and gives its length.
+// Writes what is printed of a list at the start of a buffer and gives its length. A listing has at most two characters
+// for each answer byte, and 67: the buffer has room for all of it.
 fn print_list(list: &[u8], answers: &mut [u8; 32768], text: &mut [u8; 65603]) -> usize
     ensures { λ r. ⌜ Counts r (now (text .exit)) ⌝ }
     ensures { λ r. ⌜ take r (now (text .exit)) ≡ printedOf (now (list .entry)) ⌝ }
