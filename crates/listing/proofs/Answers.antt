@@ -9,7 +9,7 @@ use lib.ListN.{length, getD, take, drop, length-drop}
 use lib.Seq.{length-take-le}
 use Rattle.wide.specs.Fields.{beAt}
 use Rattle.listing.specs.Listing.{answerLine, answerLines}
-use Rattle.listing.specs.Puts.{Counted, Put}
+use Rattle.listing.specs.CodePuts.{Counted, Put}
 use Rattle.listing.proofs.Puts.{Left, left-all, left-put, left-none}
 use Rattle.listing.proofs.Lines.{line-at, no-line-at, line-length, lines-of-none}
 

@@ -6,8 +6,8 @@ use mathlib.Core.List.{List, [], _∷_, _++_}
 use lib.ListN.{length, set, length-append}
 use lib.Seq.{sets, length-sets, take-nil, drop-nil}
 use Rattle.wide.proofs.BigEndian.{sets-append}
-use Rattle.listing.specs.Listing.{over}
-use Rattle.listing.specs.Puts.{Counted, Put}
+use Rattle.listing.specs.Listing.{withText}
+use Rattle.listing.specs.CodePuts.{Counted, Put}
 
 -- ---- one text behind another
 
@@ -72,11 +72,11 @@ sets-none i [] = refl
 sets-none i (v ∷ vs) = sets-none (suc i) vs
 
 -- stores past the buffer's end do nothing, so it holds the text's beginning
-pub put-over : (old text : List ℕ) → sets old 0 text ≡ over text old
-unfolding over
-put-over old [] = rw (take-nil (length old))
-put-over [] (v ∷ vs) = sets-none 0 (v ∷ vs) ∙ sym (drop-nil (length (v ∷ vs)))
-put-over (x ∷ old) (v ∷ vs) = sets-behind v old 0 vs ∙ ap (λ (l : List ℕ). v ∷ l) (put-over old vs)
+pub put-text : (old text : List ℕ) → sets old 0 text ≡ withText text old
+unfolding withText
+put-text old [] = rw (take-nil (length old))
+put-text [] (v ∷ vs) = sets-none 0 (v ∷ vs) ∙ sym (drop-nil (length (v ∷ vs)))
+put-text (x ∷ old) (v ∷ vs) = sets-behind v old 0 vs ∙ ap (λ (l : List ℕ). v ∷ l) (put-text old vs)
 
-pub put-whole : {t a b : List ℕ} {r : ℕ} → Put t 0 a b r → (r ≡ length t) × (b ≡ over t a)
-put-whole {t = t} {a = a} p = (omega (arith, p .ends), p .stores ∙ put-over a t)
+pub put-whole : {t a b : List ℕ} {r : ℕ} → Put t 0 a b r → (r ≡ length t) × (b ≡ withText t a)
+put-whole {t = t} {a = a} p = (omega (arith, p .ends), p .stores ∙ put-text a t)

@@ -76,5 +76,5 @@ listingOf answers calls refusal used = answerLines answers ++ endLine calls refu
 -- ---- a buffer
 
 -- what a buffer holds once a text is written into it: as much of the text as fits, then its old bytes
-unfoldable pub over : List ℕ → List ℕ → List ℕ
-over text old = take (length old) text ++ drop (length text) old
+unfoldable pub withText : List ℕ → List ℕ → List ℕ
+withText text old = take (length old) text ++ drop (length text) old

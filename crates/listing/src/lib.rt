@@ -14,9 +14,9 @@ ghost use Rattle.listing.specs.Listing.{
   answerLines,
   endLine,
   listingOf,
-  over,
+  withText,
 };
-ghost use Rattle.listing.specs.Puts.{Counted, Put};
+ghost use Rattle.listing.specs.CodePuts.{Counted, Put};
 use wide::fields;
 
 fn put(text: &mut [u8], at: usize, byte: u8) -> usize
@@ -141,7 +141,7 @@ fn put_end(text: &mut [u8], at: usize, calls: usize, refusal: u8, used: usize) -
 // Writes words at the start of a buffer, as much of them as fits, and gives their length.
 pub fn put_text(words: &[u8], text: &mut [u8]) -> usize
     ensures { λ r. ⌜ r ≡ length (now (words .entry)) ⌝ }
-    ensures { λ r. ⌜ now (text .exit) ≡ over (now (words .entry)) (now (text .entry)) ⌝ }
+    ensures { λ r. ⌜ now (text .exit) ≡ withText (now (words .entry)) (now (text .entry)) ⌝ }
 {
     put_all(text, 0, words)
 }
@@ -151,7 +151,7 @@ pub fn put_text(words: &[u8], text: &mut [u8]) -> usize
 pub fn listing(answers: &[u8], calls: usize, refusal: u8, used: usize, text: &mut [u8]) -> usize
     ensures { λ r. ⌜ r ≡ length (listingOf (now (answers .entry)) calls refusal used) ⌝ }
     ensures { λ r. ⌜ now (text .exit)
-        ≡ over (listingOf (now (answers .entry)) calls refusal used) (now (text .entry)) ⌝ }
+        ≡ withText (listingOf (now (answers .entry)) calls refusal used) (now (text .entry)) ⌝ }
     ensures { λ r. ⌜ r ≤ 2 * length (now (answers .entry)) + 67 ⌝ }
 {
     let at = put_answers(text, answers);

@@ -13,16 +13,16 @@ use Rattle.board.specs.Board.{sound}
 use Rattle.board.specs.Calls.{notSound}
 use Rattle.board.specs.Fields.{freshBoard}
 use Rattle.list.specs.declared.Outcome.{Outcome}
-use Rattle.list.specs.Run.{Turn, done, refused, turnOf, stepped, Run, runOn, nothingDone, runOf, over as overAnswers}
+use Rattle.list.specs.Run.{Turn, done, refused, turnOf, stepped, Run, runOn, nothingDone, runOf, over}
 use Rattle.wide.proofs.Choices.{choose}
-use Rattle.listing.specs.Listing.{ascii, listingOf, over}
+use Rattle.listing.specs.Listing.{ascii, listingOf, withText}
 use Rattle.listrun.specs.Printed.{listLimit, answerRoom, listed, printedOf}
 
 -- ---- a text in a buffer that has room for it
 
-pub text-is : (t p old new : List ℕ) (r : ℕ) → t ≡ p → r ≡ length t → new ≡ over t old → length t ≤ length old →
+pub text-is : (t p old new : List ℕ) (r : ℕ) → t ≡ p → r ≡ length t → new ≡ withText t old → length t ≤ length old →
     Counts r new × (take r new ≡ p)
-unfolding over
+unfolding withText
 text-is t p old new r q e f h =
     let g : new ≡ t ++ drop (length t) old = f ∙ ap (λ (l : List ℕ). l ++ drop (length t) old)
     (take-all (length old) t h) in
@@ -31,26 +31,26 @@ text-is t p old new r q e f h =
       rw (g, e) (take-append-seam t (drop (length t) old) ∙ q),
     )
 
-pub over-is : (t p old new : List ℕ) (r : ℕ) → t ≡ p → r ≡ length t → new ≡ over t old →
-    (r ≡ length p) × (new ≡ over p old)
-over-is t p old new r q e f = (e ∙ ap length q, f ∙ ap (λ (l : List ℕ). over l old) q)
+pub with-text-is : (t p old new : List ℕ) (r : ℕ) → t ≡ p → r ≡ length t → new ≡ withText t old →
+    (r ≡ length p) × (new ≡ withText p old)
+with-text-is t p old new r q e f = (e ∙ ap length q, f ∙ ap (λ (l : List ℕ). withText l old) q)
 
 -- ---- the answers that a run wrote
 
 -- the answer bytes that a run counts are those that it wrote
-abbrev Counted : Run → Type 0
-Counted r = r .outcome .written ≡ length (r .answers)
+abbrev AllCounted : Run → Type 0
+AllCounted r = r .outcome .written ≡ length (r .answers)
 
 next-counted : (x : ℕ) (l : List ℕ) (room : ℕ) (s : Outcome) (out : List ℕ) → s .written ≡ length out →
-    ((k : ℕ) (o : Outcome) (a : List ℕ) → o .written ≡ length a → Counted (runOn k l room o a)) →
-    (t : Turn) → turnOf (s .board) (x ∷ l) (room - length out) ≡ t → Counted (runOn 0 (x ∷ l) room s out)
+    ((k : ℕ) (o : Outcome) (a : List ℕ) → o .written ≡ length a → AllCounted (runOn k l room o a)) →
+    (t : Turn) → turnOf (s .board) (x ∷ l) (room - length out) ≡ t → AllCounted (runOn 0 (x ∷ l) room s out)
 unfolding runOn stepped
 next-counted x l room s out h next (done b n a) e =
     rw (e, runOn) (next (n - 1) (stepped s (done b n a)) (out ++ a) (omega (arith, length-append out a)))
 next-counted x l room s out h next (refused n) e = rw (e, runOn) h
 
 written-on : (k : ℕ) (l : List ℕ) (room : ℕ) (s : Outcome) (out : List ℕ) → s .written ≡ length out →
-    Counted (runOn k l room s out)
+    AllCounted (runOn k l room s out)
 unfolding runOn
 written-on k [] room s out h = h
 written-on (suc k) (x ∷ l) room s out h = written-on k l room s out h
@@ -58,22 +58,22 @@ written-on zero (x ∷ l) room s out h =
     next-counted x l room s out h (λ k o a. written-on k l room o a)
     (turnOf (s .board) (x ∷ l) (room - length out)) refl
 
-written-is : (b : Board) (l : List ℕ) (room : ℕ) → Counted (runOf b l room)
+written-is : (b : Board) (l : List ℕ) (room : ℕ) → AllCounted (runOf b l room)
 unfolding runOf
 written-is b l room =
-    choose (λ (r : Run). Counted r) (sound b) {x = runOn 0 l room (nothingDone b 0) []}
+    choose (λ (r : Run). AllCounted r) (sound b) {x = runOn 0 l room (nothingDone b 0) []}
     {y = record { outcome = nothingDone b notSound; answers = [] }}
     (λ _. written-on 0 l room (nothingDone b 0) [] refl) (λ _. refl)
 
 module _ (list : List ℕ) (board : Board) (before after : List ℕ) (o : Outcome) (room : ℕ) (fresh : board ≡ freshBoard)
-    (ran : o ≡ runOf board list room .outcome) (wrote : after ≡ overAnswers (runOf board list room .answers) before)
+    (ran : o ≡ runOf board list room .outcome) (wrote : after ≡ over (runOf board list room .answers) before)
   where
     counted : o .written ≡ length (runOf board list room .answers)
     counted = ap (λ (q : Outcome). q .written) ran ∙ written-is board list room
 
     -- they lie within the buffer
     pub written-fits : o .written ≤ length after
-    unfolding overAnswers
+    unfolding over
     written-fits =
         let a = runOf board list room .answers in
         omega (arith, counted, ap length wrote, length-append a (drop (length a) before))
@@ -81,7 +81,7 @@ module _ (list : List ℕ) (board : Board) (before after : List ℕ) (o : Outcom
     -- they are listed
     pub listed-is :
         listingOf (take (o .written) after) (o .calls) (o .refusal) (o .used) ≡ listed (runOf freshBoard list room)
-    unfolding listed overAnswers
+    unfolding listed over
     listed-is =
         let a = runOf board list room .answers in
         let front : take (o .written) after ≡ a = rw (counted, wrote) (take-append-seam a (drop (length a) before)) in

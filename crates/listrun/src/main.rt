@@ -7,7 +7,7 @@ ghost use lib.ListN.{length, take};
 ghost use Rattle.io.specs.Counts.{Counts};
 ghost use Rattle.board.specs.Fields.{freshBoard};
 ghost use Rattle.list.specs.Run.{runOf};
-ghost use Rattle.listing.specs.Listing.{over};
+ghost use Rattle.listing.specs.Listing.{withText};
 ghost use Rattle.listrun.specs.Printed.{listed, printedOf};
 use board::Board;
 
@@ -19,7 +19,7 @@ const LIST_LIMIT: usize = 32768;
 fn run_list(list: &[u8], answers: &mut [u8], text: &mut [u8]) -> usize
     ensures { λ r. ⌜ r ≡ length (listed (runOf freshBoard (now (list .entry)) (length (now (answers .entry))))) ⌝ }
     ensures { λ r. ⌜ now (text .exit)
-        ≡ over (listed (runOf freshBoard (now (list .entry)) (length (now (answers .entry))))) (now (text .entry)) ⌝ }
+        ≡ withText (listed (runOf freshBoard (now (list .entry)) (length (now (answers .entry))))) (now (text .entry)) ⌝ }
     ensures { λ r. ⌜ r ≤ 2 * length (now (answers .entry)) + 67 ⌝ }
 {
     let r = list::run(Board::fresh(), list, answers);

@@ -1,6 +1,9 @@
 // The C interface of the proved board: functions on numbers and byte slices, for programs in other languages to link.
 // A byte slice is a pointer and a length; a number that is lent is written before the call returns.
 ghost use mathlib.Core.Path.{_≡_};
+ghost use Prim.Native.Nat.{_+_, _*_, _≤_};
+ghost use lib.ListN.{length};
+ghost use Rattle.listing.specs.Listing.{listingOf, withText};
 ghost use Rattle.pec.specs.Repeats.{started, ran, repeats};
 use board::Board;
 use list::Outcome;
@@ -77,4 +80,22 @@ pub extern "C" fn pec_run_repeated(
     *used = r.used;
     *written = r.written;
     r.refusal
+}
+
+// Writes the listing of a run's answers and of its end, which `listrun` prints, at the start of a lent buffer: as much of
+// it as fits. Its result is the listing's length, at most twice that of the answers and 67.
+#[no_mangle]
+pub extern "C" fn pec_listing(
+    answers: &[u8],
+    calls: usize,
+    refusal: u8,
+    used: usize,
+    text: &mut [u8],
+) -> usize
+    ensures { λ r. ⌜ r ≡ length (listingOf (now (answers .entry)) calls refusal used) ⌝ }
+    ensures { λ r. ⌜ now (text .exit)
+        ≡ withText (listingOf (now (answers .entry)) calls refusal used) (now (text .entry)) ⌝ }
+    ensures { λ r. ⌜ r ≤ 2 * length (now (answers .entry)) + 67 ⌝ }
+{
+    listing::listing(answers, calls, refusal, used, text)
 }

@@ -25,6 +25,12 @@ uint8_t pec_run_repeated(const uint8_t *first, size_t first_length, const uint8_
                          uint64_t times, uint8_t *answers, size_t answers_length, size_t *calls, size_t *used,
                          size_t *written);
 
+/* Writes the listing of a run at the start of `text`, as much of it as fits: a line for each answer, its tag and value in
+   hexadecimal, and a last line with calls done, refusal and list bytes used in decimal. The result is the listing's
+   length, at most twice `answers_length` and 67; no zero byte follows it. */
+size_t pec_listing(const uint8_t *answers, size_t answers_length, size_t calls, uint8_t refusal, size_t used,
+                   uint8_t *text, size_t text_length);
+
 /* The interrupt controller's operations on its three words in one number: pending from bit 32 on, enable from bit 16 on,
    levels from bit 0 on. Those that alter it give the number after. */
 uint64_t pec_irqc_new(void);

@@ -49,6 +49,15 @@ unsafe extern "C" {
         used: *mut usize,
         written: *mut usize,
     ) -> u8;
+    fn pec_listing(
+        answers: *const u8,
+        answers_length: usize,
+        calls: usize,
+        refusal: u8,
+        used: usize,
+        text: *mut u8,
+        text_length: usize,
+    ) -> usize;
 }
 
 /// The outcome of a call of the library that writes calls, list bytes and answer bytes and gives the refusal's number,
@@ -94,6 +103,37 @@ pub fn run_repeated(first: &[u8], list: &[u8], times: u64, answers: &mut [u8]) -
             written,
         )
     })
+}
+
+/// The listing of a run, as `listrun` prints it: a line for each answer, its tag and value in hexadecimal, and a last
+/// line with the calls done, the refusal's number and the list bytes used, in decimal. `answers` is what the run wrote:
+/// the buffer up to the outcome's `answer_bytes`. Bytes at its end that are no whole answer are not listed.
+///
+/// ```
+/// let list = pec::list_of(&[pec::Call::Advance { cycles: 1 }, pec::Call::Source { number: 3, level: 0 }]);
+/// let mut buffer = [0; 64];
+/// let outcome = pec::run(&list, &mut buffer);
+/// assert_eq!(pec::listing(&buffer[..outcome.answer_bytes], &outcome), "04 00\nend 1 9 11\n");
+/// ```
+pub fn listing(answers: &[u8], outcome: &Outcome) -> String {
+    // By the library's contract a listing is no longer.
+    let mut text = vec![0; 2 * answers.len() + 67];
+    let (calls, used) = (outcome.calls, outcome.list_bytes);
+    let refusal = outcome.refusal_number();
+    // SAFETY: as in `run`; the answers are only read.
+    let length = unsafe {
+        pec_listing(
+            answers.as_ptr(),
+            answers.len(),
+            calls,
+            refusal,
+            used,
+            text.as_mut_ptr(),
+            text.len(),
+        )
+    };
+    text.truncate(length);
+    String::from_utf8(text).expect("a listing is ASCII")
 }
 
 // The example of README.md, compiled and run with the tests of the documentation.

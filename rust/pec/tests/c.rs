@@ -55,7 +55,7 @@ fn printed(name: &str, (compiler, language): (&str, [&str; 3]), input: &[u8]) ->
 
 #[test]
 fn a_program_links_the_archive_from_c_and_from_cpp() {
-    let run = "02000101040001000a00020000 3 2 19\n";
+    let run = "02 01\n04 00\n0a 0000\nend 3 2 19\n31 02 01\n";
     for language in [C, CPP] {
         assert_eq!(printed("listing", language, &[]), format!("{run}{run}109 105\n"));
     }

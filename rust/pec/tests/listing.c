@@ -1,24 +1,31 @@
-/* Runs document 01's worked list, twice by way of the repeated run, and setting H on the controller. The text is C and
-   C++: the test compiles it as both. */
+/* Runs document 01's worked list, twice by way of the repeated run, and prints its listing; then setting H on the
+   controller. The text is C and C++: the test compiles it as both. */
 #include "pec.h"
 
 #include <stdio.h>
 
 static const uint8_t LIST[] = {2, 0, 2, 0, 0x83, 4, 0, 8, 0, 0, 0, 0, 0, 0, 0, 1, 0x0A, 0, 0, 0xFF};
 
-static void show(const uint8_t *answers, size_t written, size_t calls, unsigned refusal, size_t used)
+static void show(const uint8_t *answers, size_t written, size_t calls, uint8_t refusal, size_t used)
 {
-    for (size_t at = 0; at < written; at++) {
-        printf("%02x", answers[at]);
+    uint8_t text[256], first[5];
+    size_t length = pec_listing(answers, written, calls, refusal, used, text, sizeof text);
+    if (length > sizeof text) {
+        printf("the listing has %zu bytes\n", length);
+        return;
     }
-    printf(" %zu %u %zu\n", calls, refusal, used);
+    fwrite(text, 1, length, stdout);
+    /* a buffer that is too short gets the listing's beginning */
+    printf("%zu ", pec_listing(answers, written, calls, refusal, used, first, sizeof first));
+    fwrite(first, 1, sizeof first, stdout);
+    printf("\n");
 }
 
 int main(void)
 {
     uint8_t answers[64];
     size_t calls, used, written;
-    unsigned refusal = pec_run(LIST, sizeof LIST, answers, sizeof answers, &calls, &used, &written);
+    uint8_t refusal = pec_run(LIST, sizeof LIST, answers, sizeof answers, &calls, &used, &written);
     show(answers, written, calls, refusal, used);
     refusal = pec_run_repeated(LIST, sizeof LIST, LIST, sizeof LIST, 1, answers, sizeof answers, &calls, &used, &written);
     show(answers, written, calls, refusal, used);

@@ -2,7 +2,7 @@
 use Prim.Native.Nat.{ℕ}
 use mathlib.Core.List.{List, _++_}
 use Rattle.listing.specs.Listing.{ascii, hexText, valueText, answerLine}
-use Rattle.listing.specs.Puts.{Counted}
+use Rattle.listing.specs.CodePuts.{Counted}
 use Rattle.listing.proofs.Puts.{counted-first, counted-second, put-then}
 use borrow.Author.Needs.{needs}
 use Rattle.listing.proofs.put_line.Statement.{statement}

@@ -2,7 +2,7 @@
 use native.Mathlib.Omega.{arith}
 use mathlib.Core.Path.{sym}
 use lib.Seq.{length-take-le}
-use Rattle.listrun.proofs.Texts.{over-is, written-fits, listed-is}
+use Rattle.listrun.proofs.Texts.{with-text-is, written-fits, listed-is}
 use borrow.Author.Needs.{needs}
 use Rattle.listrun.proofs.run_list.Statement.{statement}
 use Rattle.listrun.proofs.run_list.Tie as tie
@@ -42,7 +42,7 @@ returns c =
     let start = ran .before .before .before .before .before .before in
     let f = ran .before .before .fresh .ensures in
     let w = written-fits _ _ _ _ _ _ f (ran .run .ensures .0) (ran .run .ensures .1) in
-    let p = over-is _ _ (start .args .text .now) _ _
+    let p = with-text-is _ _ (start .args .text .now) _ _
     (listed-is _ _ _ _ _ _ f (ran .run .ensures .0) (ran .run .ensures .1)) (made .listing .ensures .0)
     (made .listing .ensures .1 .0) in
     let n = length-take-le (ran .run .result .written) (ran .run .last .1 .1 .0) w in
