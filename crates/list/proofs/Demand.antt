@@ -3,11 +3,12 @@ use Prim.Native.Nat.{ℕ, zero, suc, _+_, _-_, _<_}
 use native.Mathlib.Nat.{add-zero, zero-add}
 use native.Mathlib.Omega.{arith}
 use mathlib.Core.Path.{_≡_, refl, sym, ap, _∙_, subst}
-use mathlib.Core.Bool.{Bool, true, false}
+use mathlib.Core.Bool.{Bool, true, false, false≢true}
 use mathlib.Core.List.{List, [], _∷_, _++_, append-assoc}
 use lib.ListN.{length, take, drop, getD, length-append}
-use lib.Seq.{drop-append-le}
+use lib.Seq.{take-all, drop-append-le}
 use lib.Dec.{eqb}
+use borrow.Author.Tests.{eq-eqb}
 use Rattle.wide.specs.Bits.{flagOf}
 use Rattle.wide.specs.Fields.{beAt, be}
 use Rattle.wide.proofs.Choices.{choose}
@@ -46,7 +47,7 @@ use Rattle.perform.specs.Calls.{callOf, callAt, refusalAt}
 use Rattle.list.specs.Run.{Turn, done, refused, turnOf, stepped, Run, runOn, nothingDone, runOf}
 use Rattle.list.specs.Demand.{FrontIs, ListIs}
 use Rattle.format.proofs.Frames.{framed}
-use Rattle.list.proofs.Turns.{done-placed, done-fits}
+use Rattle.list.proofs.Turns.{refused-numbered, done-placed, done-fits}
 use Rattle.list.proofs.Runs.{go-on, stop-at}
 use Rattle.list.proofs.TwoParts.{turn-before, joined, run-keeps, two-parts}
 
@@ -129,28 +130,29 @@ line-answered l b room c f b′ n x e =
 
 -- ---- the run
 
--- it has carried out some of the calls, from the first on
+-- it has carried out some of the calls, from the first on, and all of them where it is not refused
 record Carried (calls : List DemandCall) (s : Outcome) (r : Run) : Type 0 where
   count : ℕ
   counted : r .outcome .calls ≡ s .calls + count
   board : r .outcome .board ≡ afterAll (take count calls) (s .board)
+  all : r .outcome .refusal ≡ 0 → count ≡ length calls
 
 -- none of them
 none-carried : (calls : List DemandCall) (s : Outcome) (r : Run) → r .outcome .calls ≡ s .calls →
-    r .outcome .board ≡ s .board → Carried calls s r
+    r .outcome .board ≡ s .board → (r .outcome .refusal ≡ 0 → 0 ≡ length calls) → Carried calls s r
 unfolding afterAll
-none-carried calls s r n e = record { count = 0; counted = n ∙ sym (add-zero (s .calls)); board = e }
+none-carried calls s r n e h = record { count = 0; counted = n ∙ sym (add-zero (s .calls)); board = e; all = h }
 
-none-at-end : (calls : List DemandCall) (room : ℕ) (s : Outcome) (out : List ℕ) →
-    Carried calls s (runOn 0 [] room s out)
+none-at-end : (room : ℕ) (s : Outcome) (out : List ℕ) → Carried [] s (runOn 0 [] room s out)
 unfolding runOn
-none-at-end calls room s out = none-carried calls s (record { outcome = s; answers = out }) refl refl
+none-at-end room s out = none-carried [] s (record { outcome = s; answers = out }) refl refl (λ _. refl)
 
-none-refused : (calls : List DemandCall) (s : Outcome) (n : ℕ) (out : List ℕ) →
+none-refused : (calls : List DemandCall) (s : Outcome) (n : ℕ) (out : List ℕ) → eqb n 0 ≡ false →
     Carried calls s (record { outcome = stepped s (refused n); answers = out })
 unfolding stepped
-none-refused calls s n out =
+none-refused calls s n out h =
     none-carried calls s (record { outcome = stepped s (refused n); answers = out }) refl refl
+    (λ z. absurd (false≢true (sym h ∙ eq-eqb n 0 z)))
 
 -- one call more, ahead of those
 one-more : (a : DemandCall) (calls : List DemandCall) (s : Outcome) (b : Board) (n : ℕ) (x : List ℕ) (r : Run) →
@@ -160,6 +162,7 @@ one-more a calls s b n x r e c = record {
   count = suc (c .count);
   counted = omega (arith, c .counted);
   board = c .board ∙ ap (λ (y : Board). afterAll (take (c .count) calls) y) e;
+  all = λ z. ap suc (c .all z);
 }
 
 done-good : (a : DemandCall) (s : Outcome) (b : Board) (n : ℕ) (x : List ℕ) → Good (s .board) →
@@ -170,7 +173,7 @@ done-good a s b n x g e = subst Good (sym e) (call-step a (s .board) g .good)
 carried : (calls : List DemandCall) (l : List ℕ) (room : ℕ) (s : Outcome) (out : List ℕ) → Good (s .board) →
     ListIs l calls → Carried calls s (runOn 0 l room s out)
 unfolding ListIs
-carried [] l room s out g e = rw e (none-at-end [] room s out)
+carried [] l room s out g e = rw e (none-at-end room s out)
 carried (a ∷ calls) l room s out g h =
     onward (λ n o x q i. carried calls (drop n l) room o x q i) (turnOf (s .board) l (room - length out)) refl
   where
@@ -182,7 +185,8 @@ carried (a ∷ calls) l room s out g h =
         Carried calls o (runOn 0 (drop n l) room o x)) →
         (t : Turn) → turnOf (s .board) l (room - length out) ≡ t → Carried (a ∷ calls) s (runOn 0 l room s out)
     onward next (refused n) e =
-        subst (Carried (a ∷ calls) s) (sym (stop-at l room s out inside n e)) (none-refused (a ∷ calls) s n out)
+        subst (Carried (a ∷ calls) s) (sym (stop-at l room s out inside n e))
+        (none-refused (a ∷ calls) s n out (refused-numbered (s .board) l (room - length out) n e))
     onward next (done b n x) e =
         let q = done-after l (s .board) (room - length out) a (facts-sound (s .board) (g .facts)) (h .0) b n x e in
         subst (Carried (a ∷ calls) s) (sym (go-on l room s out inside b n x e))
@@ -198,6 +202,14 @@ unfolding runOf
 run-after b l room calls f s h =
     let c = carried calls l room (nothingDone b 0) [] (good b f s) h in
     rw s (c .board ∙ ap (λ (n : ℕ). afterAll (take n calls) b) (sym (c .counted ∙ zero-add (c .count))))
+
+-- a run that is not refused has carried out all of them
+run-all : (b : Board) (l : List ℕ) (room : ℕ) (calls : List DemandCall) → BoardFits b → sound b ≡ true →
+    ListIs l calls → runOf b l room .outcome .refusal ≡ 0 → runOf b l room .outcome .calls ≡ length calls
+unfolding runOf
+run-all b l room calls f s h z =
+    let c = carried calls l room (nothingDone b 0) [] (good b f s) h in
+    rw s (c .counted ∙ zero-add (c .count) ∙ c .all (rw s at z))
 
 -- ---- bytes behind the calls
 
@@ -277,7 +289,9 @@ module _ (b : Board) (first stretch last : List ℕ) (room : ℕ) (calls : List 
   pub record Stretch : Type 0 where
     -- the board at its end is the board after these calls
     pub board : Through .outcome .board ≡ afterAll CarriedOut AtStart
-    -- and what is promised of the deadline of the board at its start holds of them
+    -- all of them, where the run is not refused there
+    pub all : Through .outcome .refusal ≡ 0 → CarriedOut ≡ calls
+    -- what is promised of the deadline of the board at its start holds of them
     pub promise : PromiseAfter (isPresent (exactDeadline AtStart)) (orZero (exactDeadline AtStart))
         (orZero (wordDeadline (exactDeadline AtStart))) AtStart CarriedOut
     -- the whole run does the same up to there, and goes on from there over what stands behind the stretch
@@ -291,20 +305,24 @@ module _ (b : Board) (first stretch last : List ℕ) (room : ℕ) (calls : List 
   Alone = runOf AtStart stretch (room - length (Before .answers))
 
   -- by parts: the run through the stretch is the run up to it, and then the stretch by itself
-  by-parts : Through ≡ joined Before Alone → Good AtStart → ListIs stretch calls → line AtStart ≡ false →
-      fromHost (AtStart .clock .control) ≡ false →
-      (Through .outcome .board ≡ afterAll CarriedOut AtStart)
-      × PromiseAfter (isPresent (exactDeadline AtStart)) (orZero (exactDeadline AtStart))
-      (orZero (wordDeadline (exactDeadline AtStart))) AtStart CarriedOut
-  by-parts e g h low o =
-      let s = facts-sound AtStart (g .facts) in
-      let n : Alone .outcome .calls ≡ Through .outcome .calls - Before .outcome .calls =
-      omega (arith, ap (λ (q : Run). q .outcome .calls) e) in (
+  module _ (e : Through ≡ joined Before Alone) (g : Good AtStart) (h : ListIs stretch calls) where
+    starts-sound : sound AtStart ≡ true
+    starts-sound = facts-sound AtStart (g .facts)
+
+    counts : Alone .outcome .calls ≡ Through .outcome .calls - Before .outcome .calls
+    counts = omega (arith, ap (λ (q : Run). q .outcome .calls) e)
+
+    ends-at : Through .outcome .board ≡ afterAll CarriedOut AtStart
+    ends-at =
         ap (λ (q : Run). q .outcome .board) e
-            ∙ run-after AtStart stretch (room - length (Before .answers)) calls (g .fits) s h
-            ∙ ap (λ (k : ℕ). afterAll (take k calls) AtStart) n,
-        demand-3 AtStart (g .fits) s low o CarriedOut,
-      )
+        ∙ run-after AtStart stretch (room - length (Before .answers)) calls (g .fits) starts-sound h
+        ∙ ap (λ (k : ℕ). afterAll (take k calls) AtStart) counts
+
+    carries-all : Through .outcome .refusal ≡ 0 → CarriedOut ≡ calls
+    carries-all z =
+        let n = run-all AtStart stretch (room - length (Before .answers)) calls (g .fits) starts-sound h
+        (sym (ap (λ (q : Run). q .outcome .refusal) e) ∙ z) in
+        take-all (Through .outcome .calls - Before .outcome .calls) calls (omega (arith, counts, n))
 
   -- what is promised of the deadline holds of every stretch of calls 01 and 04 of a run, whatever stands before it and
   -- behind it
@@ -314,10 +332,10 @@ module _ (b : Board) (first stretch last : List ℕ) (room : ℕ) (calls : List 
       let few = bytes-before first stretch bytes in
       let g = run-keeps b first room f few z in
       let e = two-parts b first stretch room f few z in
-      let p = by-parts e g h low o in
       record {
-        board = p .0;
-        promise = p .1;
+        board = ends-at e g h;
+        all = carries-all e g h;
+        promise = demand-3 AtStart (g .fits) (starts-sound e g h) low o CarriedOut;
         goes-on = two-parts b (first ++ stretch) last room f bytes;
         ends = λ r.
             ap (λ (l : List ℕ). runOf b l room) (append-assoc first stretch last)

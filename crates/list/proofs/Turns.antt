@@ -40,18 +40,23 @@ module _ (b : Board) (l : List ℕ) (room : ℕ) where
 
   -- a call that is done is a call of the list that is not refused, and its answer has room; a call that is refused has
   -- a number
-  unfoldable pub Placed : Turn → Type 0
+  unfoldable Placed : Turn → Type 0
   Placed (done b′ n a) =
       Clear b l room × ((n ≡ 3 + valueLength (tagAt l)) × ((length a ≤ room) × (b′ ≡ boardAfter (callAt l b))))
   Placed (refused n) = eqb n 0 ≡ false
 
-  pub turn-placed : Placed (turnOf b l room)
+  turn-placed : Placed (turnOf b l room)
   unfolding turnOf Placed
   turn-placed =
       choose Placed (eqb (refusalAt b l room) 0)
       (λ e. let k = clear b l room (eqb-true _ 0 e) in
       (k, (refl, (omega (arith, record-size, k .fits), refl))))
       (λ e. e)
+
+-- a call that is refused has a number
+pub refused-numbered : (b : Board) (l : List ℕ) (room n : ℕ) → turnOf b l room ≡ refused n → eqb n 0 ≡ false
+unfolding Placed
+refused-numbered b l room n e = subst (Placed b l room) e (turn-placed b l room)
 
 -- a call that is done
 pub done-placed : (b : Board) (l : List ℕ) (room : ℕ) (b′ : Board) (n : ℕ) (a : List ℕ) →

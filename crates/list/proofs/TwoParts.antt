@@ -18,7 +18,7 @@ use Rattle.format.specs.Format.{frameRefusal}
 use Rattle.list.specs.Run.{Turn, done, refused, turnOf, stepped, Run, runOn, nothingDone, runOf, over}
 use Rattle.perform.specs.Calls.{refusalAt}
 use Rattle.format.proofs.Frames.{tag-before, frame-before, arguments-before}
-use Rattle.list.proofs.Turns.{Placed, turn-placed, done-placed, done-fits, step-good}
+use Rattle.list.proofs.Turns.{refused-numbered, done-placed, done-fits, step-good}
 use Rattle.list.proofs.Runs.{next-done, next-refused}
 
 -- ---- bytes behind a call have no part in it
@@ -35,7 +35,7 @@ module _ (m : List ℕ) (room : ℕ) where
       runOn k l room s out .outcome .refusal ≡ 0 →
       runOn k (l ++ m) room s out
       ≡ runOn 0 m room (runOn k l room s out .outcome) (runOn k l room s out .answers)
-  unfolding runOn stepped Placed
+  unfolding runOn stepped
   first-part zero [] s out h z = refl
   first-part (suc k) [] s out h z = absurd (omega arith)
   first-part (suc k) (x ∷ l) s out h z = first-part k l s out (omega arith) z
@@ -49,10 +49,9 @@ module _ (m : List ℕ) (room : ℕ) where
           runOn 0 ((x ∷ l) ++ m) room s out
           ≡ runOn 0 m room (runOn 0 (x ∷ l) room s out .outcome) (runOn 0 (x ∷ l) room s out .answers)
       onward next (refused n) e =
-          let p : Placed (s .board) (x ∷ l) (room - length out) (refused n) =
-          rw e at (turn-placed (s .board) (x ∷ l) (room - length out)) in
+          let p = refused-numbered (s .board) (x ∷ l) (room - length out) n e in
           let r : n ≡ 0 = sym (ap (λ (q : Run). q .outcome .refusal) (next-refused x l room s out n e)) ∙ z in
-          absurd (false≢true (sym p ∙ eq-eqb _ _ r))
+          absurd (false≢true (sym p ∙ eq-eqb n 0 r))
       onward next (done b n a) e =
           let p = done-placed (s .board) (x ∷ l) (room - length out) b n a e in
           let f = done-fits (s .board) (x ∷ l) (room - length out) b n a e in
