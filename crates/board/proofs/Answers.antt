@@ -6,15 +6,14 @@ use mathlib.Core.Bool.{Bool, true, false, cond, false≢true}
 use mathlib.Core.Option.{Option, none, some}
 use mathlib.Core.List.{[]}
 use lib.Dec.{eqb}
-use borrow.Author.Tests.{eqb-true}
 use Rattle.wide.specs.declared.number.Wide.{Wide}
 use Rattle.wide.specs.Number.{valueOf, wideOf, largest}
-use Rattle.wide.proofs.Forms.{wide-value, value-wide, flag-back}
+use Rattle.wide.proofs.Forms.{wide-value, flag-back}
 use Rattle.board.specs.declared.Board.{Board}
 use Rattle.board.specs.declared.calls.DeadlineAnswer.{DeadlineAnswer}
 use Rattle.board.specs.declared.calls.DeadlineMembers.{DeadlineMembers}
 use Rattle.board.specs.declared.calls.Passing.{Passing}
-use Rattle.board.specs.Board.{BoardFits, line, exactDeadline, wordDeadline, wired, sound}
+use Rattle.board.specs.Board.{BoardFits, line, exactDeadline, sound}
 use Rattle.board.specs.Calls.{
   Call,
   refusalOf,
@@ -26,11 +25,8 @@ use Rattle.board.specs.Calls.{
   movedBoard,
   advancedBoard,
   advanceCall,
-  isPresent,
-  orZero,
   deadlineCall,
   skipLength,
-  movedBy,
   skipCall,
 }
 use Rattle.board.specs.CodeCalls.{deadlineGiven, passingOf}

@@ -1,7 +1,6 @@
 -- Not document 01's sentences but what the code computes of them: optional numbers as the structs that hold them.
 use Prim.Native.Nat.{ℕ}
-use mathlib.Core.Bool.{true, false}
-use mathlib.Core.Option.{Option, none, some}
+use mathlib.Core.Option.{Option, none}
 use Rattle.wide.specs.Number.{wideOf}
 use Rattle.board.specs.declared.calls.DeadlineMembers.{DeadlineMembers}
 use Rattle.board.specs.declared.calls.Passing.{Passing}

@@ -1,17 +1,16 @@
 -- What the code computes of a call is the call. Assumes nothing.
-use Prim.Native.Nat.{ℕ, _<_}
+use Prim.Native.Nat.{ℕ}
 use native.Mathlib.Omega.{arith}
 use mathlib.Core.Path.{_≡_, refl, sym, ap, _∙_}
 use mathlib.Core.Bool.{Bool, true, false, true≢false}
 use mathlib.Core.Option.{Option, none, some}
-use mathlib.Core.List.{List, [], _∷_}
+use mathlib.Core.List.{List}
 use mathlib.Core.Logic.{_⊎_, inl, inr}
 use lib.Dec.{eqb}
-use Rattle.wide.specs.Bits.{flagOf}
 use Rattle.wide.proofs.Choices.{choose}
 use Rattle.board.specs.declared.Board.{Board}
 use Rattle.board.specs.declared.calls.Passing.{Passing}
-use Rattle.board.specs.Board.{line, sound}
+use Rattle.board.specs.Board.{line}
 use Rattle.board.specs.Calls.{Call, isPresent, orZero, movedBoard, movedBy, skipLength, deadlineCall}
 use Rattle.board.specs.CodeCalls.{passingOf}
 use Rattle.board.proofs.Answers.{passing-some, passing-none}

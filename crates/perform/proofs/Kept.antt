@@ -5,7 +5,6 @@ use mathlib.Core.List.{List}
 use lib.Dec.{eqb}
 use borrow.Author.Tests.{eqb-true}
 use Rattle.wide.proofs.Choices.{choose}
-use Rattle.board.specs.declared.Board.{Board}
 use Rattle.board.specs.Calls.{Call, boardAfter}
 use Rattle.board.proofs.Steps.{Good}
 use Rattle.board.proofs.Kept.{

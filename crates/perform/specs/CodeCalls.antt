@@ -13,7 +13,7 @@ use Rattle.clock.specs.Fields.{withHost}
 use Rattle.controller.specs.declared.IrqController.{IrqController}
 use Rattle.board.specs.declared.Board.{Board}
 use Rattle.board.specs.Fields.{withClock, withController}
-use Rattle.board.specs.Calls.{Call, skipLength}
+use Rattle.board.specs.Calls.{skipLength}
 use Rattle.format.specs.Format.{headerLength, valueLength, answerLength, tagAt, answerBytes, valueBytes}
 use Rattle.perform.specs.declared.Effect.{Effect}
 use Rattle.perform.specs.declared.Front.{Front}

@@ -1,5 +1,4 @@
 -- `lengths_of` meets its contract: each row is the table's, and a tag without one is unknown. Assumes nothing.
-use mathlib.Core.Path.{_∙_}
 use Rattle.format.proofs.Frames.{unknown-is}
 use borrow.Author.Needs.{needs}
 use Rattle.format.proofs.lengths_of.Statement.{statement}

@@ -1,8 +1,7 @@
 -- `Board::deadline` meets its contract. Assumes nothing.
 use native.Mathlib.Omega.{arith}
-use mathlib.Core.Path.{sym, ap, _∙_}
+use mathlib.Core.Path.{sym, _∙_}
 use borrow.Author.Tests.{ne-eqb}
-use Rattle.board.specs.Calls.{deadlineAnswer, deadlineCall}
 use Rattle.board.proofs.Answers.{accepted-sound, deadline-refuses, deadline-answers, answer-promises}
 use Rattle.wide.proofs.Forms.{value-wide}
 use borrow.Author.Needs.{needs}
