@@ -11,8 +11,13 @@ ghost use Rattle.listing.specs.Listing.{withText};
 ghost use Rattle.listrun.specs.Printed.{listed, printedOf};
 use board::Board;
 
-// The longest list.
+// The longest list, and the answer buffer.
 const LIST_LIMIT: usize = 32768;
+
+const ANSWER_ROOM: usize = 32768;
+
+// The longest listing: twice the answers and 67 bytes.
+const TEXT_ROOM: usize = 2 * ANSWER_ROOM + 67;
 
 // Runs a list over a fresh board, and writes the listing at the start of a buffer, as much of it as fits. Gives the
 // listing's length.
@@ -29,7 +34,7 @@ fn run_list(list: &[u8], answers: &mut [u8], text: &mut [u8]) -> usize
 
 // Writes what is printed of a list at the start of a buffer and gives its length. A listing has at most two characters
 // for each answer byte, and 67: the buffer has room for all of it.
-fn print_list(list: &[u8], answers: &mut [u8; 32768], text: &mut [u8; 65603]) -> usize
+fn print_list(list: &[u8], answers: &mut [u8; ANSWER_ROOM], text: &mut [u8; TEXT_ROOM]) -> usize
     ensures { λ r. ⌜ Counts r (now (text .exit)) ⌝ }
     ensures { λ r. ⌜ take r (now (text .exit)) ≡ printedOf (now (list .entry)) ⌝ }
 {
@@ -40,15 +45,16 @@ fn print_list(list: &[u8], answers: &mut [u8; 32768], text: &mut [u8; 65603]) ->
 }
 
 fn main() {
-    let mut list = [0u8; 32769];
+    // one byte more than the longest, to see that a list is longer
+    let mut list = [0u8; LIST_LIMIT + 1];
     let r = input::read_all(0, &mut list);
     if r.failed {
         os::fail(b"listrun: standard input");
         return;
     }
     let n = r.count;
-    let mut answers = [0u8; 32768];
-    let mut text = [0u8; 65603];
+    let mut answers = [0u8; ANSWER_ROOM];
+    let mut text = [0u8; TEXT_ROOM];
     let length = print_list(&list[..n], &mut answers, &mut text);
     if !io::write_all(1, &text[..length]) {
         os::fail(b"listrun: standard output");
