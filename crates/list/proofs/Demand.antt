@@ -11,7 +11,6 @@ use lib.Dec.{eqb}
 use borrow.Author.Tests.{eq-eqb}
 use Rattle.wide.specs.Bits.{flagOf}
 use Rattle.wide.specs.Fields.{beAt, be}
-use Rattle.wide.proofs.Choices.{choose}
 use Rattle.clock.specs.Clock.{fromHost}
 use Rattle.board.specs.declared.Board.{Board}
 use Rattle.board.specs.Board.{BoardFits, line, exactDeadline, wordDeadline, sound}
@@ -43,11 +42,11 @@ use Rattle.format.specs.Format.{
   answerBytes,
   recordOf,
 }
-use Rattle.perform.specs.Calls.{callOf, callAt, refusalAt}
+use Rattle.perform.specs.Calls.{callOf, callAt}
 use Rattle.list.specs.Run.{Turn, done, refused, turnOf, stepped, Run, runOn, nothingDone, runOf}
 use Rattle.list.specs.Demand.{FrontIs, ListIs}
 use Rattle.format.proofs.Frames.{framed}
-use Rattle.list.proofs.Turns.{refused-numbered, done-placed, done-fits}
+use Rattle.list.proofs.Turns.{refused-numbered, done-placed, done-fits, done-answer}
 use Rattle.list.proofs.Runs.{go-on, stop-at}
 use Rattle.list.proofs.TwoParts.{turn-before, joined, run-keeps, two-parts}
 
@@ -100,16 +99,7 @@ module _ (l : List ℕ) (b : Board) (room : ℕ) where
   done-length : (b′ : Board) (n : ℕ) (x : List ℕ) → turnOf b l room ≡ done b′ n x → n ≡ 3 + valueLength (tagAt l)
   done-length b′ n x e = done-placed b l room b′ n x e .1 .0
 
--- it answers the record of its tag and members
-module _ (l : List ℕ) (b : Board) (room : ℕ) where
-  abbrev Answered : Turn → Type 0
-  Answered (done b′ n x) = x ≡ recordOf (tagAt l) (answerBytes (tagAt l) (callAt l b .members))
-  Answered (refused n) = n ≡ n
-
-  turn-answered : Answered (turnOf b l room)
-  unfolding turnOf
-  turn-answered = choose Answered (eqb (refusalAt b l room) 0) (λ _. refl) (λ _. refl)
-
+-- the answer of an advance
 advance-record : (tag : ℕ) (ms : List ℕ) (v : Bool) → tag ≡ 4 → ms ≡ flagOf v ∷ [] →
     recordOf tag (answerBytes tag ms) ≡ 4 ∷ 0 ∷ 1 ∷ flagOf v ∷ []
 unfolding recordOf membersBytes be
@@ -124,7 +114,7 @@ line-answered l b room c f b′ n x e =
     let left = done-placed b l room b′ n x e .1 .1 .1 ∙ ap (λ (y : Call). boardAfter y) call in
     let moved : line b′ ≡ line (movedBoard (beAt l 3 8) b) =
     ap line left ∙ wired-line (movedBoard (beAt l 3 8) b) in
-    subst (Answered l b room) e (turn-answered l b room)
+    done-answer b l room b′ n x e
     ∙ advance-record (tagAt l) (callAt l b .members) (line b′) (f .1 .0)
     (ap (λ (y : Call). y .members) call ∙ ap (λ (v : Bool). flagOf v ∷ []) (sym moved))
 

@@ -1,4 +1,4 @@
-mod Turns
+pub mod Turns
 mod Runs
 mod Advances
 mod Accepted

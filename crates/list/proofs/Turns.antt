@@ -72,6 +72,20 @@ done-fits b l room b′ n a e =
     let p = done-placed b l room b′ n a e in
     (omega (arith, p .1 .0), (omega (arith, p .1 .0, framed l (p .0 .frame) .0), p .1 .1 .0))
 
+-- it answers the record of its tag and members
+module _ (b : Board) (l : List ℕ) (room : ℕ) where
+  abbrev Answered : Turn → Type 0
+  Answered (done b′ n a) = a ≡ recordOf (tagAt l) (answerBytes (tagAt l) (callAt l b .members))
+  Answered (refused n) = n ≡ n
+
+  turn-answered : Answered (turnOf b l room)
+  unfolding turnOf
+  turn-answered = choose Answered (eqb (refusalAt b l room) 0) (λ _. refl) (λ _. refl)
+
+  pub done-answer : (b′ : Board) (n : ℕ) (a : List ℕ) → turnOf b l room ≡ done b′ n a →
+      a ≡ recordOf (tagAt l) (answerBytes (tagAt l) (callAt l b .members))
+  done-answer b′ n a e = subst Answered e turn-answered
+
 -- ---- the board stays sound
 
 module _ (l : List ℕ) (bytes : (i : ℕ) → getD l i 0 < 256) (b : Board) (g : Good b) where

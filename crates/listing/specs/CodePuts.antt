@@ -1,5 +1,5 @@
--- What the functions promise that put a text into a buffer from an index on, as much of it as fits, and give the index
--- behind it.
+-- Not document 01's sentences but what the code computes: the functions that put a text into a buffer from an index on,
+-- as much of it as fits, and give the index behind it.
 use Prim.Native.Nat.{ℕ, _+_, _^_, _<_}
 use mathlib.Core.Path.{_≡_}
 use mathlib.Core.List.{List}

@@ -129,13 +129,13 @@ fn put_end(text: &mut [u8], at: usize, calls: usize, refusal: u8, used: usize) -
     ensures { λ r. ⌜ Put (endLine calls refusal used) at (now (text .entry)) (now (text .exit)) r ⌝ }
     ensures { λ r. ⌜ r ≤ at + 67 ⌝ }
 {
-    let a = put_all(text, at, b"end ");
-    let b = put_decimal(text, a, calls as u64);
-    let c = put(text, b, b' ');
-    let d = put_decimal(text, c, refusal as u64);
-    let e = put(text, d, b' ');
-    let f = put_decimal(text, e, used as u64);
-    put(text, f, b'\n')
+    let calls_at = put_all(text, at, b"end ");
+    let calls_end = put_decimal(text, calls_at, calls as u64);
+    let refusal_at = put(text, calls_end, b' ');
+    let refusal_end = put_decimal(text, refusal_at, refusal as u64);
+    let used_at = put(text, refusal_end, b' ');
+    let used_end = put_decimal(text, used_at, used as u64);
+    put(text, used_end, b'\n')
 }
 
 // Writes words at the start of a buffer, as much of them as fits, and gives their length.

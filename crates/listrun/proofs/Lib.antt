@@ -1,2 +1,3 @@
+pub mod Carried
 mod Texts
 pub mod Example

@@ -1,21 +1,19 @@
 -- Laws of what is printed: a text in a buffer that has room for it, the answers that a run wrote, and the two cases of
 -- the rule. Assumes nothing.
-use Prim.Native.Nat.{ℕ, zero, suc, _+_, _-_, _≤_, _<_}
+use Prim.Native.Nat.{ℕ, _+_, _-_, _≤_, _<_}
 use native.Mathlib.Omega.{arith}
-use mathlib.Core.Path.{_≡_, refl, sym, ap, _∙_}
-use mathlib.Core.List.{List, [], _∷_, _++_}
+use mathlib.Core.Path.{_≡_, sym, ap, _∙_}
+use mathlib.Core.List.{List, _++_}
 use lib.ListN.{length, take, drop, length-append}
 use lib.Seq.{take-all, take-append-seam, length-take-le}
 use borrow.Author.Tests.{lt-ltb, le-ltb}
 use Rattle.io.specs.Counts.{Counts}
 use Rattle.board.specs.declared.Board.{Board}
-use Rattle.board.specs.Board.{sound}
-use Rattle.board.specs.Calls.{notSound}
 use Rattle.board.specs.Fields.{freshBoard}
 use Rattle.list.specs.declared.Outcome.{Outcome}
-use Rattle.list.specs.Run.{Turn, done, refused, turnOf, stepped, Run, runOn, nothingDone, runOf, over}
-use Rattle.wide.proofs.Choices.{choose}
+use Rattle.list.specs.Run.{runOf, over}
 use Rattle.listing.specs.Listing.{ascii, listingOf, withText}
+use Rattle.listrun.proofs.Carried.{written-is}
 use Rattle.listrun.specs.Printed.{listLimit, answerRoom, listed, printedOf}
 
 -- ---- a text in a buffer that has room for it
@@ -36,34 +34,6 @@ pub with-text-is : (t p old new : List ℕ) (r : ℕ) → t ≡ p → r ≡ leng
 with-text-is t p old new r q e f = (e ∙ ap length q, f ∙ ap (λ (l : List ℕ). withText l old) q)
 
 -- ---- the answers that a run wrote
-
--- the answer bytes that a run counts are those that it wrote
-abbrev AllCounted : Run → Type 0
-AllCounted r = r .outcome .written ≡ length (r .answers)
-
-next-counted : (x : ℕ) (l : List ℕ) (room : ℕ) (s : Outcome) (out : List ℕ) → s .written ≡ length out →
-    ((k : ℕ) (o : Outcome) (a : List ℕ) → o .written ≡ length a → AllCounted (runOn k l room o a)) →
-    (t : Turn) → turnOf (s .board) (x ∷ l) (room - length out) ≡ t → AllCounted (runOn 0 (x ∷ l) room s out)
-unfolding runOn stepped
-next-counted x l room s out h next (done b n a) e =
-    rw (e, runOn) (next (n - 1) (stepped s (done b n a)) (out ++ a) (omega (arith, length-append out a)))
-next-counted x l room s out h next (refused n) e = rw (e, runOn) h
-
-written-on : (k : ℕ) (l : List ℕ) (room : ℕ) (s : Outcome) (out : List ℕ) → s .written ≡ length out →
-    AllCounted (runOn k l room s out)
-unfolding runOn
-written-on k [] room s out h = h
-written-on (suc k) (x ∷ l) room s out h = written-on k l room s out h
-written-on zero (x ∷ l) room s out h =
-    next-counted x l room s out h (λ k o a. written-on k l room o a)
-    (turnOf (s .board) (x ∷ l) (room - length out)) refl
-
-written-is : (b : Board) (l : List ℕ) (room : ℕ) → AllCounted (runOf b l room)
-unfolding runOf
-written-is b l room =
-    choose (λ (r : Run). AllCounted r) (sound b) {x = runOn 0 l room (nothingDone b 0) []}
-    {y = record { outcome = nothingDone b notSound; answers = [] }}
-    (λ _. written-on 0 l room (nothingDone b 0) [] refl) (λ _. refl)
 
 module _ (list : List ℕ) (board : Board) (before after : List ℕ) (o : Outcome) (room : ℕ) (fresh : board ≡ freshBoard)
     (ran : o ≡ runOf board list room .outcome) (wrote : after ≡ over (runOf board list room .answers) before)
