@@ -48,7 +48,7 @@ pub struct Outcome {
 }
 
 impl Outcome {
-    /// Document 01's number of the refusal, 0 for none.
+    /// The refusal's number, 0 for none.
     pub fn refusal_number(&self) -> u8 {
         self.refusal.map_or(0, Refusal::number)
     }

@@ -1,10 +1,11 @@
-//! Document 01's refusals: their numbers, and their meanings in words.
+//! The refusals: their numbers, and their meanings in words.
 
 use std::error::Error;
 use std::fmt;
 
-/// Why a run stopped before the end of its list, or why a direct call was not carried out. The number of each is
-/// document 01's, and so are the words in quotes.
+/// Why a run stopped before the end of its list, why a direct call was not carried out, or why a board was not parked or
+/// an image not read. Numbers 1 to 11 are document 01's, 12 is that of the request for parked boards, S-1, and so are the
+/// words in quotes.
 #[derive(Clone, Copy, Debug, PartialEq, Eq, PartialOrd, Ord, Hash)]
 #[repr(u8)]
 pub enum Refusal {
@@ -28,13 +29,15 @@ pub enum Refusal {
     ReservedSource = 9,
     /// Source: 'level above 1'.
     LevelOutOfRange = 10,
-    /// 'Answer longer than the buffer's rest'.
+    /// 'Answer longer than the buffer's rest'; for an image, 'a short buffer'.
     BufferTooSmall = 11,
+    /// An image: 'a field missing, cut, out of order, of wrong length, a flag above 1, or bytes over'.
+    MalformedImage = 12,
 }
 
 impl Refusal {
     /// Every refusal, in the order of the numbers.
-    pub const ALL: [Self; 11] = [
+    pub const ALL: [Self; 12] = [
         Self::UnsoundBoard,
         Self::TruncatedHeader,
         Self::UnknownTag,
@@ -46,14 +49,15 @@ impl Refusal {
         Self::ReservedSource,
         Self::LevelOutOfRange,
         Self::BufferTooSmall,
+        Self::MalformedImage,
     ];
 
-    /// Document 01's number, 1 to 11.
+    /// Its number, 1 to 12.
     pub fn number(self) -> u8 {
         self as u8
     }
 
-    /// The refusal of a number; none for 0, which is no refusal, and for numbers above 11.
+    /// The refusal of a number; none for 0, which is no refusal, and for numbers above 12.
     pub fn from_number(number: u8) -> Option<Self> {
         let place = usize::from(number).checked_sub(1)?;
         Self::ALL.get(place).copied()
@@ -74,6 +78,7 @@ impl fmt::Display for Refusal {
             Self::ReservedSource => "source 3 is set from the line only",
             Self::LevelOutOfRange => "the level is above 1",
             Self::BufferTooSmall => "the answer is longer than the rest of the buffer",
+            Self::MalformedImage => "the image is malformed",
         })
     }
 }

@@ -251,7 +251,7 @@ fn document_01s_example_is_read() {
 }
 
 #[test]
-fn refusals_have_document_01s_numbers_and_words() {
+fn refusals_have_their_numbers_and_words() {
     let words = [
         "the board is not sound",
         "one or two bytes are left, fewer than a tag and a length",
@@ -264,7 +264,9 @@ fn refusals_have_document_01s_numbers_and_words() {
         "source 3 is set from the line only",
         "the level is above 1",
         "the answer is longer than the rest of the buffer",
+        "the image is malformed",
     ];
+    assert_eq!(words.len(), Refusal::ALL.len());
     for (number, words) in (1..).zip(words) {
         let refusal = Refusal::from_number(number).expect("the number is a refusal's");
         assert_eq!((refusal.number(), refusal.to_string()), (number, words.to_string()));
@@ -274,7 +276,7 @@ fn refusals_have_document_01s_numbers_and_words() {
         };
         assert_eq!(outcome.refusal_number(), number);
     }
-    assert!((12..=255)
+    assert!((13..=255)
         .chain([0])
         .all(|number| Refusal::from_number(number).is_none()));
     assert_eq!(Outcome::default().refusal_number(), 0);
