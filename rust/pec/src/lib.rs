@@ -3,7 +3,8 @@
 //! The functions here call the static library `libpec.a`, which `rt staticlib pec` proves and writes from
 //! crates/pec. Each is safe: the library's contracts ask nothing of their callers, and it keeps nothing between
 //! calls. A call list and its answers are bytes that the caller lends; the types of the crate rust/calls, which stand
-//! here too, make and read them.
+//! here too, make and read them. [`run`] takes a fresh board; a [`Board`] goes on from list to list, and its image keeps
+//! it while no program runs.
 //!
 //! ```
 //! use pec::{answers, list_of, Answer, Call, Refusal};
@@ -21,10 +22,14 @@
 //! # Ok::<(), pec::DamagedAnswers>(())
 //! ```
 
+mod board;
 mod controller;
+mod parked;
 
+pub use board::Board;
 pub use calls::{answers, list_of, Answer, Answers, Call, DamagedAnswers, Fault, Outcome, Refusal};
 pub use controller::{Controller, IrqOutput};
+pub use parked::{image_refusal, park_fresh, run_parked, IMAGE_SIZE};
 
 // A slice goes as its pointer and its length.
 unsafe extern "C" {
@@ -60,14 +65,17 @@ unsafe extern "C" {
     ) -> usize;
 }
 
+/// The refusal of a number that the library gives, 0 for none.
+fn refusal_of(number: u8) -> Option<Refusal> {
+    (number != 0).then(|| Refusal::from_number(number).expect("the library's refusals are 1 to 12"))
+}
+
 /// The outcome of a call of the library that writes calls, list bytes and answer bytes and gives the refusal's number,
 /// 0 for none.
 fn outcome_of(run: impl FnOnce(&mut usize, &mut usize, &mut usize) -> u8) -> Outcome {
     let mut outcome = Outcome::default();
     let number = run(&mut outcome.calls, &mut outcome.list_bytes, &mut outcome.answer_bytes);
-    if number != 0 {
-        outcome.refusal = Some(Refusal::from_number(number).expect("the library's refusals are 0 to 11"));
-    }
+    outcome.refusal = refusal_of(number);
     outcome
 }
 

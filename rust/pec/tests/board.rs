@@ -1,6 +1,9 @@
-//! The functions of the crate pass slices, results and repeats as they say.
+//! The functions of the crate pass slices, results, repeats and images as they say.
 
-use pec::{list_of, run, run_repeated, Call, Controller, Outcome, Refusal};
+use pec::{
+    image_refusal, list_of, park_fresh, run, run_parked, run_repeated, Board, Call, Controller, Outcome, Refusal,
+    IMAGE_SIZE,
+};
 
 const OUTPUT: [u8; 3] = [0x0A, 0, 0];
 
@@ -41,6 +44,91 @@ fn repeats_go_on_from_the_board_that_is_left() {
     let cut = [&configure[..], &[9]].concat();
     run_repeated(&cut, &step, 3, &mut answers);
     assert_eq!(answers[..4], [4, 0, 1, 1]);
+}
+
+/// Where the timer enable stands in an image: four channels of 38 bytes, and a tag and a length.
+const TIMER_ENABLE: usize = 4 * 38 + 3;
+
+#[test]
+fn a_board_goes_on_where_a_run_left_it() {
+    // One-shot channel 0 with compare 3, and then three cycles, the last of which raises the line.
+    let mut calls = [(0x293, 3), (0x283, 12), (0x007, 1)]
+        .map(|(address, byte)| Call::Write { address, byte })
+        .to_vec();
+    calls.extend([Call::Advance { cycles: 1 }; 3]);
+    let list = list_of(&calls);
+    let mut whole = [7; 32];
+    let outcome = run(&list, &mut whole);
+    assert_eq!((outcome.calls, outcome.answer_bytes, whole[20]), (6, 21, 1));
+    // One call at a time, by way of the image.
+    let mut board = Board::default();
+    assert_eq!(board, Board::fresh());
+    let mut answers = [7; 32];
+    let mut total = Outcome::default();
+    for call in &calls {
+        board = Board::from_image(board.image()).expect("a board's own image is accepted");
+        let before = board.clone();
+        let one = board.run(&call.encode(), &mut answers[total.answer_bytes..]);
+        assert_ne!(board, before, "{call:?}");
+        total.calls += one.calls;
+        total.list_bytes += one.list_bytes;
+        total.answer_bytes += one.answer_bytes;
+        assert_eq!(one.refusal, None);
+    }
+    assert_eq!((total, answers), (outcome, whole));
+    // A refused call stops a run, and the board stays.
+    let before = board.clone();
+    let refused = board.run(&[5, 0], &mut answers);
+    assert_eq!((refused.calls, refused.refusal), (0, Some(Refusal::TruncatedHeader)));
+    assert_eq!(board, before);
+}
+
+#[test]
+fn a_board_is_shown_as_its_image() {
+    let text = format!("{:?}", Board::fresh());
+    assert!(text.starts_with("Board(2000230000"), "{text}");
+    assert_eq!(text.len(), "Board()".len() + 2 * IMAGE_SIZE);
+}
+
+#[test]
+fn images_that_are_refused_stay() {
+    let fresh = *Board::fresh().image();
+    let mut unsound = fresh;
+    unsound[TIMER_ENABLE] = 16;
+    let mut both = unsound;
+    both[0] = 0;
+    for (image, refusal) in [
+        (&unsound[..], Refusal::UnsoundBoard),
+        (&both, Refusal::MalformedImage),
+        (&fresh[..IMAGE_SIZE - 1], Refusal::MalformedImage),
+        (&[&fresh[..], &[0]].concat(), Refusal::MalformedImage),
+        (&[], Refusal::MalformedImage),
+    ] {
+        assert_eq!(image_refusal(image), Some(refusal));
+        assert_eq!(Board::from_image(image), Err(refusal));
+        let mut lent = image.to_vec();
+        let mut answers = [7; 8];
+        let outcome = run_parked(&mut lent, &OUTPUT, &mut answers);
+        let refused = Outcome {
+            refusal: Some(refusal),
+            ..Outcome::default()
+        };
+        assert_eq!((outcome, &lent[..], answers), (refused, image, [7; 8]));
+    }
+    assert_eq!(image_refusal(&fresh), None);
+}
+
+#[test]
+fn a_fresh_board_is_parked_at_the_start_of_a_buffer() {
+    let mut buffer = [7; IMAGE_SIZE + 1];
+    assert_eq!(park_fresh(&mut buffer[..IMAGE_SIZE - 1]), Err(Refusal::BufferTooSmall));
+    assert_eq!(park_fresh(&mut []), Err(Refusal::BufferTooSmall));
+    assert_eq!(buffer, [7; IMAGE_SIZE + 1]);
+    assert_eq!(park_fresh(&mut buffer), Ok(IMAGE_SIZE));
+    assert_eq!(
+        (&buffer[..IMAGE_SIZE], buffer[IMAGE_SIZE]),
+        (&Board::fresh().image()[..], 7)
+    );
 }
 
 #[test]

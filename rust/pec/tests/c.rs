@@ -1,5 +1,5 @@
-//! C and C++ programs over the header and the archive: document 01's worked answers, and the memory that the library
-//! uses.
+//! C and C++ programs over the header and the archive: document 01's worked answers, parked boards, and the memory that
+//! the library uses.
 
 use std::env;
 use std::io::Write;
@@ -49,8 +49,9 @@ fn printed(name: &str, (compiler, language): (&str, [&str; 3]), input: &[u8]) ->
         .write_all(input)
         .expect("the program reads");
     let output = child.wait_with_output().expect("the program ends");
-    assert!(output.status.success());
-    String::from_utf8(output.stdout).expect("the program prints text")
+    let text = String::from_utf8(output.stdout).expect("the program prints text");
+    assert!(output.status.success(), "{text}");
+    text
 }
 
 #[test]
@@ -58,6 +59,20 @@ fn a_program_links_the_archive_from_c_and_from_cpp() {
     let run = "02 01\n04 00\n0a 0000\nend 3 2 19\n31 02 01\n";
     for language in [C, CPP] {
         assert_eq!(printed("listing", language, &[]), format!("{run}{run}109 105\n"));
+    }
+}
+
+#[test]
+fn a_board_is_parked_and_taken_up_from_c_and_from_cpp() {
+    // Refusal, calls, list bytes and answer bytes. Three writes (6 bytes each, answers of 3), two deadlines (3 bytes,
+    // answers of 28) and two advances (11 bytes, answers of 4); the parking stands after the first advance.
+    let runs = "whole: 0 7 46 73\nfirst: 0 5 32 41\nsecond: 0 2 14 32\n";
+    let expected = format!(
+        "short: 11 0\nfresh: 0 269, read 0\n{runs}one byte over: 12 12 0 0 0\ncut: 12 12 0 0 0\n\
+         unsound: 1 1 0 0 0\ndamaged and unsound: 12 12 0 0 0\ndamaged: 12 12 0 0 0\n"
+    );
+    for language in [C, CPP] {
+        assert_eq!(printed("parked", language, &[]), expected);
     }
 }
 
@@ -80,12 +95,15 @@ fn a_run_uses_little_stack() {
     ]);
     calls.extend([Call::ControllerWrite { address: 5, byte: 255 }, Call::Output]);
     let text = printed("stack", C, &list_of(&calls));
-    let [alone, run] = [0, 1].map(|place| {
-        let figure = text.split_whitespace().nth(place).expect("two figures");
+    let [alone, run, parked] = [0, 1, 2].map(|place| {
+        let figure = text.split_whitespace().nth(place).expect("three figures");
         figure.parse::<usize>().expect("decimal")
     });
-    println!("stack of a run: {} bytes", run - alone);
-    assert!(alone > 0 && run > alone && run - alone < 16_384, "{text}");
+    assert!(alone > 0, "{text}");
+    for (name, used) in [("a run", run), ("a run over a parked board", parked)] {
+        println!("stack of {name}: {} bytes", used - alone);
+        assert!(used > alone && used - alone < 16_384, "{name}: {text}");
+    }
 }
 
 #[test]

@@ -1,5 +1,5 @@
-/* Prints the bytes of stack that a thread uses, first alone and then with a run of the list on standard input: the stack is
-   filled before, and what no longer holds the filling was used. */
+/* Prints the bytes of stack that a thread uses, first alone, then with a run of the list on standard input, and then with a
+   run of it over a parked board: the stack is filled before, and what no longer holds the filling was used. */
 #define _POSIX_C_SOURCE 200809L
 #include "pec.h"
 
@@ -25,6 +25,15 @@ static void *run(void *unused)
     return unused;
 }
 
+static void *run_parked(void *unused)
+{
+    static uint8_t image[PEC_IMAGE_SIZE];
+    size_t calls, used, written;
+    pec_fresh(image, sizeof image, &written);
+    pec_run_parked(image, sizeof image, list, list_length, answers, sizeof answers, &calls, &used, &written);
+    return unused;
+}
+
 static size_t used_by(void *(*work)(void *))
 {
     pthread_t thread;
@@ -46,7 +55,7 @@ static size_t used_by(void *(*work)(void *))
 int main(void)
 {
     list_length = fread(list, 1, sizeof list, stdin);
-    size_t alone = used_by(nothing);
-    printf("%zu %zu\n", alone, used_by(run));
+    size_t alone = used_by(nothing), with_run = used_by(run);
+    printf("%zu %zu %zu\n", alone, with_run, used_by(run_parked));
     return 0;
 }

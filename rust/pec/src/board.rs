@@ -1,0 +1,86 @@
+//! A board that goes on from one list to the next, and can be parked and taken up again.
+
+use std::fmt;
+
+use crate::parked::{image_refusal, park_fresh, run_parked, IMAGE_SIZE};
+use crate::{Outcome, Refusal};
+
+/// A board, held as its image: the bytes that park it. An image is the only image of its board, so boards are equal where
+/// their images are.
+///
+/// ```
+/// use pec::{list_of, Board, Call, Refusal};
+///
+/// // One-shot channel 0 with compare 3 counts cycles.
+/// let mut board = Board::fresh();
+/// let mut answers = [0; 32];
+/// let program = [(0x293, 3), (0x283, 12), (0x007, 1)].map(|(address, byte)| Call::Write { address, byte });
+/// assert_eq!(board.run(&list_of(&program), &mut answers).refusal, None);
+/// let two = list_of(&[Call::Advance { cycles: 2 }]);
+/// board.run(&two, &mut answers);
+/// assert_eq!(answers[..4], [4, 0, 1, 0]);
+///
+/// // Parked, and taken up again: two cycles more raise the line.
+/// let image = board.image().to_vec();
+/// let mut resumed = Board::from_image(&image)?;
+/// assert_eq!(resumed, board);
+/// resumed.run(&two, &mut answers);
+/// assert_eq!(answers[..4], [4, 0, 1, 1]);
+///
+/// assert_eq!(Board::from_image(&image[1..]), Err(Refusal::MalformedImage));
+/// # Ok::<(), Refusal>(())
+/// ```
+#[derive(Clone, PartialEq, Eq)]
+pub struct Board {
+    // An image that the library accepts.
+    image: [u8; IMAGE_SIZE],
+}
+
+impl Default for Board {
+    fn default() -> Self {
+        Self::fresh()
+    }
+}
+
+impl Board {
+    /// Everything zero except clock control 1.
+    pub fn fresh() -> Self {
+        let mut image = [0; IMAGE_SIZE];
+        let parked = park_fresh(&mut image);
+        assert_eq!(parked, Ok(IMAGE_SIZE), "an image has {IMAGE_SIZE} bytes");
+        Self { image }
+    }
+
+    /// The board of an image. Bytes that are none are refused, by [`Refusal::MalformedImage`] or else by
+    /// [`Refusal::UnsoundBoard`].
+    pub fn from_image(image: &[u8]) -> Result<Self, Refusal> {
+        if let Some(refusal) = image_refusal(image) {
+            return Err(refusal);
+        }
+        let image = image.try_into().map_err(|_| Refusal::MalformedImage)?;
+        Ok(Self { image })
+    }
+
+    /// The image, to be kept and given to [`Board::from_image`] later.
+    pub fn image(&self) -> &[u8; IMAGE_SIZE] {
+        &self.image
+    }
+
+    /// Runs a list over the board. The buffer then holds the answers of the calls done, from its first byte, and after
+    /// them its old bytes. A refusal stops the run, and the calls before it stand.
+    ///
+    /// A list in two runs leaves the same board as the whole in one, and gives the same answers, one after the other.
+    pub fn run(&mut self, list: &[u8], answers: &mut [u8]) -> Outcome {
+        run_parked(&mut self.image, list, answers)
+    }
+}
+
+impl fmt::Debug for Board {
+    fn fmt(&self, f: &mut fmt::Formatter<'_>) -> fmt::Result {
+        f.write_str("Board(")?;
+        for byte in self.image {
+            write!(f, "{byte:02x}")?;
+        }
+        f.write_str(")")
+    }
+}
