@@ -3,6 +3,7 @@
 
 #[cfg(feature = "proved")]
 pub mod controller;
+pub mod parked;
 pub mod passes;
 
 use std::fmt::{self, Write};

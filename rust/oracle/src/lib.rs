@@ -21,6 +21,7 @@ pub mod deadline;
 pub mod fields;
 pub mod generate;
 mod host_time;
+pub mod image;
 pub mod kinds;
 pub mod list;
 pub mod record;

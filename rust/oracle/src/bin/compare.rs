@@ -1,18 +1,26 @@
 //! Compares the proved board with the original Rust, through the static library.
 //!
-//! `compare FIRST LAST` compares the lists of the seeds from FIRST to LAST, and what the boards hold after each.
-//! `compare all FIRST LAST` compares these, and every register with every byte, damaged lists, short buffers, and the
-//! controller by itself. Ends with how many comparisons agreed, or prints the shortest list that shows a difference.
+//! `compare FIRST LAST` compares the lists of the seeds from FIRST to LAST, what the boards hold after each, and lists
+//! over parked boards by the same seeds. `compare all FIRST LAST` compares these, and every register with every byte,
+//! damaged lists, short buffers, damaged images, and the controller by itself. Ends with how many comparisons agreed,
+//! or prints the shortest list that shows a difference.
 
 use std::process::ExitCode;
 use std::time::Instant;
 
+use oracle::compare::parked::{self, Parking};
 use oracle::compare::{controller, passes, Count, Difference, Pair};
 use oracle::list;
 
 const PAIR: Pair = Pair {
     rust: list::run_repeated,
     other: pec::run_repeated,
+};
+
+const PARKING: Parking = Parking {
+    fresh: pec::park_fresh,
+    refusal: pec::image_refusal,
+    run: pec::run_parked,
 };
 
 fn main() -> ExitCode {
@@ -59,6 +67,13 @@ fn compare(all: bool, first: u64, last: u64) -> Result<Count, String> {
     });
     lists?;
     println!("  of these, {own} calls of the seeds' own lists");
+    part("parked boards by seed", &mut total, || {
+        let mut count = Count::default();
+        for seed in first..=last {
+            count.add(parked::seed(&PARKING, seed).map_err(|reason| format!("seed {seed}: {reason}"))?);
+        }
+        Ok(count)
+    })?;
     if all {
         let text = |difference: Box<Difference>| difference.to_string();
         part("registers", &mut total, || passes::registers(&PAIR).map_err(text))?;
@@ -66,6 +81,8 @@ fn compare(all: bool, first: u64, last: u64) -> Result<Count, String> {
         part("short buffers", &mut total, || {
             passes::short_buffers(&PAIR).map_err(text)
         })?;
+        part("damaged images", &mut total, || parked::damaged(&PARKING))?;
+        part("a fresh board's image", &mut total, || parked::fresh(&PARKING))?;
         part("controller", &mut total, controller::compare)?;
     }
     Ok(total)

@@ -7,10 +7,10 @@ use oracle::list::run;
 
 use crate::support::*;
 
-type Edit = fn(&mut Fields);
+pub type Edit = fn(&mut Fields);
 
 /// For each clause an edit of the fresh board that breaks it and the nearest that does not.
-const CLAUSES: [(&str, Edit, Edit); 19] = [
+pub const CLAUSES: [(&str, Edit, Edit); 19] = [
     (
         "control",
         |f| f.channels[3].control = 16,
