@@ -1,10 +1,18 @@
-//! What a simulator's author would write: program a channel, ask for the deadline, skip to the interrupt, acknowledge.
+//! What a simulator's author would write: program a channel, ask for the deadline, skip to the interrupt, acknowledge;
+//! park the board on Friday, take it up on Monday, and keep one record of both days.
 //!
-//! `cargo run --example deadline` prints the deadline, and for each of three interrupts the cycles since the last.
+//! `cargo run --example deadline -- IMAGE` parks the board in the file IMAGE. It prints each day's deadline and the
+//! cycles that each skip passed. What it cannot do it tells, and ends with status 1.
 
+use std::env;
 use std::error::Error;
+use std::ffi::OsString;
+use std::fs::{self, File};
+use std::io::{self, Write};
+use std::path::{Path, PathBuf};
+use std::process::ExitCode;
 
-use pec::{answers, list_of, Answer, Call};
+use pec::{answers, list_of, Answer, Board, Call};
 
 /// Addresses of registers' last bytes, of channel 0 where a channel has its own.
 const TIMER_ENABLE: u16 = 0x07;
@@ -18,33 +26,119 @@ fn write(address: u16, byte: u8) -> Call {
     Call::Write { address, byte }
 }
 
-fn main() -> Result<(), Box<dyn Error>> {
-    // Channel 0, periodic, a tick every 3 cycles, a match every 10 ticks; interrupt and channel enabled.
-    let mut calls = vec![
+/// Friday's calls. Channel 0, periodic, a tick every 3 cycles, a match every 10 ticks; interrupt and channel enabled.
+/// It is left on the way to its second interrupt.
+fn friday() -> Vec<Call> {
+    vec![
         write(PRESCALER, 2),
         write(COMPARE_LOW, 10),
         write(RELOAD_LOW, 10),
         write(CONTROL, 0b1101),
         write(TIMER_ENABLE, 1),
         Call::Deadline,
-    ];
-    for _ in 0..3 {
-        calls.extend([Call::Skip, write(TIMER_ACK, 1)]);
-    }
+        Call::Skip,
+        write(TIMER_ACK, 1),
+        Call::Advance { cycles: 13 },
+    ]
+}
 
-    let mut buffer = vec![0; calls.iter().map(Call::answer_bytes).sum()];
-    let outcome = pec::run(&list_of(&calls), &mut buffer);
-    if let Some(refusal) = outcome.refusal {
-        return Err(format!("{:?} was refused: {refusal}", calls[outcome.calls]).into());
-    }
+/// Monday's calls: what is left to the second interrupt, and the third.
+fn monday() -> Vec<Call> {
+    vec![
+        Call::Deadline,
+        Call::Skip,
+        write(TIMER_ACK, 1),
+        Call::Skip,
+        write(TIMER_ACK, 1),
+    ]
+}
 
-    for record in answers(&buffer[..outcome.answer_bytes]) {
-        let (_, answer) = record?;
-        match answer {
-            Answer::Deadline { exact, .. } => println!("deadline: {exact}"),
-            Answer::Skip { passed, line } => println!("interrupt after {passed} cycles, line {}", u8::from(line)),
+/// Runs calls over a board, prints what they answered and puts the answers at the end of the record.
+fn run(board: &mut Board, calls: &[Call], record: &mut Vec<u8>) -> Result<(), Box<dyn Error>> {
+    let start = record.len();
+    record.resize(start + calls.iter().map(Call::answer_bytes).sum::<usize>(), 0);
+    let outcome = board.run(&list_of(calls), &mut record[start..]);
+    record.truncate(start + outcome.answer_bytes);
+    for answer in answers(&record[start..]) {
+        match answer? {
+            (_, Answer::Deadline { exact, .. }) => println!("deadline: {exact}"),
+            (_, Answer::Skip { passed, line }) => {
+                println!("interrupt after {passed} cycles, line {}", u8::from(line))
+            }
+            (_, Answer::Line(line)) => println!("advanced, line {}", u8::from(line)),
             _ => {}
         }
     }
+    match outcome.refusal {
+        Some(refusal) => Err(format!("{:?} was refused: {refusal}", calls[outcome.calls]).into()),
+        None => Ok(()),
+    }
+}
+
+/// Writes the image to a file beside the named one, and puts it in that one's place once it is on the disk: a crash
+/// leaves the old image or the new one.
+fn park(board: &Board, path: &Path) -> io::Result<()> {
+    let mut beside = OsString::from(path);
+    beside.push(".new");
+    let beside = PathBuf::from(beside);
+    let mut file = File::create(&beside)?;
+    file.write_all(board.image())?;
+    file.sync_all()?;
+    fs::rename(&beside, path)?;
+    // The new name is on the disk once the directory is.
+    let directory = match path.parent() {
+        Some(directory) if directory != Path::new("") => directory,
+        _ => Path::new("."),
+    };
+    File::open(directory)?.sync_all()
+}
+
+/// The board that a file parks.
+fn resume(path: &Path) -> Result<Board, Box<dyn Error>> {
+    let image = fs::read(path)?;
+    Ok(Board::from_image(&image)?)
+}
+
+fn on_friday(path: &Path, record: &mut Vec<u8>) -> Result<(), Box<dyn Error>> {
+    println!("Friday");
+    let mut board = Board::fresh();
+    run(&mut board, &friday(), record)?;
+    park(&board, path).map_err(|error| format!("{}: {error}", path.display()))?;
     Ok(())
+}
+
+fn on_monday(path: &Path, record: &mut Vec<u8>) -> Result<(), Box<dyn Error>> {
+    println!("Monday");
+    let mut board = resume(path).map_err(|error| format!("{}: {error}", path.display()))?;
+    run(&mut board, &monday(), record)
+}
+
+fn both_days(path: &Path) -> Result<(), Box<dyn Error>> {
+    let mut record = Vec::new();
+    on_friday(path, &mut record)?;
+    on_monday(path, &mut record)?;
+
+    // The record is that of a simulation that nobody stopped.
+    let list = list_of(&[friday(), monday()].concat());
+    let mut whole = vec![0; record.len()];
+    let outcome = pec::run(&list, &mut whole);
+    assert_eq!((outcome.refusal, outcome.answer_bytes), (None, record.len()));
+    assert_eq!(record, whole);
+    println!("one record of {} bytes", record.len());
+    Ok(())
+}
+
+fn main() -> ExitCode {
+    let arguments: Vec<OsString> = env::args_os().skip(1).collect();
+    let [path] = &arguments[..] else {
+        eprintln!("usage: deadline IMAGE (the file to park the board in)");
+        return ExitCode::FAILURE;
+    };
+    match both_days(Path::new(path)) {
+        Ok(()) => ExitCode::SUCCESS,
+        Err(error) => {
+            eprintln!("deadline: {error}");
+            ExitCode::FAILURE
+        }
+    }
 }

@@ -1,16 +1,75 @@
-//! The example prints what document 01's rules give: a tick every 3 cycles and a match every 10 ticks.
+//! The example prints what document 01's rules give: a tick every 3 cycles and a match every 10 ticks, so an interrupt
+//! every 30 cycles. Friday ends 13 cycles after the first one, and 17 are left on Monday.
 
-use std::process::Command;
+use std::fs;
+use std::path::PathBuf;
+use std::process::{Command, Output};
 
-#[test]
-fn the_example_prints_the_deadline_and_the_interrupts() {
-    let cargo = env!("CARGO");
-    let output = Command::new(cargo)
-        .args(["run", "--offline", "--quiet", "--example", "deadline"])
+use pec::{list_of, Board, Call};
+
+fn example(arguments: &[&str]) -> Output {
+    Command::new(env!("CARGO"))
+        .args(["run", "--offline", "--quiet", "--example", "deadline", "--"])
+        .args(arguments)
         .current_dir(env!("CARGO_MANIFEST_DIR"))
         .output()
-        .expect("cargo runs");
+        .expect("cargo runs")
+}
+
+/// A folder of a test's own, empty.
+fn folder(name: &str) -> PathBuf {
+    let folder = PathBuf::from(env!("CARGO_TARGET_TMPDIR")).join(name);
+    if folder.exists() {
+        fs::remove_dir_all(&folder).expect("the folder of an earlier test goes");
+    }
+    fs::create_dir(&folder).expect("the folder can be made");
+    folder
+}
+
+#[test]
+fn the_example_prints_both_days_and_leaves_fridays_board() {
+    let folder = folder("example");
+    let image = folder.join("board");
+    // An older image, and what a crash left of a parking, are replaced.
+    fs::write(&image, b"old").expect("the file can be written");
+    fs::write(folder.join("board.new"), [7; 1_000]).expect("the file can be written");
+    let output = example(&[image.to_str().expect("the path is text")]);
     let text = String::from_utf8(output.stdout).expect("the example prints text");
-    let interrupt = "interrupt after 30 cycles, line 1\n";
-    assert_eq!(text, format!("deadline: 30\n{}", interrupt.repeat(3)));
+    // Answers of 3 bytes for eight writes, 28 for two deadlines, 12 for three skips and 4 for the advance.
+    let expected = "Friday\ndeadline: 30\ninterrupt after 30 cycles, line 1\nadvanced, line 0\n\
+                    Monday\ndeadline: 17\ninterrupt after 17 cycles, line 1\ninterrupt after 30 cycles, line 1\n\
+                    one record of 120 bytes\n";
+    assert_eq!(text, expected);
+    assert!(output.status.success());
+    let files = fs::read_dir(&folder).expect("the folder is there");
+    assert_eq!(files.count(), 1, "nothing stands beside the image");
+    let mut board = Board::from_image(&fs::read(&image).expect("the image is there")).expect("it is an image");
+    let mut answer = [0; 28];
+    board.run(&list_of(&[Call::Deadline]), &mut answer);
+    // The record's header, present, D in 16 bytes and the 64-bit deadline.
+    assert_eq!((answer[3], answer[19], answer[27]), (1, 17, 17));
+}
+
+#[test]
+fn the_example_tells_what_it_cannot_write() {
+    let folder = folder("example-refused");
+    let missing = folder.join("missing").join("board");
+    let missing = missing.to_str().expect("the path is text");
+    for (arguments, message) in [
+        (&[missing][..], format!("deadline: {missing}: ")),
+        (&[], "usage: deadline IMAGE".to_string()),
+        (&[missing, missing], "usage: deadline IMAGE".to_string()),
+    ] {
+        let output = example(arguments);
+        let text = String::from_utf8(output.stderr).expect("the example prints text");
+        assert_eq!(output.status.code(), Some(1), "{text}");
+        assert!(text.starts_with(&message), "{text}");
+    }
+    // A directory in the image's place stays, and so does what is in it.
+    let taken = folder.join("taken");
+    fs::create_dir(&taken).expect("the folder can be made");
+    fs::write(taken.join("file"), b"kept").expect("the file can be written");
+    let output = example(&[taken.to_str().expect("the path is text")]);
+    assert_eq!(output.status.code(), Some(1));
+    assert_eq!(fs::read(taken.join("file")).expect("it is there"), b"kept");
 }
