@@ -3,9 +3,9 @@
 use std::error::Error;
 use std::fmt;
 
-/// Why a run stopped before the end of its list, why a direct call was not carried out, or why a board was not parked or
-/// an image not read. Numbers 1 to 11 are document 01's, 12 is that of the request for parked boards, S-1, and so are the
-/// words in quotes.
+/// Why a run stopped before the end of its list, why a direct call was not carried out, or why a board was not parked
+/// or an image not read. Numbers 1 to 11 are document 01's, 12 is that of the request for parked boards, S-1, and so
+/// are the words in quotes.
 #[derive(Clone, Copy, Debug, PartialEq, Eq, PartialOrd, Ord, Hash)]
 #[repr(u8)]
 pub enum Refusal {

@@ -1,5 +1,8 @@
 //! The kinds of list that are measured: `bench` takes their time, `instructions` counts their instructions.
 
+#[cfg(feature = "proved")]
+pub mod parking;
+
 use calls::Call;
 
 use crate::generate::Random;
@@ -8,7 +11,7 @@ use crate::sys::MASTER_CLOCK;
 use crate::writes::{byte, two_words, word};
 
 /// The calls of a measured list.
-const CALLS: usize = 4_000;
+pub const CALLS: usize = 4_000;
 /// The calls that one repeat of a benchmark carries out, about.
 const WORK: usize = 4_000_000;
 /// Room for the answers of a list.

@@ -35,15 +35,16 @@ size_t pec_listing(const uint8_t *answers, size_t answers_length, size_t calls, 
    order and big-endian. */
 #define PEC_IMAGE_SIZE 269
 
-/* Parks a fresh board: writes its image at the start of `image` and leaves the bytes after it. Gives the bytes written;
-   the result is the refusal, 0 for none. A buffer shorter than PEC_IMAGE_SIZE is refused with 11 and left as it is. */
+/* Parks a fresh board: writes its image at the start of `image` and leaves the bytes after it. Gives the bytes
+   written; the result is the refusal, 0 for none. A buffer shorter than PEC_IMAGE_SIZE is refused with 11 and left as it
+   is. */
 uint8_t pec_fresh(uint8_t *image, size_t image_length, size_t *written);
 
 /* The refusal of reading an image: 12 where it is malformed, else 1 where its board is not sound, else 0. */
 uint8_t pec_image_refusal(const uint8_t *image, size_t image_length);
 
-/* Runs a list over a parked board, and writes the board that the run left back into the same bytes. A refused image, by 12
-   or 1, changes nothing and gives counts 0; otherwise the results are those of the run, as of `pec_run`. */
+/* Runs a list over a parked board, and writes the board that the run left back into the same bytes. A refused image, by
+   12 or 1, changes nothing and gives counts 0; otherwise the results are those of the run, as of `pec_run`. */
 uint8_t pec_run_parked(uint8_t *image, size_t image_length, const uint8_t *list, size_t list_length, uint8_t *answers,
                        size_t answers_length, size_t *calls, size_t *used, size_t *written);
 

@@ -5,8 +5,8 @@ use std::fmt;
 use crate::parked::{image_refusal, park_fresh, run_parked, IMAGE_SIZE};
 use crate::{Outcome, Refusal};
 
-/// A board, held as its image: the bytes that park it. An image is the only image of its board, so boards are equal where
-/// their images are.
+/// A board, held as its image: the bytes that park it. An image is the only image of its board, so boards are equal
+/// where their images are.
 ///
 /// ```
 /// use pec::{list_of, Board, Call, Refusal};

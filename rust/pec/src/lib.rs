@@ -3,8 +3,8 @@
 //! The functions here call the static library `libpec.a`, which `rt staticlib pec` proves and writes from
 //! crates/pec. Each is safe: the library's contracts ask nothing of their callers, and it keeps nothing between
 //! calls. A call list and its answers are bytes that the caller lends; the types of the crate rust/calls, which stand
-//! here too, make and read them. [`run`] takes a fresh board; a [`Board`] goes on from list to list, and its image keeps
-//! it while no program runs.
+//! here too, make and read them. [`run`] takes a fresh board; a [`Board`] goes on from list to list, and its image
+//! keeps it while no program runs.
 //!
 //! ```
 //! use pec::{answers, list_of, Answer, Call, Refusal};

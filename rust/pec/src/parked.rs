@@ -1,5 +1,5 @@
-//! The library's functions on images that the caller lends. [`Board`](crate::Board) stands on them, for a board with an
-//! image of its own.
+//! The library's functions on images that the caller lends. [`Board`](crate::Board), which owns its image, builds on
+//! them.
 
 use crate::{outcome_of, refusal_of, Outcome, Refusal};
 
@@ -36,8 +36,8 @@ pub fn park_fresh(buffer: &mut [u8]) -> Result<usize, Refusal> {
     }
 }
 
-/// Why some bytes are not the image of a board, or none where they are: [`Refusal::MalformedImage`], or, of an image that
-/// is well formed, [`Refusal::UnsoundBoard`].
+/// Why some bytes are not the image of a board, or none where they are: [`Refusal::MalformedImage`], or, of an image
+/// that is well formed, [`Refusal::UnsoundBoard`].
 pub fn image_refusal(image: &[u8]) -> Option<Refusal> {
     // SAFETY: the pointer and the length are those of a slice, which is only read.
     refusal_of(unsafe { pec_image_refusal(image.as_ptr(), image.len()) })

@@ -1,5 +1,5 @@
-//! C and C++ programs over the header and the archive: document 01's worked answers, parked boards, and the memory that
-//! the library uses.
+//! C and C++ programs over the header and the archive: document 01's worked answers, parked boards, and the memory
+//! that the library uses.
 
 use std::env;
 use std::io::Write;

@@ -1,6 +1,6 @@
-/* Parks a fresh board, runs a list over it in two parts, and holds the answers, the counts and the image against the list
-   in one run; then images and buffers that are refused. Prints each result, and ends with 1 where something that must stay
-   or agree does not. The text is C and C++: the test compiles it as both. */
+/* Parks a fresh board, runs a list over it in two parts, and holds the answers, the counts and the image against the
+   list in one run; then images and buffers that are refused. Prints each result, and ends with 1 where something that
+   must stay or agree does not. The text is C and C++: the test compiles it as both. */
 #include "pec.h"
 
 #include <stdio.h>

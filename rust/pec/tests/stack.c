@@ -1,5 +1,5 @@
-/* Prints the bytes of stack that a thread uses, first alone, then with a run of the list on standard input, and then with a
-   run of it over a parked board: the stack is filled before, and what no longer holds the filling was used. */
+/* Prints the bytes of stack that a thread uses, first alone, then with a run of the list on standard input, and then
+   with a run of it over a parked board: the stack is filled before, and what no longer holds the filling was used. */
 #define _POSIX_C_SOURCE 200809L
 #include "pec.h"
 

@@ -1,36 +1,80 @@
 //! Times the proved board and the original Rust on the same lists, through the same driver.
 //!
 //! `bench` prints, for each kind of list, nanoseconds a call of both, median and spread of 25 repeats; the median of the
-//! ratios of the repeats that stand next to each other; and the seconds of a ten-year record. `bench NAME` prints one
-//! kind alone. Above its table it prints how the Rust is built.
+//! ratios of the repeats that stand next to each other; and the seconds of a ten-year record. Above its table it
+//! prints how the Rust is built. Then it prints nanoseconds of the work on parked boards, which is the proved board's
+//! alone, and their ratios to an advance inside a long list. `bench NAME` prints one kind alone, `bench parking` the
+//! parked boards.
 
 use std::process::ExitCode;
 use std::time::Instant;
 
 use calls::{list_of, NANOSECONDS_PER_SECOND};
 use oracle::compare::Runner;
-use oracle::kinds::{self, Kind, BUFFER};
+use oracle::kinds::parking::{self, OPERATIONS};
+use oracle::kinds::{self, Kind, BUFFER, CALLS};
 use oracle::list;
 
 const REPEATS: usize = 25;
+/// The times that one repeat carries out an operation on parked boards.
+const TIMES: u64 = 100 * CALLS as u64;
 
 fn main() -> ExitCode {
     if cfg!(debug_assertions) {
         eprintln!("bench: not built for release");
         return ExitCode::FAILURE;
     }
-    let kinds = kinds::named(std::env::args().nth(1).as_deref());
-    if kinds.is_empty() {
+    let wanted = std::env::args().nth(1);
+    let kinds = kinds::named(wanted.as_deref());
+    let parked = wanted.as_deref().is_none_or(|wanted| wanted == parking::NAME);
+    if kinds.is_empty() && !parked {
         eprintln!("bench: no kind of that name");
         return ExitCode::FAILURE;
     }
-    println!("The Rust is built for release with {}.\n", release_profile());
-    println!("| List | Calls | Rust, ns a call | proved, ns a call | ratio | Rust, s | proved, s |");
-    println!("|---|---|---|---|---|---|---|");
+    if !kinds.is_empty() {
+        println!("The Rust is built for release with {}.\n", release_profile());
+        println!("| List | Calls | Rust, ns a call | proved, ns a call | ratio | Rust, s | proved, s |");
+        println!("|---|---|---|---|---|---|---|");
+    }
     for kind in &kinds {
         measure(kind);
     }
+    if parked {
+        measure_parking();
+    }
     ExitCode::SUCCESS
+}
+
+/// The operations on parked boards, and the advance that they are held against, in turns as the lists are.
+fn measure_parking() {
+    let mut seconds: Vec<Vec<f64>> = OPERATIONS.iter().map(|_| Vec::new()).collect();
+    for _ in 0..REPEATS {
+        for (operation, seconds) in OPERATIONS.iter().zip(&mut seconds) {
+            let start = Instant::now();
+            (operation.repeat)(TIMES);
+            seconds.push(start.elapsed().as_secs_f64());
+        }
+    }
+    let last = seconds.last().expect("there are operations").clone();
+    println!("\nParked boards, the proved board alone:\n");
+    println!("| Operation | Times | ns each | ratio to an advance in a list |");
+    println!("|---|---|---|---|");
+    for (operation, seconds) in OPERATIONS.iter().zip(seconds) {
+        let ratios = sorted(seconds.iter().zip(&last).map(|(one, last)| one / last).collect());
+        println!(
+            "| {} | {TIMES} | {} | {:.2} |",
+            operation.name,
+            nanoseconds_each(&sorted(seconds), TIMES),
+            ratios[REPEATS / 2]
+        );
+    }
+}
+
+/// Median and spread of some repeats in nanoseconds, for each of the times that one repeat did its work.
+fn nanoseconds_each(seconds: &[f64], times: u64) -> String {
+    let scale = f64::from(NANOSECONDS_PER_SECOND) / times as f64;
+    let [least, median, most] = [0, REPEATS / 2, REPEATS - 1].map(|at| seconds[at] * scale);
+    format!("{median:.1} ({least:.1} to {most:.1})")
 }
 
 /// The settings of a release build, as Cargo.toml has them.
@@ -63,16 +107,11 @@ fn measure(kind: &Kind) {
     let [rust, proved] = &seconds;
     let ratios = sorted(proved.iter().zip(rust).map(|(proved, rust)| proved / rust).collect());
     let [rust, proved] = seconds.map(sorted);
-    let per_call = |seconds: &[f64]| {
-        let scale = f64::from(NANOSECONDS_PER_SECOND) / calls as f64;
-        let [least, median, most] = [0, REPEATS / 2, REPEATS - 1].map(|at| seconds[at] * scale);
-        format!("{median:.1} ({least:.1} to {most:.1})")
-    };
     println!(
         "| {} | {calls} | {} | {} | {:.2} | {:.2} | {:.2} |",
         kind.name,
-        per_call(&rust),
-        per_call(&proved),
+        nanoseconds_each(&rust, calls),
+        nanoseconds_each(&proved, calls),
         ratios[REPEATS / 2],
         rust[REPEATS / 2],
         proved[REPEATS / 2],

@@ -1,14 +1,17 @@
 //! Counts the instructions of the proved board and of the original Rust on the lists of `bench`.
 //!
-//! `instructions` prints, for each kind of list, the instructions a call of both; `instructions NAME` prints one kind
-//! alone. It counts by running itself under callgrind: `instructions NAME BOARD TIMES` runs that list so many times.
+//! `instructions` prints, for each kind of list, the instructions a call of both, and then those of the work on parked
+//! boards, which is the proved board's alone. `instructions NAME` prints one kind alone, `instructions parking` the
+//! parked boards. It counts by running itself under callgrind: `instructions NAME BOARD TIMES` repeats the list of
+//! that name, or 4,000 times the operation of that name, so many times.
 
 use std::env;
 use std::process::{Command, ExitCode};
 
 use calls::list_of;
 use oracle::compare::Runner;
-use oracle::kinds::{self, Kind, BUFFER};
+use oracle::kinds::parking::{self, OPERATIONS};
+use oracle::kinds::{self, BUFFER, CALLS};
 use oracle::list;
 
 const BOARDS: [(&str, Runner); 2] = [("Rust", list::run_repeated), ("Proved", pec::run_repeated)];
@@ -37,29 +40,37 @@ fn main() -> ExitCode {
 
 fn table(wanted: Option<&str>) -> Result<(), String> {
     let kinds = kinds::named(wanted);
-    if kinds.is_empty() {
+    let parked = wanted.is_none_or(|wanted| wanted == parking::NAME);
+    if kinds.is_empty() && !parked {
         return Err("no kind of that name".into());
     }
     let [rust, proved] = BOARDS.map(|(board, _)| board);
-    println!("| List | {rust} | {proved} |");
-    println!("|---|---|---|");
+    if !kinds.is_empty() {
+        println!("| List | {rust} | {proved} |");
+        println!("|---|---|---|");
+    }
     for kind in &kinds {
-        println!(
-            "| {} | {} | {} |",
-            kind.name,
-            a_call(kind, rust)?,
-            a_call(kind, proved)?
-        );
+        let [rust, proved] = [rust, proved].map(|board| each(kind.name, board, kind.list.len()));
+        println!("| {} | {} | {} |", kind.name, rust?, proved?);
+    }
+    if parked {
+        println!("\nParked boards:\n");
+        println!("| Operation | {proved} |");
+        println!("|---|---|");
+        for operation in &OPERATIONS {
+            println!("| {} | {} |", operation.name, each(operation.name, proved, CALLS)?);
+        }
     }
     Ok(())
 }
 
-/// The instructions a call, to the nearest whole number: what the further repetitions add. So what both runs do does
-/// not count: the start, the making of the lists and the preparing of the board.
-fn a_call(kind: &Kind, board: &str) -> Result<u64, String> {
+/// The instructions of each of a repetition's calls or operations, to the nearest whole number: what the further
+/// repetitions add. So what both runs do does not count: the start, the making of the lists and the preparing of the
+/// board.
+fn each(name: &str, board: &str, count: usize) -> Result<u64, String> {
     let [fewer, more] = REPETITIONS;
-    let added = total(kind.name, board, more)? - total(kind.name, board, fewer)?;
-    let calls = kind.list.len() as u64 * (more - fewer);
+    let added = total(name, board, more)? - total(name, board, fewer)?;
+    let calls = count as u64 * (more - fewer);
     Ok((added + calls / 2) / calls)
 }
 
@@ -82,15 +93,20 @@ fn total(name: &str, board: &str, times: u64) -> Result<u64, String> {
         .ok_or_else(|| format!("valgrind gave no count on {name}, {board}:\n{said}"))
 }
 
-/// Runs a list so many times on a board: what is counted.
+/// Repeats a list so many times on a board, or an operation as often as a list of that number has calls: what is
+/// counted.
 fn repeat(name: &str, board: &str, times: &str) -> Result<(), String> {
-    let kinds = kinds::named(Some(name));
-    let kind = kinds.first().ok_or("no kind of that name")?;
-    let (_, runner) = BOARDS
+    let times: u64 = times.parse().map_err(|_| "the repetitions are a number")?;
+    let (board, runner) = BOARDS
         .into_iter()
         .find(|(named, _)| *named == board)
         .ok_or("no board of that name")?;
-    let times = times.parse().map_err(|_| "the repetitions are a number")?;
+    if let Some(operation) = OPERATIONS.iter().find(|operation| operation.name == name) {
+        (operation.repeat)(times * CALLS as u64);
+        return Ok(());
+    }
+    let kinds = kinds::named(Some(name));
+    let kind = kinds.first().ok_or("no kind of that name")?;
     let mut answers = vec![0; BUFFER];
     let outcome = runner(&list_of(&kind.first), &list_of(&kind.list), times, &mut answers);
     if let Some(refusal) = outcome.refusal {

@@ -44,8 +44,8 @@ fn marked() -> Fields {
         reload: 0x3031_3233_3435_3637 + u64::from(number),
         prescaler: 0x4041_4243 + u32::from(number),
         phase: 0x3839_3A3B + u32::from(number),
-        pending: number % 2 == 0,
-        armed: number % 2 == 1,
+        pending: number & 1 == 0,
+        armed: number & 1 == 1,
     };
     let latch = |value| Latch { held: true, value };
     Fields {
