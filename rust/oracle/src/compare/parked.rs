@@ -114,7 +114,7 @@ pub fn seed(parking: &Parking, seed: u64) -> Result<Count, String> {
 }
 
 /// A list over a parked board; where that is not as the rules say, the shortest list that shows it.
-fn list_from(parking: &Parking, start: &Fields, list: &[u8], buffer: usize) -> Result<Count, String> {
+pub fn list_from(parking: &Parking, start: &Fields, list: &[u8], buffer: usize) -> Result<Count, String> {
     let compared = |list: &[u8]| in_every_way(parking, start, list, buffer);
     compared(list).map_err(|_| {
         let list = shortest(list, |list| compared(list).is_err());

@@ -1,12 +1,16 @@
 //! The comparison of parked boards finds planted faults, and the images that it damages have every sort of member.
 
-use calls::{Outcome, Refusal};
-use oracle::compare::parked::{damaged, fresh, images, seed, Parking, RULES};
+use calls::{list_of, Call, Outcome, Refusal};
+use oracle::compare::parked::{damaged, fresh, images, list_from, seed, Parking, RULES};
+use oracle::fields::Fields;
 use oracle::image::{image_of, image_refusal, park_fresh, read_image, run_parked, IMAGE_SIZE};
+use oracle::registers;
+use oracle::writes::{byte, two_words};
 
-/// Where members stand in an image: timer enable, the offset's sign, and the clock's two latches.
+/// Where members stand in an image: timer enable, the offset's sign, poll, and the clock's two latches.
 const TIMER_ENABLE: usize = 155;
 const OFFSET_SIGN: usize = 169;
+const POLL: usize = 202;
 const CLOCK_LOW_LATCH: usize = 250;
 const CLOCK_HIGH_LATCH: usize = 255;
 
@@ -31,6 +35,14 @@ fn latches_swapped(image: &mut [u8], list: &[u8], answers: &mut [u8]) -> Outcome
 /// The rules but for a board that is not written back.
 fn not_written(image: &mut [u8], list: &[u8], answers: &mut [u8]) -> Outcome {
     run_parked(&mut image.to_vec(), list, answers)
+}
+
+/// The rules but for a poll that is lost when an image is read: a fresh board has none to lose.
+fn poll_lost(image: &mut [u8], list: &[u8], answers: &mut [u8]) -> Outcome {
+    if image_refusal(image).is_none() {
+        image[POLL..POLL + 4].fill(0);
+    }
+    run_parked(image, list, answers)
 }
 
 /// The rules but for a fresh board in the place of an image that is refused.
@@ -113,10 +125,23 @@ fn a_run_that_is_not_the_rules_is_found_by_the_seeds() {
 
 #[test]
 fn a_difference_is_shown_by_the_shortest_list() {
+    let calls = |text: &str| text.lines().filter(|line| line.starts_with("  ")).count();
     let run = short_lists_left_out;
     let found = seeds(&Parking { run, ..RULES }).unwrap_err();
-    let calls = found.lines().filter(|line| line.starts_with("  ")).count();
-    assert_eq!(calls, 1, "{found}");
+    assert_eq!(calls(&found), 1, "{found}");
+}
+
+#[test]
+fn what_is_lost_in_parking_is_found_by_parking_on_the_way() {
+    // An alarm on host time, armed; the first advance counts poll.
+    let mut calls = vec![byte(registers::CLOCK_CONTROL + 3, 5)];
+    calls.extend(two_words(registers::ALARM_LOW, registers::ALARM_HIGH, 3));
+    calls.extend([Call::Output, Call::Advance { cycles: 10 }, Call::Deadline]);
+    let run = poll_lost;
+    let found = list_from(&Parking { run, ..RULES }, &Fields::fresh(), &list_of(&calls), 100).unwrap_err();
+    // The shortest list ends with the advance, and parking after it loses what it counted.
+    assert!(found.contains("\nparked after 10 calls:"), "{found}");
+    assert!(found.contains("differ first at byte 205: 0a and 00"), "{found}");
 }
 
 #[test]
@@ -140,7 +165,7 @@ fn a_byte_past_the_image_and_a_short_buffer_that_changes_are_found() {
 fn the_damaged_images_hold_every_sort_of_member() {
     let images = images();
     let boards: Vec<_> = images.iter().map(|(_, fields)| fields).collect();
-    assert_eq!(image_of(boards[0]), image_of(&oracle::fields::Fields::fresh()));
+    assert_eq!(image_of(boards[0]), image_of(&Fields::fresh()));
     let sound = boards.iter().filter(|fields| fields.sound()).count();
     assert_eq!((boards.len(), sound), (10, 8));
     for number in 0..4 {
