@@ -102,7 +102,7 @@ module _ (b : Board) (f : BoardFits b) (s : sound b ≡ true) (low : line b ≡ 
 
   promised : (d : Option ℕ) → line (afterAll calls b) ≡ due d (total calls b) →
       source3 (afterAll calls b) ≡ (source3 b || due d (total calls b)) →
-      PromiseAfter (isPresent d) (orZero d) (orZero (wordDeadline d)) b calls
+      PromiseAfter (isPresent d) (orZero d) (orZero (wordDeadline d)) b (total calls b) (afterAll calls b)
   promised none p q = record { line = p; source = q ∙ or-false (source3 b) }
   promised (some d) p q = (
     record {

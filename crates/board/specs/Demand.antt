@@ -43,25 +43,25 @@ total (a ∷ calls) b = adds a b + total calls (after a b)
 abbrev pub source3 : Board → Bool
 source3 b = bit 3 (b .controller .pending)
 
--- with a deadline d given: 'the line is high exactly when T is at least D, and source 3's pending bit is set exactly
--- when it was set at the start or T is at least D'
-pub record Rises (b : Board) (d : ℕ) (calls : List DemandCall) : Type 0 where
-  pub line : (line (afterAll calls b) ≡ true) ↔ (d ≤ total calls b)
-  pub source : (source3 (afterAll calls b) ≡ true) ↔ ((source3 b ≡ true) ⊎ (d ≤ total calls b))
+-- with a deadline d given, of the board at the start, T and the board at the end: 'the line is high exactly when T is at
+-- least D, and source 3's pending bit is set exactly when it was set at the start or T is at least D'
+pub record Rises (b : Board) (d t : ℕ) (end : Board) : Type 0 where
+  pub line : (line end ≡ true) ↔ (d ≤ t)
+  pub source : (source3 end ≡ true) ↔ ((source3 b ≡ true) ⊎ (d ≤ t))
 
 -- 'Where no deadline is given, after every such list the line is low and that bit is as it was at the start.'
-pub record StaysLow (b : Board) (calls : List DemandCall) : Type 0 where
-  pub line : line (afterAll calls b) ≡ false
-  pub source : source3 (afterAll calls b) ≡ source3 b
+pub record StaysLow (b end : Board) : Type 0 where
+  pub line : line end ≡ false
+  pub source : source3 end ≡ source3 b
 
 -- by the members of the deadline's answer: present, D and the 64-bit deadline, 'the smaller of D and 2^64 − 1'
-abbrev pub PromiseAfter : Bool → ℕ → ℕ → Board → List DemandCall → Type 0
-PromiseAfter true d word b calls = Rises b d calls × (word ≡ min d largest)
-PromiseAfter false d word b calls = StaysLow b calls
+abbrev pub PromiseAfter : Bool → ℕ → ℕ → Board → ℕ → Board → Type 0
+PromiseAfter true d word b t end = Rises b d t end × (word ≡ min d largest)
+PromiseAfter false d word b t end = StaysLow b end
 
 -- 'any sound board with its line low and its clock not running from host time .. any list of advances and host-time
 -- calls, refused ones included'
 abbrev pub Promise : Board → Bool → ℕ → ℕ → Type 0
 Promise b present d word =
     sound b ≡ true → line b ≡ false → fromHost (b .clock .control) ≡ false →
-    (calls : List DemandCall) → PromiseAfter present d word b calls
+    (calls : List DemandCall) → PromiseAfter present d word b (total calls b) (afterAll calls b)

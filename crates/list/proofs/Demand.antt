@@ -26,7 +26,7 @@ use Rattle.board.specs.Calls.{
   advanceCall,
   hostTimeCall,
 }
-use Rattle.board.specs.Demand.{DemandCall, advance, hostTime, after, afterAll, PromiseAfter}
+use Rattle.board.specs.Demand.{DemandCall, advance, hostTime, after, afterAll, total, PromiseAfter}
 use Rattle.board.proofs.Soundness.{facts-sound}
 use Rattle.board.proofs.Steps.{Good, good, wired-line, call-step}
 use Rattle.board.proofs.Answers.{answer-accepted}
@@ -283,7 +283,7 @@ module _ (b : Board) (first stretch last : List ℕ) (room : ℕ) (calls : List 
     pub all : Through .outcome .refusal ≡ 0 → CarriedOut ≡ calls
     -- what is promised of the deadline of the board at its start holds of them
     pub promise : PromiseAfter (isPresent (exactDeadline AtStart)) (orZero (exactDeadline AtStart))
-        (orZero (wordDeadline (exactDeadline AtStart))) AtStart CarriedOut
+        (orZero (wordDeadline (exactDeadline AtStart))) AtStart (total CarriedOut AtStart) (afterAll CarriedOut AtStart)
     -- the whole run does the same up to there, and goes on from there over what stands behind the stretch
     pub goes-on : Through .outcome .refusal ≡ 0 →
         Whole ≡ joined Through (runOf (Through .outcome .board) last (room - length (Through .answers)))
