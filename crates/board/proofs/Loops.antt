@@ -73,6 +73,13 @@ module _ {A : Type 0} (f : ℕ → A → A) where
   map-length k [] = refl
   map-length k (x ∷ xs) = ap suc (map-length (suc k) xs)
 
+-- a property of every element is kept where each is changed
+pub map-all : {A : Type 0} (P : A → Type 0) (f : ℕ → A → A) → ((k : ℕ) (x : A) → P x → P (f k x)) →
+    (k : ℕ) (xs : List A) → All P xs → All P (mapFrom f k xs)
+unfolding mapFrom
+map-all P f keeps k [] h = h
+map-all P f keeps k (x ∷ xs) h = (keeps k x (h .0), map-all P f keeps (suc k) xs (h .1))
+
 -- ---- a test of every element
 
 -- what is found of every element holds of each

@@ -3,7 +3,7 @@ pub mod Soundness
 pub mod Law
 mod Settings
 mod Tests
-mod Durations
+pub mod Durations
 mod Periods
 mod Marks
 mod Branches

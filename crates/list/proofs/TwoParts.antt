@@ -134,7 +134,7 @@ module _ (p : Run) (room : ℕ) where
 
 -- ---- a run keeps a sound board sound
 
-run-good : (k : ℕ) (l : List ℕ) (room : ℕ) (s : Outcome) (out : List ℕ) → ((i : ℕ) → getD l i 0 < 256) →
+pub run-good : (k : ℕ) (l : List ℕ) (room : ℕ) (s : Outcome) (out : List ℕ) → ((i : ℕ) → getD l i 0 < 256) →
     Good (s .board) → Good (runOn k l room s out .outcome .board)
 unfolding runOn
 run-good zero [] room s out h g = g

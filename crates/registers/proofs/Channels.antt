@@ -27,18 +27,12 @@ use Rattle.channel.specs.Registers.{
   byteWritten,
 }
 use Rattle.channel.proofs.Sound.{flags-sound, byte-written-sound}
-use Rattle.board.specs.Loops.{All, mapFrom, foldFrom}
+use Rattle.board.specs.Loops.{All, foldFrom}
 use Rattle.offsets.specs.Writes.{clearedBy}
 
 -- ---- every element of a list
 
 module _ {A : Type 0} (P : A → Type 0) where
-  pub map-all : (f : ℕ → A → A) → ((k : ℕ) (x : A) → P x → P (f k x)) → (k : ℕ) (xs : List A) → All P xs →
-      All P (mapFrom f k xs)
-  unfolding mapFrom
-  map-all f keeps k [] h = h
-  map-all f keeps k (x ∷ xs) h = (keeps k x (h .0), map-all f keeps (suc k) xs (h .1))
-
   pub set-all : (f : A → A) → ((x : A) → P x → P (f x)) → (d : A) (n : ℕ) (xs : List A) → All P xs →
       All P (set xs n (f (getD xs n d)))
   set-all f keeps d n [] h = h

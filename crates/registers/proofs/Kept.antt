@@ -42,7 +42,7 @@ use Rattle.board.specs.declared.Board.{Board}
 use Rattle.board.specs.Loops.{All}
 use Rattle.board.specs.Fields.{withLatches, countLatch}
 use Rattle.board.specs.Board.{heldOf, wired}
-use Rattle.board.proofs.Loops.{map-length}
+use Rattle.board.proofs.Loops.{map-length, map-all}
 use Rattle.board.proofs.Soundness.{facts-sound, clock-facts}
 use Rattle.board.proofs.Steps.{Good, wired-level}
 use Rattle.board.proofs.Kept.{Keeps}
@@ -81,7 +81,6 @@ use Rattle.offsets.specs.Writes.{clearedBy, timerWritten, clockWritten, written
 use Rattle.registers.specs.Calls.{readCall, writeCall}
 use Rattle.registers.proofs.Channels.{
   GoodTimer,
-  map-all,
   set-all,
   all-good,
   good-sound,

@@ -1,6 +1,6 @@
 -- Laws of big-endian fields and of runs of stores. Assumes nothing.
 use mathlib.Core.Path.{_≡_, refl, sym, ap, ap₂, _∙_, subst⁻¹}
-use mathlib.Core.List.{List, [], _∷_, _++_}
+use mathlib.Core.List.{List, [], _∷_, _++_, append-assoc}
 use Prim.Native.Nat.{ℕ, zero, suc, _+_, _-_, _*_, _/_, _%_, _≤_, _<_, _^_}
 use native.Mathlib.Numerals.{add-one}
 use native.Mathlib.Omega.{arith}
@@ -12,6 +12,8 @@ use native.Mathlib.Nat.{
   mod-eq-of-lt,
   mod-lt,
   div-lt-iff-lt-mul,
+  div-add-mod',
+  div-one,
   add-zero,
   zero-add,
   add-suc,
@@ -22,8 +24,8 @@ use native.Mathlib.Nat.{
   div-div-eq-div-mul,
 }
 use lib.Arith.{digits-lt, digits-div}
-use lib.ListN.{length, getD, set}
-use lib.Seq.{sets}
+use lib.ListN.{length, getD, set, take, drop, length-drop}
+use lib.Seq.{sets, take-suc, getD-append-add, getD-at, getD-drop}
 use lib.Pow.{pow-pos, pow-add}
 use Rattle.wide.specs.Fields.{beAt, be, withByte}
 
@@ -149,3 +151,47 @@ sets-two-words s at h l p =
     ap (λ (n : ℕ). sets (sets s at (be 8 h)) (at + n) (be 8 l)) (sym (length-be 8 h))
     ∙ sets-append s at (be 8 h) (be 8 l)
     ∙ ap (sets s at) (sym (be-two-words h l p))
+
+-- ---- numbers and bytes, there and back
+
+-- the last byte apart
+be-one-more : (n v : ℕ) → be (suc n) v ≡ be n (v / 256) ++ (v % 256 ∷ [])
+unfolding be
+be-one-more n v =
+    ap (λ (m : ℕ). be m v) (sym (add-one n))
+    ∙ be-parts n 1 v
+    ∙ ap (λ (w : ℕ). be n (v / 256) ++ (w % 256 ∷ [])) (div-one v)
+
+-- a number that fits n bytes, stored and taken out again
+pub be-back : (n v : ℕ) (pre post : List ℕ) → v < 256 ^ n → beAt (pre ++ (be n v ++ post)) (length pre) n ≡ v
+unfolding beAt be
+be-back zero v pre post h = omega arith
+be-back (suc n) v pre post h =
+    let last = v % 256 ∷ [] in
+    let front = be n (v / 256) in
+    let whole : be (suc n) v ++ post ≡ front ++ (last ++ post) =
+    ap (λ (l : List ℕ). l ++ post) (be-one-more n v) ∙ append-assoc front last post in
+    let upper : v / 256 < 256 ^ n =
+    div-lt-iff-lt-mul {k = 256} {x = v} {y = 256 ^ n} (omega arith) .1 (rw pow-suc at h) in
+    let byte : getD (pre ++ (front ++ (last ++ post))) (length pre + n) 0 ≡ v % 256 =
+    getD-append-add pre (front ++ (last ++ post)) n 0
+    ∙ getD-at front (v % 256) post 0 n (length-be n (v / 256)) in
+    ap (λ (l : List ℕ). beAt (pre ++ l) (length pre) (suc n)) whole
+    ∙ ap₂ (λ (a b : ℕ). a * 256 + b) (be-back n (v / 256) pre (last ++ post) upper) byte
+    ∙ div-add-mod' v 256
+
+-- n bytes that stand from index at on, taken out and stored again
+pub be-of : (l : List ℕ) → ((i : ℕ) → getD l i 0 < 256) → (at n : ℕ) → at + n ≤ length l →
+    be n (beAt l at n) ≡ take n (drop at l)
+unfolding beAt be
+be-of l bytes at zero h = refl
+be-of l bytes at (suc n) h =
+    let a = beAt l at n in
+    let b = getD l (at + n) 0 in
+    let small : b < 256 = bytes (at + n) in
+    let low : (a * 256 + b) % 256 ≡ b = omega (arith, small) in
+    be-one-more n (a * 256 + b)
+    ∙ ap₂ (λ (x : List ℕ) (y : ℕ). x ++ (y ∷ []))
+    (ap (be n) (digits-div a small) ∙ be-of l bytes at n (omega (arith, h)))
+    (low ∙ sym (getD-drop at l n 0))
+    ∙ sym (take-suc (drop at l) n 0 (rw length-drop (omega (arith, h))))
