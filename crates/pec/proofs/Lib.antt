@@ -1,2 +1,3 @@
 mod Runs
+mod Parked
 pub mod Packing

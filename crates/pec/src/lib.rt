@@ -3,6 +3,9 @@
 ghost use mathlib.Core.Path.{_≡_};
 ghost use Prim.Native.Nat.{_+_, _*_, _≤_};
 ghost use lib.ListN.{length};
+ghost use Rattle.board.specs.Fields.{freshBoard};
+ghost use Rattle.parking.specs.Parking.{writingOf, bufferAfter, readingRefusal};
+ghost use Rattle.resume.specs.Resumed.{resumedOf, imageAfter, answersAfter};
 ghost use Rattle.listing.specs.Listing.{listingOf, withText};
 ghost use Rattle.pec.specs.Repeats.{started, ran, repeats};
 use board::Board;
@@ -98,4 +101,57 @@ pub extern "C" fn pec_listing(
     ensures { λ r. ⌜ r ≤ 2 * length (now (answers .entry)) + 67 ⌝ }
 {
     listing::listing(answers, calls, refusal, used, text)
+}
+
+// Parks a fresh board: writes its image at the start of a lent buffer. Gives the bytes written, and as its result the
+// refusal: 11 for a buffer that is too short, 0 for none.
+#[no_mangle]
+pub extern "C" fn pec_fresh(image: &mut [u8], written: &mut usize) -> u8
+    ensures { λ r. ⌜ r ≡ writingOf freshBoard (length (now (image .entry))) .refusal ⌝ }
+    ensures { λ _. ⌜ now (image .exit) ≡ bufferAfter freshBoard (now (image .entry)) ⌝ }
+    ensures { λ _. ⌜ now (written .exit) ≡ writingOf freshBoard (length (now (image .entry))) .written ⌝ }
+{
+    let r = parking::write(Board::fresh(), image);
+    *written = r.written;
+    r.refusal
+}
+
+// The refusal of reading an image: 12, 1, or 0 for none.
+#[no_mangle]
+pub extern "C" fn pec_image_refusal(image: &[u8]) -> u8
+    ensures { λ r. ⌜ r ≡ readingRefusal (now (image .entry)) ⌝ }
+{
+    let r = parking::read(image);
+    r.refusal
+}
+
+// Runs a list over a parked board, and writes the board that the run left back into the image. A refused image, by 12 or
+// 1, changes nothing and gives counts 0; otherwise the result is the run's refusal.
+#[no_mangle]
+pub extern "C" fn pec_run_parked(
+    image: &mut [u8],
+    list: &[u8],
+    answers: &mut [u8],
+    calls: &mut usize,
+    used: &mut usize,
+    written: &mut usize,
+) -> u8
+    ensures { λ r. ⌜ r
+        ≡ resumedOf (now (image .entry)) (now (list .entry)) (length (now (answers .entry))) .refusal ⌝ }
+    ensures { λ _. ⌜ now (image .exit)
+        ≡ imageAfter (now (image .entry)) (now (list .entry)) (length (now (answers .entry))) ⌝ }
+    ensures { λ _. ⌜ now (answers .exit)
+        ≡ answersAfter (now (image .entry)) (now (list .entry)) (now (answers .entry)) ⌝ }
+    ensures { λ _. ⌜ now (calls .exit)
+        ≡ resumedOf (now (image .entry)) (now (list .entry)) (length (now (answers .entry))) .calls ⌝ }
+    ensures { λ _. ⌜ now (used .exit)
+        ≡ resumedOf (now (image .entry)) (now (list .entry)) (length (now (answers .entry))) .used ⌝ }
+    ensures { λ _. ⌜ now (written .exit)
+        ≡ resumedOf (now (image .entry)) (now (list .entry)) (length (now (answers .entry))) .written ⌝ }
+{
+    let r = resume::run(image, list, answers);
+    *calls = r.calls;
+    *used = r.used;
+    *written = r.written;
+    r.refusal
 }

@@ -1,0 +1,192 @@
+-- The fields of an image one behind another: their lengths, and how they are stored. Assumes nothing.
+use Prim.Native.Nat.{ℕ, suc, _+_, _^_, _<_}
+use native.Mathlib.Omega.{arith}
+use mathlib.Core.Path.{_≡_, refl, sym, ap, ap₂, _∙_, subst}
+use mathlib.Core.List.{List, [], _∷_, _++_, map, append-assoc, append-nil}
+use lib.ListN.{length, getD, length-append}
+use lib.Seq.{sets}
+use Rattle.format.specs.Format.{membersBytes}
+use Rattle.format.proofs.Frames.{sets-then, record-length, members-length}
+use Rattle.channel.specs.declared.HardwareTimer.{HardwareTimer}
+use Rattle.channel.specs.Channel.{freshTimer}
+use Rattle.board.specs.declared.Latch.the-variants.{Empty}
+use Rattle.board.specs.declared.Latch.{Latch}
+use Rattle.board.specs.declared.CountLatch.{CountLatch}
+use Rattle.board.specs.declared.Board.{Board}
+use Rattle.board.specs.Loops.{All}
+use Rattle.board.specs.Board.{heldOf, heldValue}
+use Rattle.wide.specs.Bits.{flagOf}
+use Rattle.image.specs.Image.{
+  Field,
+  widthsOf,
+  channelField,
+  clockField,
+  latchesField,
+  controllerField,
+  layout,
+  fieldLength,
+  fieldsLength,
+  imageLength,
+  timerMembers,
+  clockMembers,
+  latchesMembers,
+  controllerMembers,
+  membersOf,
+  fieldBytes,
+  fieldsBytes,
+  imageOf,
+}
+use Rattle.image.specs.CodeTables.{channelsBytes}
+use Rattle.image.specs.Words.{CountWord, LatchWords}
+
+-- ---- four elements
+
+-- a list of four is its four elements
+pub four-is : {A : Type 0} (d : A) (xs : List A) → length xs ≡ 4 →
+    xs ≡ getD xs 0 d ∷ getD xs 1 d ∷ getD xs 2 d ∷ getD xs 3 d ∷ []
+four-is d [] e = absurd (omega (arith, e))
+four-is d (a ∷ []) e = absurd (omega (arith, e))
+four-is d (a ∷ b ∷ []) e = absurd (omega (arith, e))
+four-is d (a ∷ b ∷ c ∷ []) e = absurd (omega (arith, e))
+four-is d (a ∷ b ∷ c ∷ h ∷ []) e = refl
+four-is d (a ∷ b ∷ c ∷ h ∷ x ∷ xs) e = absurd (omega (arith, e))
+
+-- what holds of each holds of all
+pub four-all : {A : Type 0} (P : A → Type 0) (d : A) (xs : List A) → length xs ≡ 4 → P (getD xs 0 d) →
+    P (getD xs 1 d) → P (getD xs 2 d) → P (getD xs 3 d) → All P xs
+four-all P d xs e p q r s = subst (All P) (sym (four-is d xs e)) (p, (q, (r, (s, tt))))
+
+-- ---- lengths
+
+pub field-length : (f : Field) (ms : List ℕ) → length (fieldBytes f ms) ≡ fieldLength f
+unfolding fieldBytes
+field-length f ms =
+    record-length (f .tag) (membersBytes (widthsOf (f .members)) ms)
+    ∙ ap (λ (n : ℕ). 3 + n) (members-length (widthsOf (f .members)) ms)
+
+pub fields-length : (fs : List Field) (mss : List (List ℕ)) → length (fieldsBytes fs mss) ≡ fieldsLength fs
+unfolding fieldsBytes
+fields-length [] mss = refl
+fields-length (f ∷ fs) mss =
+    length-append (fieldBytes f (getD mss 0 [])) _ ∙ ap₂ _+_ (field-length f (getD mss 0 [])) (fields-length fs _)
+
+pub image-length : (b : Board) → length (imageOf b) ≡ imageLength
+unfolding imageOf
+image-length b = fields-length layout (membersOf b)
+
+-- ---- parts
+
+pub fields-append : (fs gs : List Field) (mss nss : List (List ℕ)) → length mss ≡ length fs →
+    fieldsBytes (fs ++ gs) (mss ++ nss) ≡ fieldsBytes fs mss ++ fieldsBytes gs nss
+unfolding fieldsBytes
+fields-append [] gs [] nss e = refl
+fields-append [] gs (ms ∷ mss) nss e = absurd (omega (arith, e))
+fields-append (f ∷ fs) gs [] nss e = absurd (omega (arith, e))
+fields-append (f ∷ fs) gs (ms ∷ mss) nss e =
+    ap (λ (l : List ℕ). fieldBytes f ms ++ l) (fields-append fs gs mss nss (omega (arith, e)))
+    ∙ sym (append-assoc (fieldBytes f ms) (fieldsBytes fs mss) (fieldsBytes gs nss))
+
+timers-count : (ts : List HardwareTimer) → length (map timerMembers ts) ≡ length ts
+timers-count [] = refl
+timers-count (t ∷ ts) = ap suc (timers-count ts)
+
+-- the channels' fields, and those behind them
+abbrev channels : List Field
+channels = channelField ∷ channelField ∷ channelField ∷ channelField ∷ []
+
+abbrev others : List Field
+others = clockField ∷ latchesField ∷ controllerField ∷ []
+
+abbrev otherMembers : Board → List (List ℕ)
+otherMembers b =
+    clockMembers (b .«timer_enable») (b .clock) ∷ latchesMembers (b .latches) ∷ controllerMembers (b .controller) ∷ []
+
+-- ---- stores
+
+-- some bytes, and others right behind them
+stored-then : (x y z : List ℕ) (a b n : ℕ) (xs ys : List ℕ) → y ≡ sets x a xs → length xs ≡ n → b ≡ a + n →
+    z ≡ sets y b ys → z ≡ sets x a (xs ++ ys)
+stored-then x y z a b n xs ys e l i f =
+    f ∙ ap (λ (s : List ℕ). sets s b ys) e ∙ ap (λ (j : ℕ). sets (sets x a xs) j ys) i ∙ sets-then x a n xs ys l
+
+-- a channel's field
+abbrev channelBytes : List HardwareTimer → ℕ → List ℕ
+channelBytes ts k = fieldBytes channelField (timerMembers (getD ts k freshTimer))
+
+-- the fields of the four channels
+pub channels-stored : (ts : List HardwareTimer) → length ts ≡ 4 → (x y z u v : List ℕ) →
+    y ≡ sets x 0 (channelBytes ts 0) → z ≡ sets y 38 (channelBytes ts 1) → u ≡ sets z 76 (channelBytes ts 2) →
+    v ≡ sets u 114 (channelBytes ts 3) → v ≡ sets x 0 (channelsBytes ts)
+unfolding fieldsBytes
+channels-stored ts four x y z u v e f g h =
+    let last : v ≡ sets u 114 (channelBytes ts 3 ++ []) = h ∙ ap (sets u 114) (sym (append-nil (channelBytes ts 3))) in
+    stored-then x y v 0 38 38 (channelBytes ts 0) _ e (field-length channelField _) refl
+    (stored-then y z v 38 76 38 (channelBytes ts 1) _ f (field-length channelField _) refl
+    (stored-then z u v 76 114 38 (channelBytes ts 2) _ g (field-length channelField _) refl last))
+    ∙ ap (λ (xs : List HardwareTimer). sets x 0 (channelsBytes xs)) (sym (four-is freshTimer ts four))
+
+-- the image: the channels' fields, and the three behind them
+pub image-stored : (b : Board) → length (b .timers) ≡ 4 → (x y z u v : List ℕ) →
+    y ≡ sets x 0 (channelsBytes (b .timers)) →
+    z ≡ sets y 152 (fieldBytes clockField (clockMembers (b .«timer_enable») (b .clock))) →
+    u ≡ sets z 227 (fieldBytes latchesField (latchesMembers (b .latches))) →
+    v ≡ sets u 260 (fieldBytes controllerField (controllerMembers (b .controller))) → v ≡ sets x 0 (imageOf b)
+unfolding imageOf fieldsBytes
+image-stored b four x y z u v e f g h =
+    let k = fieldBytes clockField (clockMembers (b .«timer_enable») (b .clock)) in
+    let l = fieldBytes latchesField (latchesMembers (b .latches)) in
+    let q = fieldBytes controllerField (controllerMembers (b .controller)) in
+    let rest = k ++ (l ++ (q ++ [])) in
+    let last : v ≡ sets u 260 (q ++ []) = h ∙ ap (sets u 260) (sym (append-nil q)) in
+    let behind : v ≡ sets y 152 rest =
+    stored-then y z v 152 227 75 k (l ++ (q ++ [])) f (field-length clockField _) refl
+    (stored-then z u v 227 260 33 l (q ++ []) g (field-length latchesField _) refl last) in
+    let whole : v ≡ sets x 0 (channelsBytes (b .timers) ++ rest) =
+    stored-then x y v 0 152 152 (channelsBytes (b .timers)) rest e
+    (fields-length channels (map timerMembers (b .timers))) refl behind in
+    whole
+    ∙ ap (sets x 0)
+    (sym (fields-append channels others (map timerMembers (b .timers)) (otherMembers b)
+    (timers-count (b .timers) ∙ four)))
+
+-- ---- the latches' field
+
+-- no latch
+abbrev none : CountLatch
+none = record { high = Empty }
+
+abbrev held : List CountLatch → ℕ → ℕ
+held cs k = flagOf (heldOf (getD cs k none .high))
+
+abbrev valued : List CountLatch → ℕ → ℕ
+valued cs k = heldValue (getD cs k none .high)
+
+fit : {v w : ℕ} → v ≡ w → v < 2 ^ 32 → w < 2 ^ 32
+fit e h = subst (λ (n : ℕ). n < 2 ^ 32) e h
+
+-- its members are those of six latches, of which each value fits; the result of the code is a field of these
+pub latches-stored : (cs : List CountLatch) → length cs ≡ 4 → (low high : Latch) (x y : List ℕ)
+    {a1 v1 a2 v2 a3 v3 a4 v4 a5 v5 a6 v6 : ℕ} →
+    a1 ≡ held cs 0 → (v1 ≡ valued cs 0) × (v1 < 2 ^ 32) → a2 ≡ held cs 1 → (v2 ≡ valued cs 1) × (v2 < 2 ^ 32) →
+    a3 ≡ held cs 2 → (v3 ≡ valued cs 2) × (v3 < 2 ^ 32) → a4 ≡ held cs 3 → (v4 ≡ valued cs 3) × (v4 < 2 ^ 32) →
+    a5 ≡ flagOf (heldOf low) → (v5 ≡ heldValue low) × (v5 < 2 ^ 32) →
+    a6 ≡ flagOf (heldOf high) → (v6 ≡ heldValue high) × (v6 < 2 ^ 32) →
+    y ≡ sets x 227 (fieldBytes latchesField
+    (a1 ∷ v1 ∷ a2 ∷ v2 ∷ a3 ∷ v3 ∷ a4 ∷ v4 ∷ a5 ∷ v5 ∷ a6 ∷ v6 ∷ [])) →
+    (y ≡ sets x 227 (fieldBytes latchesField (latchesMembers (record { counts = cs; low = low; high = high }))))
+    × LatchWords (record { counts = cs; low = low; high = high })
+latches-stored cs four low high x y h1 w1 h2 w2 h3 w3 h4 w4 h5 w5 h6 w6 e = (
+  rw (h1, w1 .0, h2, w2 .0, h3, w3 .0, h4, w4 .0, h5, w5 .0, h6, w6 .0) at e
+      ∙ ap
+      (λ (xs : List CountLatch).
+      sets x 227 (fieldBytes latchesField (latchesMembers (record { counts = xs; low = low; high = high }))))
+      (sym (four-is none cs four)),
+  record {
+    four = four;
+    counts =
+        four-all CountWord none cs four (fit (w1 .0) (w1 .1)) (fit (w2 .0) (w2 .1)) (fit (w3 .0) (w3 .1))
+        (fit (w4 .0) (w4 .1));
+    low = fit (w5 .0) (w5 .1);
+    high = fit (w6 .0) (w6 .1);
+  },
+)

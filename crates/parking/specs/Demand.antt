@@ -1,0 +1,54 @@
+-- S-1: 'Demand 3 holds too where the board is written and read back between calls of the list.' The lists of the
+-- deadline's promise with parkings among their calls.
+use Prim.Native.Nat.{ℕ, _+_}
+use mathlib.Core.Path.{_≡_}
+use mathlib.Core.Bool.{Bool, true, false, cond}
+use mathlib.Core.List.{List, [], _∷_}
+use lib.Dec.{eqb}
+use Rattle.clock.specs.Clock.{fromHost}
+use Rattle.board.specs.declared.Board.{Board}
+use Rattle.board.specs.Loops.{All}
+use Rattle.board.specs.Board.{line, sound}
+use Rattle.board.specs.Demand.{DemandCall, after, adds, PromiseAfter}
+use Rattle.image.specs.Image.{imageLength, imageOf}
+use Rattle.parking.specs.Parking.{writingOf, readingOf}
+use Rattle.image.specs.Words.{HostWord}
+
+-- a board is written, and what was written is read back; one that is refused comes back as it was given
+unfoldable pub parkedAndRead : Board → Board
+parkedAndRead b =
+    cond (eqb (writingOf b imageLength .refusal) 0) (readingOf (imageOf b) .board) (writingOf b imageLength .board)
+
+-- an advance or a host-time call, or a parking
+pub data ParkingCall : Type 0 where
+  call : DemandCall → ParkingCall
+  parking : ParkingCall
+
+unfoldable pub afterParking : ParkingCall → Board → Board
+afterParking (call a) b = after a b
+afterParking parking b = parkedAndRead b
+
+-- a parking adds no cycles
+unfoldable pub addsParking : ParkingCall → Board → ℕ
+addsParking (call a) b = adds a b
+addsParking parking b = 0
+
+unfoldable pub afterParkings : List ParkingCall → Board → Board
+afterParkings [] b = b
+afterParkings (a ∷ calls) b = afterParkings calls (afterParking a b)
+
+unfoldable pub totalParkings : List ParkingCall → Board → ℕ
+totalParkings [] b = 0
+totalParkings (a ∷ calls) b = addsParking a b + totalParkings calls (afterParking a b)
+
+-- what the types say of such a call
+abbrev pub CallWords : ParkingCall → Type 0
+CallWords (call a) = HostWord a
+CallWords parking = Unit {0}
+
+-- the deadline's promise, over these lists
+abbrev pub ParkingPromise : Board → Bool → ℕ → ℕ → Type 0
+ParkingPromise b present d word =
+    sound b ≡ true → line b ≡ false → fromHost (b .clock .control) ≡ false →
+    (calls : List ParkingCall) → All CallWords calls →
+    PromiseAfter present d word b (totalParkings calls b) (afterParkings calls b)

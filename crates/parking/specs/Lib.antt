@@ -1,0 +1,3 @@
+pub mod Parking
+pub mod CodeReads
+pub mod Demand

@@ -1,0 +1,92 @@
+// Parked boards: a sound board written to a lent buffer as its image, and an image read back.
+ghost use mathlib.Core.Path.{_≡_};
+ghost use mathlib.Core.Bool.{cond};
+ghost use lib.ListN.{length};
+ghost use lib.Dec.{ltb};
+ghost use Rattle.board.specs.Fields.{freshBoard};
+ghost use Rattle.image.specs.Image.{imageLength, imageOf};
+ghost use Rattle.parking.specs.Parking.{bufferShort, writingOf, bufferAfter, readingOf};
+ghost use Rattle.image.specs.Words.{BoardWords};
+use board::Board;
+use image::IMAGE_LENGTH;
+use wide::flags::both;
+
+mod get;
+
+// Refusals, by their numbers; 1, a board that is not sound, is the board's.
+pub const BUFFER_SHORT: u8 = 11;
+
+pub const IMAGE_MALFORMED: u8 = 12;
+
+// The board that was given, the refusal, 0 for none, and the bytes that were written.
+pub struct Writing {
+    pub board: Board,
+    pub refusal: u8,
+    pub written: usize,
+}
+
+// The board that was read, a fresh one where the reading is refused, and the refusal, 0 for none.
+pub struct Reading {
+    pub board: Board,
+    pub refusal: u8,
+}
+
+// The refusal of a writing that is the buffer's.
+fn buffer_refusal(room: usize) -> u8
+    ensures { λ r. ⌜ r ≡ cond (ltb room imageLength) bufferShort 0 ⌝ }
+{
+    if room < IMAGE_LENGTH { BUFFER_SHORT } else { 0 }
+}
+
+// Writes a board's image at the start of a lent buffer. Where that is accepted, reading the image gives the board: this
+// rests on the board's words being words, which the contract says too.
+pub fn write(board: Board, buffer: &mut [u8]) -> Writing
+    ensures { λ r. ⌜ r ≡ writingOf board (length (now (buffer .entry))) ⌝ }
+    ensures { λ _. ⌜ now (buffer .exit) ≡ bufferAfter board (now (buffer .entry)) ⌝ }
+    ensures { λ r. ⌜ (r .refusal ≡ 0 →
+        BoardWords board × (readingOf (imageOf board) ≡ record { board = board; refusal = 0 })) ⌝ }
+{
+    let refusal = board.refusal_of(buffer_refusal(buffer.len()));
+    if refusal != 0 {
+        return Writing {
+            board,
+            refusal,
+            written: 0,
+        };
+    }
+    image::put::put_image(buffer, board);
+    Writing {
+        board,
+        refusal: 0,
+        written: IMAGE_LENGTH,
+    }
+}
+
+// A reading that is refused.
+fn refused(refusal: u8) -> Reading
+    ensures { λ r. ⌜ r ≡ record { board = freshBoard; refusal = refusal } ⌝ }
+{
+    Reading {
+        board: Board::fresh(),
+        refusal,
+    }
+}
+
+// Reads the board whose image a lent slice is.
+pub fn read(image: &[u8]) -> Reading
+    ensures { λ r. ⌜ r ≡ readingOf (now (image .entry)) ⌝ }
+{
+    if image.len() != IMAGE_LENGTH {
+        return refused(IMAGE_MALFORMED);
+    }
+    let said = get::board_in(image);
+    if !said.formed {
+        return refused(IMAGE_MALFORMED);
+    }
+    let board = said.board;
+    if both(said.empties_hold_0, board.sound()) {
+        Reading { board, refusal: 0 }
+    } else {
+        refused(Board::NOT_SOUND)
+    }
+}

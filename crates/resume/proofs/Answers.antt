@@ -1,0 +1,98 @@
+-- What a run over a parked board answers, where the image is refused and where it is read. Assumes nothing.
+use Prim.Native.Nat.{ℕ, _<_}
+use native.Mathlib.Omega.{arith}
+use mathlib.Core.Path.{_≡_, refl, sym, ap, _∙_}
+use mathlib.Core.Bool.{true, false}
+use mathlib.Core.List.{List, [], append-nil}
+use lib.ListN.{length, getD, drop, drop-of-length-le}
+use lib.Dec.{eqb}
+use borrow.Author.Tests.{eq-eqb, ne-eqb, le-ltb}
+use Rattle.board.specs.declared.Board.{Board}
+use Rattle.board.specs.Board.{sound}
+use Rattle.board.proofs.Soundness.{facts-sound}
+use Rattle.board.proofs.Steps.{good}
+use Rattle.parking.specs.declared.Reading.{Reading}
+use Rattle.image.specs.Image.{imageLength, imageOf}
+use Rattle.parking.specs.Parking.{bufferAfter, readingRefusal, readingOf}
+use Rattle.parking.proofs.RoundTrip.{accepted-sound, accepted-words, accepted-long}
+use Rattle.list.specs.declared.Outcome.{Outcome}
+use Rattle.list.specs.Run.{runOf, over}
+use Rattle.resume.specs.declared.Resumed.{Resumed}
+use Rattle.resume.specs.Resumed.{runParked, resumedOf, imageAfter, answersAfter}
+use Rattle.resume.proofs.RunWords.{run-sound}
+
+-- the refusal of a reading
+refusal-is : (l : List ℕ) (r : Reading) → r ≡ readingOf l → r .refusal ≡ readingRefusal l
+unfolding readingOf
+refusal-is l r e = ap (λ (x : Reading). x .refusal) e
+
+-- nothing done, with a refusal
+abbrev nothing : ℕ → Resumed
+nothing n = record { refusal = n; calls = 0; used = 0; written = 0 }
+
+-- ---- a refused image
+
+module _ (image l a : List ℕ) (r : Reading) (e : r ≡ readingOf image) (n : r .refusal ≡ 0 → ⊥) where
+  refused : eqb (readingRefusal image) 0 ≡ false
+  refused = ap (λ (k : ℕ). eqb k 0) (sym (refusal-is image r e)) ∙ ne-eqb (r .refusal) 0 n
+
+  pub resumed-refused : (nothing (r .refusal) ≡ resumedOf image l (length a))
+      × ((image ≡ imageAfter image l (length a)) × (a ≡ answersAfter image l a))
+  unfolding resumedOf imageAfter answersAfter
+  resumed-refused =
+      (ap nothing (refusal-is image r e) ∙ sym (rw refused refl), (sym (rw refused refl), sym (rw refused refl)))
+
+-- ---- an image that is read
+
+-- the board that the run left is written over the whole image
+written-over : (b : Board) (image : List ℕ) → sound b ≡ true → length image ≡ imageLength →
+    bufferAfter b image ≡ imageOf b
+unfolding bufferAfter
+written-over b image s n =
+    let none : drop imageLength image ≡ [] = drop-of-length-le image {i = imageLength} (omega (arith, n)) in
+    rw (s, le-ltb (length image) imageLength (omega (arith, n)), none) (append-nil (imageOf b))
+
+module _ (image l a : List ℕ) (bytes : (i : ℕ) → getD image i 0 < 256) (list-bytes : (i : ℕ) → getD l i 0 < 256)
+    (r : Reading) (e : r ≡ readingOf image) (z : r .refusal ≡ 0) where
+  accepted : readingOf image .refusal ≡ 0
+  accepted = sym (ap (λ (x : Reading). x .refusal) e) ∙ z
+
+  taken : eqb (readingRefusal image) 0 ≡ true
+  taken = eq-eqb (readingRefusal image) 0 (sym (refusal-is image r e) ∙ z)
+
+  -- the board that the run leaves is sound
+  left-sound : sound (runParked image l (length a) .outcome .board) ≡ true
+  left-sound =
+      facts-sound (runParked image l (length a) .outcome .board)
+      (run-sound (readingOf image .board) l (length a)
+      (good (readingOf image .board) (accepted-words image bytes accepted .fits) (accepted-sound image accepted))
+      list-bytes .facts)
+
+  module _ (o : Outcome) (x w : List ℕ)
+      (ran : o ≡ runOf (r .board) l (length a) .outcome)
+      (answered : x ≡ over (runOf (r .board) l (length a) .answers) a)
+      (written : w ≡ bufferAfter (o .board) image) where
+    same-outcome : o ≡ runParked image l (length a) .outcome
+    same-outcome = ran ∙ ap (λ (y : Reading). runOf (y .board) l (length a) .outcome) e
+
+    same-answers : x ≡ over (runParked image l (length a) .answers) a
+    same-answers = answered ∙ ap (λ (y : Reading). over (runOf (y .board) l (length a) .answers) a) e
+
+    same-image : w ≡ imageOf (runParked image l (length a) .outcome .board)
+    same-image =
+        written
+        ∙ ap (λ (y : Outcome). bufferAfter (y .board) image) same-outcome
+        ∙ written-over (runParked image l (length a) .outcome .board) image left-sound (accepted-long image accepted)
+
+    pub resumed-read :
+        (record { refusal = o .refusal; calls = o .calls; used = o .used; written = o .written }
+        ≡ resumedOf image l (length a))
+        × ((w ≡ imageAfter image l (length a)) × (x ≡ answersAfter image l a))
+    unfolding resumedOf imageAfter answersAfter
+    resumed-read = (
+      ap
+          (λ (y : Outcome). record { refusal = y .refusal; calls = y .calls; used = y .used; written = y .written })
+          same-outcome
+          ∙ sym (rw taken refl),
+      (same-image ∙ sym (rw taken refl), same-answers ∙ sym (rw taken refl)),
+    )

@@ -1,0 +1,3 @@
+pub mod RunWords
+pub mod Answers
+pub mod TwoRuns
