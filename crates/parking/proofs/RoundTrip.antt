@@ -4,11 +4,11 @@ use Prim.Native.Nat.{ℕ}
 use native.Mathlib.Omega.{arith}
 use native.Mathlib.Nat.{zero-add}
 use mathlib.Core.Path.{_≡_, refl, sym, ap, _∙_, subst}
-use mathlib.Core.Bool.{Bool, true, false, cond}
+use mathlib.Core.Bool.{Bool, true, cond}
 use mathlib.Core.List.{List, []}
 use lib.ListN.{length, getD}
 use borrow.Author.Tests.{eq-eqb}
-use Rattle.wide.proofs.Choices.{and-parts, and-join}
+use Rattle.wide.proofs.Choices.{either, and-parts, and-join}
 use Rattle.board.specs.declared.Board.{Board}
 use Rattle.board.specs.Fields.{freshBoard}
 use Rattle.board.specs.Board.{sound}
@@ -75,14 +75,14 @@ record Accepted (l : List ℕ) : Type 0 where
   sounds : sound (boardIn l) ≡ true
   board : readingOf l .board ≡ boardIn l
 
-both-pass : (f s : Bool) → _≡_ {A = ℕ} (cond f (cond s 0 1) 12) 0 → (f ≡ true) × (s ≡ true)
-both-pass true true e = (refl, refl)
-both-pass true false e = absurd (omega (arith, e))
-both-pass false s e = absurd (omega (arith, e))
-
+-- no refusal: the bytes have the form, and say a sound board
 passed : (l : List ℕ) → readingRefusal l ≡ 0 → (formed l ≡ true) × (soundIn l ≡ true)
 unfolding readingRefusal
-passed l e = both-pass (formed l) (soundIn l) e
+passed l e =
+    either (formed l)
+    (λ f. either (soundIn l) (λ s. (f, s)) (λ s. absurd (omega (arith, simp (f, s) at e))))
+    (λ f. either (soundIn l) (λ s. absurd (omega (arith, simp (f, s) at e)))
+    (λ s. absurd (omega (arith, simp (f, s) at e))))
 
 accepted : (l : List ℕ) → readingOf l .refusal ≡ 0 → Accepted l
 unfolding readingOf
