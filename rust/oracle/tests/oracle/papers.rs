@@ -1,6 +1,8 @@
-//! The tables of registers in docs/CONTRACT.md and docs/BOARD.md are those of the Rust, and the manual's worked example
-//! is what a run gives.
+//! The tables of registers in docs/CONTRACT.md and docs/BOARD.md are those of the Rust, the manual's table of an image is
+//! that of the oracle's images, and its worked example is what a run gives.
 
+use oracle::board::Board;
+use oracle::image::image_of;
 use oracle::registers::{self, channel, of_channel};
 
 use crate::originals::TIMING;
@@ -137,4 +139,21 @@ fn the_manuals_worked_example_is_what_a_run_gives() {
         .map(|line| format!("{}\n", line.trim()))
         .collect();
     assert_eq!(printed(&calls), listing);
+}
+
+#[test]
+fn the_manuals_image_is_the_oracles() {
+    let text = paper("BOARD.md");
+    let image = image_of(&Board::fresh().fields());
+    let mut at = 0;
+    for row in rows(&section(&text, "## Parked boards")) {
+        let [from, tag, _, length] = row[..] else {
+            panic!("{row:?} has four cells")
+        };
+        let size = usize::from(u16::from_be_bytes([image[at + 1], image[at + 2]]));
+        assert_eq!([from, tag], [at.to_string(), format!("{:02X}", image[at])]);
+        assert_eq!(length, size.to_string());
+        at += 3 + size;
+    }
+    assert_eq!(at, image.len());
 }
