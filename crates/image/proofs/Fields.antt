@@ -36,7 +36,7 @@ use Rattle.image.specs.Image.{
   fieldsBytes,
   imageOf,
 }
-use Rattle.image.specs.CodeTables.{channelsBytes}
+use Rattle.image.specs.CodeTables.{channels, channelsBytes, clockAt, latchesAt, controllerAt}
 use Rattle.image.specs.Words.{CountWord, LatchWords}
 
 -- ---- four elements
@@ -90,10 +90,7 @@ timers-count : (ts : List HardwareTimer) → length (map timerMembers ts) ≡ le
 timers-count [] = refl
 timers-count (t ∷ ts) = ap suc (timers-count ts)
 
--- the channels' fields, and those behind them
-abbrev channels : List Field
-channels = channelField ∷ channelField ∷ channelField ∷ channelField ∷ []
-
+-- the fields behind the channels'
 abbrev others : List Field
 others = clockField ∷ latchesField ∷ controllerField ∷ []
 
@@ -128,21 +125,21 @@ channels-stored ts four x y z u v e f g h =
 -- the image: the channels' fields, and the three behind them
 pub image-stored : (b : Board) → length (b .timers) ≡ 4 → (x y z u v : List ℕ) →
     y ≡ sets x 0 (channelsBytes (b .timers)) →
-    z ≡ sets y 152 (fieldBytes clockField (clockMembers (b .«timer_enable») (b .clock))) →
-    u ≡ sets z 227 (fieldBytes latchesField (latchesMembers (b .latches))) →
-    v ≡ sets u 260 (fieldBytes controllerField (controllerMembers (b .controller))) → v ≡ sets x 0 (imageOf b)
+    z ≡ sets y clockAt (fieldBytes clockField (clockMembers (b .«timer_enable») (b .clock))) →
+    u ≡ sets z latchesAt (fieldBytes latchesField (latchesMembers (b .latches))) →
+    v ≡ sets u controllerAt (fieldBytes controllerField (controllerMembers (b .controller))) → v ≡ sets x 0 (imageOf b)
 unfolding imageOf fieldsBytes
 image-stored b four x y z u v e f g h =
     let k = fieldBytes clockField (clockMembers (b .«timer_enable») (b .clock)) in
     let l = fieldBytes latchesField (latchesMembers (b .latches)) in
     let q = fieldBytes controllerField (controllerMembers (b .controller)) in
     let rest = k ++ (l ++ (q ++ [])) in
-    let last : v ≡ sets u 260 (q ++ []) = h ∙ ap (sets u 260) (sym (append-nil q)) in
-    let behind : v ≡ sets y 152 rest =
-    stored-then y z v 152 227 75 k (l ++ (q ++ [])) f (field-length clockField _) refl
-    (stored-then z u v 227 260 33 l (q ++ []) g (field-length latchesField _) refl last) in
+    let last : v ≡ sets u controllerAt (q ++ []) = h ∙ ap (sets u controllerAt) (sym (append-nil q)) in
+    let behind : v ≡ sets y clockAt rest =
+    stored-then y z v clockAt latchesAt 75 k (l ++ (q ++ [])) f (field-length clockField _) refl
+    (stored-then z u v latchesAt controllerAt 33 l (q ++ []) g (field-length latchesField _) refl last) in
     let whole : v ≡ sets x 0 (channelsBytes (b .timers) ++ rest) =
-    stored-then x y v 0 152 152 (channelsBytes (b .timers)) rest e
+    stored-then x y v 0 clockAt clockAt (channelsBytes (b .timers)) rest e
     (fields-length channels (map timerMembers (b .timers))) refl behind in
     whole
     ∙ ap (sets x 0)
@@ -171,15 +168,15 @@ pub latches-stored : (cs : List CountLatch) → length cs ≡ 4 → (low high : 
     a3 ≡ held cs 2 → (v3 ≡ valued cs 2) × (v3 < 2 ^ 32) → a4 ≡ held cs 3 → (v4 ≡ valued cs 3) × (v4 < 2 ^ 32) →
     a5 ≡ flagOf (heldOf low) → (v5 ≡ heldValue low) × (v5 < 2 ^ 32) →
     a6 ≡ flagOf (heldOf high) → (v6 ≡ heldValue high) × (v6 < 2 ^ 32) →
-    y ≡ sets x 227 (fieldBytes latchesField
+    y ≡ sets x latchesAt (fieldBytes latchesField
     (a1 ∷ v1 ∷ a2 ∷ v2 ∷ a3 ∷ v3 ∷ a4 ∷ v4 ∷ a5 ∷ v5 ∷ a6 ∷ v6 ∷ [])) →
-    (y ≡ sets x 227 (fieldBytes latchesField (latchesMembers (record { counts = cs; low = low; high = high }))))
+    (y ≡ sets x latchesAt (fieldBytes latchesField (latchesMembers (record { counts = cs; low = low; high = high }))))
     × LatchWords (record { counts = cs; low = low; high = high })
 latches-stored cs four low high x y h1 w1 h2 w2 h3 w3 h4 w4 h5 w5 h6 w6 e = (
   rw (h1, w1 .0, h2, w2 .0, h3, w3 .0, h4, w4 .0, h5, w5 .0, h6, w6 .0) at e
       ∙ ap
       (λ (xs : List CountLatch).
-      sets x 227 (fieldBytes latchesField (latchesMembers (record { counts = xs; low = low; high = high }))))
+      sets x latchesAt (fieldBytes latchesField (latchesMembers (record { counts = xs; low = low; high = high }))))
       (sym (four-is none cs four)),
   record {
     four = four;

@@ -1,12 +1,24 @@
--- Not sentences of S-1 but what the code goes by: its tables of widths, and the channels' fields together.
-use Prim.Native.Nat.{ℕ, _<_}
+-- Not sentences of S-1 but what the code goes by: its tables of widths, the channels' fields together, and where the
+-- others begin.
+use Prim.Native.Nat.{ℕ, _+_, _<_}
 use mathlib.Core.Path.{_≡_}
 use mathlib.Core.List.{List, [], _∷_, map}
 use mathlib.Core.Bool.{Bool, true, _&&_}
 use lib.ListN.{length}
 use lib.Dec.{leb}
 use Rattle.channel.specs.declared.HardwareTimer.{HardwareTimer}
-use Rattle.image.specs.Image.{channelField, timerMembers, fieldsBytes}
+use Rattle.format.specs.Format.{headerLength, membersAt}
+use Rattle.image.specs.Image.{
+  Field,
+  widthsOf,
+  channelField,
+  clockField,
+  latchesField,
+  fieldLength,
+  fieldsLength,
+  timerMembers,
+  fieldsBytes,
+}
 
 -- no width is above eight
 abbrev pub upToEight : List ℕ → Bool
@@ -20,6 +32,22 @@ pub record Laid (ws ms : List ℕ) : Type 0 where
   pub few : length ws < 256
 
 -- the fields of the four channels
+abbrev pub channels : List Field
+channels = channelField ∷ channelField ∷ channelField ∷ channelField ∷ []
+
 abbrev pub channelsBytes : List HardwareTimer → List ℕ
-channelsBytes ts =
-    fieldsBytes (channelField ∷ channelField ∷ channelField ∷ channelField ∷ []) (map timerMembers ts)
+channelsBytes ts = fieldsBytes channels (map timerMembers ts)
+
+-- where the fields behind them begin
+abbrev pub clockAt : ℕ
+clockAt = fieldsLength channels
+
+abbrev pub latchesAt : ℕ
+latchesAt = clockAt + fieldLength clockField
+
+abbrev pub controllerAt : ℕ
+controllerAt = latchesAt + fieldLength latchesField
+
+-- the members of a field that begins at an index
+abbrev pub membersIn : Field → List ℕ → ℕ → List ℕ
+membersIn f l at = membersAt l (at + headerLength) (widthsOf (f .members))

@@ -7,10 +7,10 @@ ghost use Rattle.wide.specs.Bits.{flagOf};
 ghost use Rattle.format.specs.Format.{sum, membersBytes, recordOf};
 ghost use Rattle.board.specs.Loops.{All};
 ghost use Rattle.board.specs.Board.{BoardFits, heldOf, heldValue};
-ghost use Rattle.image.specs.CodeTables.{Laid, channelsBytes};
+ghost use Rattle.image.specs.CodeTables.{Laid, channelsBytes, clockAt, latchesAt, controllerAt};
 ghost use Rattle.image.specs.Image.{channelField, clockField, latchesField, controllerField, imageLength};
 ghost use Rattle.image.specs.Image.{timerMembers, clockMembers, latchesMembers, controllerMembers};
-ghost use Rattle.image.specs.Image.{fieldBytes, imageOf};
+ghost use Rattle.image.specs.Image.{fieldLength, fieldBytes, imageOf};
 ghost use Rattle.image.specs.Words.{TimerWords, ClockWords, LatchWords, ControllerWords, BoardWords};
 use crate::CHANNEL_LENGTH;
 use crate::CHANNEL_SIZE;
@@ -72,7 +72,7 @@ fn flag(value: bool) -> u64
 }
 
 fn put_channel(buf: &mut [u8], at: usize, timer: HardwareTimer)
-    requires { ⌜ at + 38 ≤ length (now buf) ⌝ }
+    requires { ⌜ at + fieldLength channelField ≤ length (now buf) ⌝ }
     ensures { λ _. ⌜ now (buf .exit) ≡ sets (now (buf .entry)) at (fieldBytes channelField (timerMembers timer)) ⌝ }
     ensures { λ _. ⌜ TimerWords timer ⌝ }
 {
@@ -97,9 +97,9 @@ fn put_channel(buf: &mut [u8], at: usize, timer: HardwareTimer)
 }
 
 fn put_clock(buf: &mut [u8], timer_enable: u8, clock: Clock)
-    requires { ⌜ 227 ≤ length (now buf) ⌝ }
+    requires { ⌜ latchesAt ≤ length (now buf) ⌝ }
     ensures { λ _. ⌜ now (buf .exit)
-        ≡ sets (now (buf .entry)) 152 (fieldBytes clockField (clockMembers «timer_enable» clock)) ⌝ }
+        ≡ sets (now (buf .entry)) clockAt (fieldBytes clockField (clockMembers «timer_enable» clock)) ⌝ }
     ensures { λ _. ⌜ ClockWords clock ⌝ }
 {
     let members = [
@@ -153,8 +153,8 @@ fn value(latch: Latch) -> u64
 }
 
 fn put_latches(buf: &mut [u8], counts: [CountLatch; 4], low: Latch, high: Latch)
-    requires { ⌜ 260 ≤ length (now buf) ⌝ }
-    ensures { λ _. ⌜ now (buf .exit) ≡ sets (now (buf .entry)) 227
+    requires { ⌜ controllerAt ≤ length (now buf) ⌝ }
+    ensures { λ _. ⌜ now (buf .exit) ≡ sets (now (buf .entry)) latchesAt
         (fieldBytes latchesField (latchesMembers (record { counts = counts; low = low; high = high }))) ⌝ }
     ensures { λ _. ⌜ LatchWords (record { counts = counts; low = low; high = high }) ⌝ }
 {
@@ -191,9 +191,9 @@ fn put_latches(buf: &mut [u8], counts: [CountLatch; 4], low: Latch, high: Latch)
 }
 
 fn put_controller(buf: &mut [u8], controller: IrqController)
-    requires { ⌜ 269 ≤ length (now buf) ⌝ }
+    requires { ⌜ imageLength ≤ length (now buf) ⌝ }
     ensures { λ _. ⌜ now (buf .exit)
-        ≡ sets (now (buf .entry)) 260 (fieldBytes controllerField (controllerMembers controller)) ⌝ }
+        ≡ sets (now (buf .entry)) controllerAt (fieldBytes controllerField (controllerMembers controller)) ⌝ }
     ensures { λ _. ⌜ ControllerWords controller ⌝ }
 {
     let members = [
@@ -212,7 +212,7 @@ fn put_controller(buf: &mut [u8], controller: IrqController)
 }
 
 fn put_channels(buf: &mut [u8], timers: [HardwareTimer; 4])
-    requires { ⌜ 152 ≤ length (now buf) ⌝ }
+    requires { ⌜ clockAt ≤ length (now buf) ⌝ }
     ensures { λ _. ⌜ now (buf .exit) ≡ sets (now (buf .entry)) 0 (channelsBytes timers) ⌝ }
     ensures { λ _. ⌜ (length timers ≡ 4) × All TimerWords timers ⌝ }
 {

@@ -7,10 +7,10 @@ ghost use lib.ListN.{length, getD};
 ghost use lib.Dec.{eqb};
 ghost use Rattle.wide.specs.Fields.{beAt};
 ghost use Rattle.format.specs.Format.{sum, membersAt};
-ghost use Rattle.image.specs.CodeTables.{Laid};
+ghost use Rattle.image.specs.CodeTables.{Laid, clockAt, latchesAt, controllerAt, membersIn};
 ghost use Rattle.parking.specs.CodeReads.{heldFlags, sixHold0};
 ghost use Rattle.image.specs.Image.{channelField, clockField, latchesField, controllerField, imageLength};
-ghost use Rattle.image.specs.Image.{widthsOf, layout, formed, fieldAt, membersFrom, flagIs};
+ghost use Rattle.image.specs.Image.{fieldLength, layout, formed, fieldAt, membersFrom, flagIs};
 ghost use Rattle.image.specs.Image.{timerFrom, clockFrom, latchFrom, latchesFrom, emptiesHold0, controllerFrom};
 ghost use Rattle.parking.specs.Parking.{boardIn};
 use board::Board;
@@ -103,9 +103,9 @@ fn has_header(image: &[u8], at: usize, tag: u8, size: usize) -> bool
 }
 
 fn channel_at(image: &[u8], at: usize) -> ChannelSaid
-    requires { ⌜ at + 38 ≤ length (now image) ⌝ }
+    requires { ⌜ at + fieldLength channelField ≤ length (now image) ⌝ }
     ensures { λ r. ⌜ (r .formed ≡ fieldAt (now (image .entry)) at channelField)
-        × (r .timer ≡ timerFrom (membersAt (now (image .entry)) (at + 3) (widthsOf (channelField .members)))) ⌝ }
+        × (r .timer ≡ timerFrom (membersIn channelField (now (image .entry)) at)) ⌝ }
 {
     let mut members = [0u64; 8];
     get_members(image, at + HEADER_LENGTH, &CHANNEL_WIDTHS, &mut members);
@@ -127,10 +127,10 @@ fn channel_at(image: &[u8], at: usize) -> ChannelSaid
 }
 
 fn clock_in(image: &[u8]) -> ClockSaid
-    requires { ⌜ 227 ≤ length (now image) ⌝ }
-    ensures { λ r. ⌜ (r .formed ≡ fieldAt (now (image .entry)) 152 clockField)
-        × ((r .«timer_enable» ≡ getD (membersAt (now (image .entry)) 155 (widthsOf (clockField .members))) 0 0)
-        × (r .clock ≡ clockFrom (membersAt (now (image .entry)) 155 (widthsOf (clockField .members))))) ⌝ }
+    requires { ⌜ latchesAt ≤ length (now image) ⌝ }
+    ensures { λ r. ⌜ (r .formed ≡ fieldAt (now (image .entry)) clockAt clockField)
+        × ((r .«timer_enable» ≡ getD (membersIn clockField (now (image .entry)) clockAt) 0 0)
+        × (r .clock ≡ clockFrom (membersIn clockField (now (image .entry)) clockAt))) ⌝ }
 {
     let mut members = [0u64; 18];
     get_members(image, CLOCK_AT + HEADER_LENGTH, &CLOCK_WIDTHS, &mut members);
@@ -222,11 +222,11 @@ fn empties_hold_0(members: &[u64]) -> bool
 }
 
 fn latches_in(image: &[u8]) -> LatchesSaid
-    requires { ⌜ 260 ≤ length (now image) ⌝ }
-    ensures { λ r. ⌜ (r .formed ≡ fieldAt (now (image .entry)) 227 latchesField)
+    requires { ⌜ controllerAt ≤ length (now image) ⌝ }
+    ensures { λ r. ⌜ (r .formed ≡ fieldAt (now (image .entry)) latchesAt latchesField)
         × ((r .«empties_hold_0»
-        ≡ emptiesHold0 (membersAt (now (image .entry)) 230 (widthsOf (latchesField .members))))
-        × (r .latches ≡ latchesFrom (membersAt (now (image .entry)) 230 (widthsOf (latchesField .members))))) ⌝ }
+        ≡ emptiesHold0 (membersIn latchesField (now (image .entry)) latchesAt))
+        × (r .latches ≡ latchesFrom (membersIn latchesField (now (image .entry)) latchesAt))) ⌝ }
 {
     let mut members = [0u64; 12];
     get_members(
@@ -262,10 +262,10 @@ fn latches_in(image: &[u8]) -> LatchesSaid
 }
 
 fn controller_in(image: &[u8]) -> ControllerSaid
-    requires { ⌜ 269 ≤ length (now image) ⌝ }
-    ensures { λ r. ⌜ (r .formed ≡ fieldAt (now (image .entry)) 260 controllerField)
+    requires { ⌜ imageLength ≤ length (now image) ⌝ }
+    ensures { λ r. ⌜ (r .formed ≡ fieldAt (now (image .entry)) controllerAt controllerField)
         × (r .controller
-        ≡ controllerFrom (membersAt (now (image .entry)) 263 (widthsOf (controllerField .members)))) ⌝ }
+        ≡ controllerFrom (membersIn controllerField (now (image .entry)) controllerAt)) ⌝ }
 {
     let mut members = [0u64; 3];
     get_members(
