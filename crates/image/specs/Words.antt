@@ -1,5 +1,5 @@
--- What the types of a machine board and of a host time say: each field is a number of its width, and there are four
--- channels and four latches of counts. The rules are over natural numbers, and an image has room for these alone.
+-- What the types of a machine board say: each field is a number of its width, and there are four channels and four
+-- latches of counts. The rules are over natural numbers, and an image has room for these alone.
 use Prim.Native.Nat.{_^_, _<_}
 use mathlib.Core.Path.{_≡_}
 use lib.ListN.{length}
@@ -12,7 +12,6 @@ use Rattle.board.specs.declared.Latches.{Latches}
 use Rattle.board.specs.declared.Board.{Board}
 use Rattle.board.specs.Loops.{All}
 use Rattle.board.specs.Board.{BoardFits, heldValue}
-use Rattle.board.specs.Demand.{DemandCall, advance, hostTime}
 
 -- the words of a channel that `BoardFits` leaves out; a sound one's control and phase follow
 pub record TimerWords (h : HardwareTimer) : Type 0 where
@@ -47,8 +46,3 @@ pub record BoardWords (b : Board) : Type 0 where
   pub clock : ClockWords (b .clock)
   pub latches : LatchWords (b .latches)
   pub controller : ControllerWords (b .controller)
-
--- what the type of a host time says: its seconds are a word
-abbrev pub HostWord : DemandCall → Type 0
-HostWord (advance c) = Unit {0}
-HostWord (hostTime h) = h .seconds < 2 ^ 64

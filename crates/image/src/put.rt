@@ -36,6 +36,7 @@ use clock::Clock;
 use controller::IrqController;
 use format::HEADER_LENGTH;
 use wide::fields;
+use wide::flags::flag;
 
 // Members one behind another, each in its width.
 fn put_members(buf: &mut [u8], at: usize, widths: &[usize], members: &[u64])
@@ -65,12 +66,6 @@ fn put_field(buf: &mut [u8], at: usize, tag: u8, size: usize, widths: &[usize], 
     put_members(buf, at + HEADER_LENGTH, widths, members);
 }
 
-fn flag(value: bool) -> u64
-    ensures { λ r. ⌜ r ≡ flagOf value ⌝ }
-{
-    if value { 1 } else { 0 }
-}
-
 fn put_channel(buf: &mut [u8], at: usize, timer: HardwareTimer)
     requires { ⌜ at + fieldLength channelField ≤ length (now buf) ⌝ }
     ensures { λ _. ⌜ now (buf .exit) ≡ sets (now (buf .entry)) at (fieldBytes channelField (timerMembers timer)) ⌝ }
@@ -83,8 +78,8 @@ fn put_channel(buf: &mut [u8], at: usize, timer: HardwareTimer)
         timer.reload,
         timer.prescaler as u64,
         timer.phase as u64,
-        flag(timer.pending),
-        flag(timer.armed),
+        flag(timer.pending) as u64,
+        flag(timer.armed) as u64,
     ];
     put_field(
         buf,
@@ -107,13 +102,13 @@ fn put_clock(buf: &mut [u8], timer_enable: u8, clock: Clock)
         clock.control as u64,
         clock.seconds,
         clock.subsecond as u64,
-        flag(clock.offset.negative),
+        flag(clock.offset.negative) as u64,
         clock.offset.seconds,
         clock.offset.nanoseconds as u64,
         clock.alarm.enable as u64,
         clock.alarm.seconds,
-        flag(clock.alarm.pending),
-        flag(clock.alarm.armed),
+        flag(clock.alarm.pending) as u64,
+        flag(clock.alarm.armed) as u64,
         clock.shadow.value,
         clock.shadow.mask as u64,
         clock.poll as u64,

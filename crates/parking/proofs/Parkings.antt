@@ -72,5 +72,5 @@ parking-demand-3 b w s low o calls cs =
   where
     P : ℕ → Board → Type 0
     P t end =
-        PromiseAfter (isPresent (exactDeadline b)) (orZero (exactDeadline b)) (orZero (wordDeadline (exactDeadline b))) b
-        t end
+        PromiseAfter (isPresent (exactDeadline b)) (orZero (exactDeadline b)) (orZero (wordDeadline (exactDeadline b)))
+        b t end

@@ -61,7 +61,8 @@ use Rattle.board.specs.Calls.{
 use Rattle.board.specs.Demand.{DemandCall, advance, hostTime, after}
 use Rattle.board.proofs.Loops.{map-all}
 use Rattle.board.proofs.Steps.{Good, advance-step}
-use Rattle.image.specs.Words.{TimerWords, ClockWords, LatchWords, ControllerWords, BoardWords, HostWord}
+use Rattle.image.specs.Words.{TimerWords, ClockWords, LatchWords, ControllerWords, BoardWords}
+use Rattle.parking.specs.Demand.{HostWord}
 
 -- ---- the fresh board: everything is zero, or one
 
@@ -259,14 +260,6 @@ module _ (c : ℕ) (b : Board) where
   advance-words g w =
       all-words (advancedBoard c b) (advance-step c b g .good .fits)
       (wired-others (movedBoard c b) (moved-others (other-words b w)))
-
-  -- before source 3 is set
-  pub moved-words : Good b → BoardWords b → BoardWords (movedBoard c b)
-  unfolding advancedBoard wired
-  moved-words g w =
-      let f = advance-step c b g .good .fits in
-      all-words (movedBoard c b) (record { four = f .four; timers = f .timers; clock = f .clock })
-      (moved-others (other-words b w))
 
 -- ---- a host time
 

@@ -1,6 +1,6 @@
 -- S-1: 'Demand 3 holds too where the board is written and read back between calls of the list.' The lists of the
 -- deadline's promise with parkings among their calls.
-use Prim.Native.Nat.{ℕ, _+_}
+use Prim.Native.Nat.{ℕ, _+_, _^_, _<_}
 use mathlib.Core.Path.{_≡_}
 use mathlib.Core.Bool.{Bool, true, false, cond}
 use mathlib.Core.List.{List, [], _∷_}
@@ -9,10 +9,9 @@ use Rattle.clock.specs.Clock.{fromHost}
 use Rattle.board.specs.declared.Board.{Board}
 use Rattle.board.specs.Loops.{All}
 use Rattle.board.specs.Board.{line, sound}
-use Rattle.board.specs.Demand.{DemandCall, after, adds, PromiseAfter}
+use Rattle.board.specs.Demand.{DemandCall, advance, hostTime, after, adds, PromiseAfter}
 use Rattle.image.specs.Image.{imageLength, imageOf}
 use Rattle.parking.specs.Parking.{writingOf, readingOf}
-use Rattle.image.specs.Words.{HostWord}
 
 -- a board is written, and what was written is read back; one that is refused comes back as it was given
 unfoldable pub parkedAndRead : Board → Board
@@ -40,6 +39,11 @@ afterParkings (a ∷ calls) b = afterParkings calls (afterParking a b)
 unfoldable pub totalParkings : List ParkingCall → Board → ℕ
 totalParkings [] b = 0
 totalParkings (a ∷ calls) b = addsParking a b + totalParkings calls (afterParking a b)
+
+-- what the type of a host time says: its seconds are a word
+abbrev pub HostWord : DemandCall → Type 0
+HostWord (advance c) = Unit {0}
+HostWord (hostTime h) = h .seconds < 2 ^ 64
 
 -- what the types say of such a call
 abbrev pub CallWords : ParkingCall → Type 0

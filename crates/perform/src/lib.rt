@@ -5,7 +5,6 @@ ghost use mathlib.Core.Bool.{true};
 ghost use Prim.Native.Nat.{_+_, _≤_};
 ghost use lib.ListN.{length};
 ghost use lib.Seq.{sets};
-ghost use Rattle.wide.specs.Bits.{flagOf};
 ghost use Rattle.wide.specs.Fields.{beAt};
 ghost use Rattle.board.specs.Board.{sound};
 ghost use Rattle.board.specs.Calls.{deadlineCall};
@@ -25,6 +24,7 @@ use controller::SourceNumber;
 use format::Answer;
 use offsets::Registers;
 use wide::fields;
+use wide::flags::flag;
 
 // What a call changes that changes host time or the controller at most, and its answer.
 pub struct Effect {
@@ -39,12 +39,6 @@ pub struct Front {
     pub refusal: u8,
     pub length: usize,
     pub size: usize,
-}
-
-fn flag(value: bool) -> u8
-    ensures { λ r. ⌜ r ≡ flagOf value ⌝ }
-{
-    if value { 1 } else { 0 }
 }
 
 // ---- the fields of a call

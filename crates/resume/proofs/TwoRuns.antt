@@ -8,6 +8,7 @@ use lib.ListN.{length, getD}
 use borrow.Author.Tests.{eq-eqb}
 use Rattle.wide.proofs.Choices.{either}
 use Rattle.board.specs.declared.Board.{Board}
+use Rattle.board.specs.Fields.{freshBoard}
 use Rattle.board.specs.Board.{sound}
 use Rattle.board.proofs.Soundness.{facts-sound}
 use Rattle.board.proofs.Steps.{good}
@@ -17,6 +18,7 @@ use Rattle.parking.specs.Parking.{readingRefusal, readingOf}
 use Rattle.image.specs.Words.{BoardWords}
 use Rattle.parking.specs.Demand.{parkedAndRead}
 use Rattle.parking.proofs.RoundTrip.{read-back, accepted-words}
+use Rattle.parking.proofs.Words.{fresh-words}
 use Rattle.parking.proofs.Parkings.{parked-back}
 use Rattle.list.specs.Run.{Run, runOf}
 use Rattle.list.proofs.TwoParts.{joined, run-keeps, two-parts}
@@ -53,6 +55,15 @@ module _ (b : Board) (w : BoardWords b) (l m : List ℕ) (room : ℕ) (bytes : (
   -- what the image of its board says is its board
   pub left-back : readingOf (imageOf (First .outcome .board)) ≡ record { board = First .outcome .board; refusal = 0 }
   left-back = read-back (First .outcome .board) left-sound left-words
+
+-- from a fresh board, for every list
+pub fresh-in-parts : (l m : List ℕ) (room : ℕ) → ((i : ℕ) → getD l i 0 < 256) →
+    runOf freshBoard l room .outcome .refusal ≡ 0 →
+    runOf freshBoard (l ++ m) room
+    ≡ joined (runOf freshBoard l room)
+    (runOf (parkedAndRead (runOf freshBoard l room .outcome .board)) m
+    (room - length (runOf freshBoard l room .answers)))
+fresh-in-parts l m room bytes z = parked-between freshBoard fresh-words l m room bytes z
 
 -- the image that a run over a parked board leaves
 image-left : (image l : List ℕ) (room : ℕ) → readingRefusal image ≡ 0 →

@@ -22,6 +22,13 @@ pub fn same(a: bool, b: bool) -> bool
     if a { b } else { !b }
 }
 
+// A flag as a number.
+pub fn flag(value: bool) -> u8
+    ensures { λ r. ⌜ r ≡ flagOf value ⌝ }
+{
+    if value { 1 } else { 0 }
+}
+
 // Two flags as a number: the first its bit 0, the second its bit 1.
 pub fn pair(first: bool, second: bool) -> u32
     ensures { λ r. ⌜ r ≡ flagOf first + 2 * flagOf second ⌝ }

@@ -18,8 +18,14 @@ cast-t8 c = search needs
 flag-requires : tie.Need-flag-requires
 flag-requires c κs = search needs
 
+cast-t10 : tie.Need-cast-t10
+cast-t10 c = search needs
+
 flag-requires-2 : tie.Need-flag-requires-2
 flag-requires-2 c κs = search needs
+
+cast-t12 : tie.Need-cast-t12
+cast-t12 c = search needs
 
 slice-aggregate-put-field : tie.Need-slice-aggregate-put-field
 slice-aggregate-put-field c = search needs
@@ -41,7 +47,10 @@ returns c =
     let at-flag2 = c .before .before .before .before .before .before in
     let at-flag = at-flag2 .before in
     let start = at-flag .before .before .before .before .before in (
-      rw (at-flag .flag .ensures, at-flag2 .flag2 .ensures) at (c .before .before .put-field .ensures),
+      rw (
+        at-flag .flag .ensures,
+        at-flag2 .flag2 .ensures,
+      ) at (c .before .before .put-field .ensures),
       record { reload = omega (arith, start .good); prescaler = omega (arith, start .good) },
     )
 
@@ -53,7 +62,9 @@ put-channel-spec =
     cast-t7
     cast-t8
     flag-requires
+    cast-t10
     flag-requires-2
+    cast-t12
     slice-aggregate-put-field
     slice-aggregate-put-field-2
     put-field-requires

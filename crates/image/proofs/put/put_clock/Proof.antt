@@ -21,25 +21,34 @@ cast-t10 c = search needs
 cast-t11 : tie.Need-cast-t11
 cast-t11 c = search needs
 
+cast-t12 : tie.Need-cast-t12
+cast-t12 c = search needs
+
 flag-requires-2 : tie.Need-flag-requires-2
 flag-requires-2 c κs = search needs
-
-flag-requires-3 : tie.Need-flag-requires-3
-flag-requires-3 c κs = search needs
 
 cast-t14 : tie.Need-cast-t14
 cast-t14 c = search needs
 
-cast-t15 : tie.Need-cast-t15
-cast-t15 c = search needs
+flag-requires-3 : tie.Need-flag-requires-3
+flag-requires-3 c κs = search needs
 
 cast-t16 : tie.Need-cast-t16
-cast-t16 c =
+cast-t16 c = search needs
+
+cast-t17 : tie.Need-cast-t17
+cast-t17 c = search needs
+
+cast-t18 : tie.Need-cast-t18
+cast-t18 c = search needs
+
+cast-t19 : tie.Need-cast-t19
+cast-t19 c =
     let start = c .before .before .before .before .before .before .before .before .before .before .before in
     omega (arith, start .good)
 
-cast-t17 : tie.Need-cast-t17
-cast-t17 c =
+cast-t20 : tie.Need-cast-t20
+cast-t20 c =
     let start = c .before .before .before .before .before .before .before .before .before .before .before .before in
     omega (arith, start .good)
 
@@ -51,8 +60,8 @@ slice-aggregate-put-field-2 c = search needs
 
 put-field-requires : tie.Need-put-field-requires
 put-field-requires c κs =
-    let between-0 = c .before .before .before .before .before .before .before .before .before .before .before .before in
-    let start = between-0 .before .before .before in
+    let middle = c .before .before .before .before .before .before .before .before .before .before .before .before in
+    let start = middle .before .before .before in
     (record { most = refl; same = refl; few = omega arith }, (refl, omega (arith, start .pre)))
 
 same-length : tie.Need-same-length
@@ -82,12 +91,15 @@ put-clock-spec =
     flag-requires
     cast-t10
     cast-t11
+    cast-t12
     flag-requires-2
-    flag-requires-3
     cast-t14
-    cast-t15
+    flag-requires-3
     cast-t16
     cast-t17
+    cast-t18
+    cast-t19
+    cast-t20
     slice-aggregate-put-field
     slice-aggregate-put-field-2
     put-field-requires

@@ -64,8 +64,8 @@ slice-aggregate-put-field-2 c = search needs
 
 put-field-requires : tie.Need-put-field-requires
 put-field-requires c κs =
-    let between-0 = c .before .before .before .before .before .before .before .before .before .before .before .before in
-    let start = between-0 .before .before .before .before .before .before .before .before in
+    let middle = c .before .before .before .before .before .before .before .before .before .before .before .before in
+    let start = middle .before .before .before .before .before .before .before .before in
     (record { most = refl; same = refl; few = omega arith }, (refl, omega (arith, start .pre)))
 
 same-length : tie.Need-same-length
