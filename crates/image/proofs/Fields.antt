@@ -1,9 +1,9 @@
 -- The fields of an image one behind another: their lengths, and how they are stored. Assumes nothing.
-use Prim.Native.Nat.{ℕ, suc, _+_, _^_, _<_}
+use Prim.Native.Nat.{ℕ, _+_, _^_, _<_}
 use native.Mathlib.Omega.{arith}
 use mathlib.Core.Path.{_≡_, refl, sym, ap, ap₂, _∙_, subst}
 use mathlib.Core.List.{List, [], _∷_, _++_, map, append-assoc, append-nil}
-use lib.ListN.{length, getD, length-append}
+use lib.ListN.{length, getD, length-append, length-map}
 use lib.Seq.{sets}
 use Rattle.format.specs.Format.{membersBytes}
 use Rattle.format.proofs.Frames.{sets-then, record-length, members-length}
@@ -86,10 +86,6 @@ fields-append (f ∷ fs) gs (ms ∷ mss) nss e =
     ap (λ (l : List ℕ). fieldBytes f ms ++ l) (fields-append fs gs mss nss (omega (arith, e)))
     ∙ sym (append-assoc (fieldBytes f ms) (fieldsBytes fs mss) (fieldsBytes gs nss))
 
-timers-count : (ts : List HardwareTimer) → length (map timerMembers ts) ≡ length ts
-timers-count [] = refl
-timers-count (t ∷ ts) = ap suc (timers-count ts)
-
 -- the fields behind the channels'
 abbrev others : List Field
 others = clockField ∷ latchesField ∷ controllerField ∷ []
@@ -144,7 +140,7 @@ image-stored b four x y z u v e f g h =
     whole
     ∙ ap (sets x 0)
     (sym (fields-append channels others (map timerMembers (b .timers)) (otherMembers b)
-    (timers-count (b .timers) ∙ four)))
+    (length-map (b .timers) timerMembers ∙ four)))
 
 -- ---- the latches' field
 

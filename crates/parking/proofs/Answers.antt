@@ -2,7 +2,7 @@
 use Prim.Native.Nat.{ℕ, _≤_}
 use native.Mathlib.Omega.{arith}
 use mathlib.Core.Path.{_≡_, refl, sym, ap, _∙_}
-use mathlib.Core.Bool.{Bool, true, false, not, _&&_, and-true, and-false, and-assoc}
+use mathlib.Core.Bool.{Bool, true, false, _&&_, and-true, and-false, and-assoc}
 use mathlib.Core.List.{List, [], _++_}
 use lib.ListN.{length, getD, drop}
 use lib.Seq.{sets}
@@ -81,10 +81,6 @@ module _ (l : List ℕ) where
       )
 
 -- ---- a reading
-
-pub not-is : (v w : Bool) → not v ≡ w → v ≡ not w
-not-is true w e = ap not e
-not-is false w e = ap not e
 
 -- soundness by the code's tests
 pub sound-in : (l : List ℕ) (v s r : Bool) (b : Board) →

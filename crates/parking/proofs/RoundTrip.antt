@@ -12,6 +12,7 @@ use Rattle.wide.proofs.Choices.{either, and-parts, and-join}
 use Rattle.board.specs.declared.Board.{Board}
 use Rattle.board.specs.Fields.{freshBoard}
 use Rattle.board.specs.Board.{sound}
+use Rattle.parking.specs.declared.Reading.{Reading}
 use Rattle.image.specs.Image.{
   layout,
   imageLength,
@@ -41,6 +42,11 @@ use Rattle.parking.proofs.BoardMembers.{
   board-back,
   board-empties,
 }
+
+-- the refusal of a reading
+pub refusal-is : (l : List ℕ) (r : Reading) → r ≡ readingOf l → r .refusal ≡ readingRefusal l
+unfolding readingOf
+refusal-is l r e = ap (λ (x : Reading). x .refusal) e
 
 -- ---- written and read back
 

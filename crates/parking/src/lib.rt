@@ -14,7 +14,7 @@ use wide::flags::both;
 mod get;
 
 // Refusals, by their numbers; 1, a board that is not sound, is the board's.
-pub const BUFFER_SHORT: u8 = 11;
+pub const BUFFER_SHORT: u8 = format::ANSWER_TOO_LONG;
 
 pub const IMAGE_MALFORMED: u8 = 12;
 

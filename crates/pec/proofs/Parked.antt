@@ -6,8 +6,7 @@ use lib.ListN.{length}
 use Rattle.board.specs.declared.Board.{Board}
 use Rattle.board.specs.Fields.{freshBoard}
 use Rattle.parking.specs.declared.Writing.{Writing}
-use Rattle.parking.specs.declared.Reading.{Reading}
-use Rattle.parking.specs.Parking.{writingOf, bufferAfter, readingRefusal, readingOf}
+use Rattle.parking.specs.Parking.{writingOf, bufferAfter}
 use Rattle.resume.specs.declared.Resumed.{Resumed}
 
 pub parked-fresh : (b : Board) (r : Writing) (old new : List ℕ) → b ≡ freshBoard → r ≡ writingOf b (length old) →
@@ -19,10 +18,6 @@ parked-fresh b r old new e f g =
       ap (λ (x : Writing). x .refusal) w,
       (g ∙ ap (λ (x : Board). bufferAfter x old) e, ap (λ (x : Writing). x .written) w),
     )
-
-pub refusal-of-reading : (l : List ℕ) (r : Reading) → r ≡ readingOf l → r .refusal ≡ readingRefusal l
-unfolding readingOf
-refusal-of-reading l r e = ap (λ (x : Reading). x .refusal) e
 
 -- a run over a parked board: its refusal, the image, the answers, and its counts
 pub parked-run : {P Q : Type 0} (r s : Resumed) → r ≡ s → P → Q →

@@ -14,17 +14,12 @@ use Rattle.board.proofs.Steps.{good}
 use Rattle.parking.specs.declared.Reading.{Reading}
 use Rattle.image.specs.Image.{imageLength, imageOf}
 use Rattle.parking.specs.Parking.{bufferAfter, readingRefusal, readingOf}
-use Rattle.parking.proofs.RoundTrip.{accepted-sound, accepted-words, accepted-long}
+use Rattle.parking.proofs.RoundTrip.{refusal-is, accepted-sound, accepted-words, accepted-long}
 use Rattle.list.specs.declared.Outcome.{Outcome}
 use Rattle.list.specs.Run.{runOf, over}
 use Rattle.resume.specs.declared.Resumed.{Resumed}
 use Rattle.resume.specs.Resumed.{runParked, resumedOf, imageAfter, answersAfter}
 use Rattle.resume.proofs.RunWords.{run-sound}
-
--- the refusal of a reading
-refusal-is : (l : List ℕ) (r : Reading) → r ≡ readingOf l → r .refusal ≡ readingRefusal l
-unfolding readingOf
-refusal-is l r e = ap (λ (x : Reading). x .refusal) e
 
 -- nothing done, with a refusal
 abbrev nothing : ℕ → Resumed

@@ -69,8 +69,8 @@ impl Board {
     /// Runs a list over the board. The buffer then holds the answers of the calls done, from its first byte, and after
     /// them its old bytes. A refusal stops the run, and the calls before it stand.
     ///
-    /// A list that is cut between two calls, and of which the first part is not refused, leaves the same board in two
-    /// runs as in one, and gives the same answers, one after the other.
+    /// A list can be cut between two calls and run in two parts, the second into the rest of the buffer. Where the first
+    /// part is not refused, they leave the same board as one run, and give the same answers, one after the other.
     pub fn run(&mut self, list: &[u8], answers: &mut [u8]) -> Outcome {
         run_parked(&mut self.image, list, answers)
     }

@@ -1,7 +1,6 @@
 -- `read` meets its contract. Assumes nothing.
 use Rattle.parking.proofs.Answers.{
   formed-not,
-  not-is,
   reading-malformed,
   reading-unsound,
   reading-accepted,
@@ -10,6 +9,7 @@ use Rattle.parking.proofs.Answers.{
 use Rattle.board.specs.declared.Board.{Board}
 use mathlib.Core.Path.{sym, ap, _∙_}
 use borrow.Author.Needs.{needs}
+use borrow.Author.Tests.{not-true, not-false}
 use Rattle.parking.proofs.read.Statement.{statement}
 use Rattle.parking.proofs.read.Tie as tie
 
@@ -29,7 +29,7 @@ returns-2 : tie.Need-returns-2
 returns-2 c =
     let at-board-in = c .before .before .before in
     c .refused2 .ensures
-    ∙ reading-malformed _ (sym (at-board-in .board-in .ensures .0) ∙ not-is _ _ (c .before .if2 .taken))
+    ∙ reading-malformed _ (sym (at-board-in .board-in .ensures .0) ∙ not-true _ (c .before .if2 .taken))
 
 sound-requires : tie.Need-sound-requires
 sound-requires c κs = search needs
@@ -45,7 +45,7 @@ returns-3 c =
     let at-if2 = c .before .before .before .before in
     let at-board-in = at-if2 .before .before in
     let said = at-board-in .board-in .ensures in
-    let f = sym (said .0) ∙ not-is _ _ (at-if2 .if2 .left) in
+    let f = sym (said .0) ∙ not-false _ (at-if2 .if2 .left) in
     let s =
     sound-in _ _ _ _ _ (said .1 .0) (said .1 .1) (c .before .before .sound .ensures .0)
     (c .before .both .ensures) in
@@ -58,7 +58,7 @@ returns-4 c =
     let at-if2 = at-sound .before .before in
     let at-board-in = at-if2 .before .before in
     let said = at-board-in .board-in .ensures in
-    let f = sym (said .0) ∙ not-is _ _ (at-if2 .if2 .left) in
+    let f = sym (said .0) ∙ not-false _ (at-if2 .if2 .left) in
     let s =
     sound-in _ _ _ _ _ (said .1 .0) (said .1 .1) (at-sound .sound .ensures .0)
     (c .before .before .both .ensures) in

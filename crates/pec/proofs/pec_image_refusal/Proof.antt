@@ -1,5 +1,5 @@
 -- `pec_image_refusal` meets its contract. Assumes nothing.
-use Rattle.pec.proofs.Parked.{refusal-of-reading}
+use Rattle.parking.proofs.RoundTrip.{refusal-is}
 use borrow.Author.Needs.{needs}
 use Rattle.pec.proofs.pec_image_refusal.Statement.{statement}
 use Rattle.pec.proofs.pec_image_refusal.Tie as tie
@@ -8,7 +8,7 @@ read-requires : tie.Need-read-requires
 read-requires c κs = search needs
 
 returns : tie.Need-returns
-returns c = refusal-of-reading _ _ (c .read .ensures)
+returns c = refusal-is _ _ (c .read .ensures)
 
 pub pec-image-refusal-spec : {M : Type 1} → statement M
 pec-image-refusal-spec = tie.close (tie.spec read-requires returns)
