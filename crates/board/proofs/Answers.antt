@@ -5,9 +5,11 @@ use mathlib.Core.Path.{_≡_, refl, sym, ap, _∙_}
 use mathlib.Core.Bool.{Bool, true, false, cond, false≢true}
 use mathlib.Core.Option.{Option, none, some}
 use mathlib.Core.List.{[]}
-use lib.Dec.{eqb}
+use lib.Dec.{leb, ltb, eqb}
+use borrow.Author.Tests.{leb-true, leb-false, lt-ltb, le-ltb, eqb-true}
 use Rattle.wide.specs.declared.number.Wide.{Wide}
 use Rattle.wide.specs.Number.{valueOf, wideOf, largest}
+use Rattle.wide.proofs.Choices.{either}
 use Rattle.wide.proofs.Forms.{wide-value, flag-back}
 use Rattle.board.specs.declared.Board.{Board}
 use Rattle.board.specs.declared.calls.DeadlineAnswer.{DeadlineAnswer}
@@ -27,6 +29,9 @@ use Rattle.board.specs.Calls.{
   advanceCall,
   deadlineCall,
   skipLength,
+  deadlineTooLarge,
+  lengthRefusal,
+  skipRefusal,
   skipCall,
 }
 use Rattle.board.specs.CodeCalls.{deadlineGiven, passingOf}
@@ -51,6 +56,11 @@ module _ (call : Board → Call) (b : Board) where
       answerOf call b ≡ record { board = b; refusal = n; members = [] }
   unfolding answerOf
   answer-refused n e f = rw (← e, f)
+
+  pub answered-refusal : answerOf call b .refusal ≡ refusalOf b (call b .refusal)
+  unfolding answerOf
+  answered-refusal =
+      either (eqb (refusalOf b (call b .refusal)) 0) (λ e. rw e (sym (eqb-true _ 0 e))) (λ e. rw e)
 
   pub answer-accepted : refusalOf b (call b .refusal) ≡ 0 →
       answerOf call b ≡ record { board = boardAfter (call b); refusal = 0; members = call b .members }
@@ -102,34 +112,71 @@ module _ (b : Board) (low : line b ≡ false) where
   pub skips-none : exactDeadline b ≡ none → passingOf none ≡ passingOf (skipLength b)
   skips-none e = rw (low, e)
 
-  pub skips-some : (d n : ℕ) → exactDeadline b ≡ some d → n ≡ min d largest →
-      passingOf (some n) ≡ passingOf (skipLength b)
-  skips-some d n e m = rw (low, e, m)
+  module _ (d : ℕ) (e : exactDeadline b ≡ some d) where
+    pub skips-some : leb d largest ≡ true → (n : ℕ) → n ≡ min d largest →
+        record { refusal = 0; made = true; cycles = record { 0 = n } } ≡ passingOf (skipLength b)
+    skips-some l n m =
+        let h = leb-true d largest l in
+        let k : n ≡ d = omega arith in
+        rw (low, e, le-ltb largest d h, k)
+
+    pub skips-far : leb d largest ≡ false →
+        record { refusal = deadlineTooLarge; made = false; cycles = record { 0 = 0 } } ≡ passingOf (skipLength b)
+    skips-far l = rw (low, e, lt-ltb largest d (leb-false d largest l))
 
 pub skips-high : (b : Board) → line b ≡ true → passingOf none ≡ passingOf (skipLength b)
 skips-high b h = rw h
 
 -- the advance that the code makes of an optional number
-pub passing-some : (o : Option ℕ) (p : Passing) → p ≡ passingOf o → p .made ≡ true → o ≡ some (p .cycles .0)
-passing-some none p e m = absurd (false≢true (sym (ap (λ (q : Passing). q .made) e) ∙ m))
-passing-some (some n) p e m = rw e
+module _ (p : Passing) where
+  pub passing-refusal : (o : Option ℕ) → p ≡ passingOf o → p .refusal ≡ lengthRefusal o
+  passing-refusal none e = rw e
+  passing-refusal (some d) e = either (ltb largest d) (λ h. rw (e, h)) (λ h. rw (e, h))
 
-pub passing-none : (o : Option ℕ) (p : Passing) → p ≡ passingOf o → p .made ≡ false → (o ≡ none) × (p ≡ passingOf none)
-passing-none none p e m = (refl, e)
-passing-none (some n) p e m = absurd (false≢true (sym m ∙ ap (λ (q : Passing). q .made) e))
+  pub passing-some : (o : Option ℕ) → p ≡ passingOf o → p .made ≡ true → o ≡ some (p .cycles .0)
+  passing-some none e m = absurd (false≢true (sym (ap (λ (q : Passing). q .made) e) ∙ m))
+  passing-some (some d) e m =
+      either (ltb largest d)
+      (λ h. absurd (false≢true (sym (ap (λ (q : Passing). q .made) (rw h at e)) ∙ m)))
+      (λ h. rw (e, h))
 
-module _ (b : Board) (z : refusalOf b 0 ≡ 0) (p : Passing) (e : p ≡ passingOf (skipLength b)) where
-  pub skip-moves : p .made ≡ true → (y : Board) (v : Bool) → y ≡ advancedBoard (p .cycles .0) b → v ≡ line y →
-      record { board = y; refusal = 0; passed = p .cycles; line = v } ≡ skipAnswer (answerOf skipCall b)
-  unfolding advancedBoard
-  skip-moves m y v f g =
-      let n = p .cycles .0 in
-      let k : skipLength b ≡ some n = passing-some (skipLength b) p e m in
-      let h : v ≡ line (movedBoard n b) = g ∙ ap line f ∙ wired-line (movedBoard n b) in
-      rw (answer-accepted skipCall b z, k, flag-back, f, h)
+  pub passing-none : (o : Option ℕ) → p ≡ passingOf o → p .refusal ≡ 0 → p .made ≡ false →
+      (o ≡ none) × (p ≡ passingOf none)
+  passing-none none e z m = (refl, e)
+  passing-none (some d) e z m =
+      either (ltb largest d)
+      (λ h. let n : _≡_ {A = ℕ} 13 0 = sym (ap (λ (q : Passing). q .refusal) (rw h at e)) ∙ z in absurd (omega arith))
+      (λ h. absurd (false≢true (sym m ∙ ap (λ (q : Passing). q .made) (rw h at e))))
 
-  pub skip-stays : p .made ≡ false → (v : Bool) → v ≡ line b →
-      record { board = b; refusal = 0; passed = p .cycles; line = v } ≡ skipAnswer (answerOf skipCall b)
-  skip-stays m v g =
-      let k = passing-none (skipLength b) p e m in
-      rw (answer-accepted skipCall b z, k .0, k .1, flag-back, wired-sound b (accepted-sound b 0 z), g)
+-- what is refused, unsound or by its own refusal n
+pub skip-unsound : (b : Board) → sound b ≡ false →
+    record { board = b; refusal = 1; passed = record { 0 = 0 }; line = false } ≡ skipAnswer (answerOf skipCall b)
+skip-unsound b s = ap skipAnswer (sym (answer-refused skipCall b 1 (rw s) refl))
+
+module _ (b : Board) (s : sound b ≡ true) (p : Passing) (e : p ≡ passingOf (skipLength b)) where
+  own-is : p .refusal ≡ refusalOf b (skipRefusal b)
+  own-is = rw s (passing-refusal p (skipLength b) e)
+
+  pub skip-refuses : eqb (p .refusal) 0 ≡ false →
+      record { board = b; refusal = p .refusal; passed = record { 0 = 0 }; line = false }
+      ≡ skipAnswer (answerOf skipCall b)
+  skip-refuses f = ap skipAnswer (sym (answer-refused skipCall b (p .refusal) own-is f))
+
+  module _ (z : p .refusal ≡ 0) where
+    accepted : refusalOf b (skipCall b .refusal) ≡ 0
+    accepted = sym own-is ∙ z
+
+    pub skip-moves : p .made ≡ true → (y : Board) (v : Bool) → y ≡ advancedBoard (p .cycles .0) b → v ≡ line y →
+        record { board = y; refusal = 0; passed = p .cycles; line = v } ≡ skipAnswer (answerOf skipCall b)
+    unfolding advancedBoard
+    skip-moves m y v f g =
+        let n = p .cycles .0 in
+        let k : skipLength b ≡ some n = passing-some p (skipLength b) e m in
+        let h : v ≡ line (movedBoard n b) = g ∙ ap line f ∙ wired-line (movedBoard n b) in
+        rw (answer-accepted skipCall b accepted, k, flag-back, f, h)
+
+    pub skip-stays : p .made ≡ false → (v : Bool) → v ≡ line b →
+        record { board = b; refusal = 0; passed = p .cycles; line = v } ≡ skipAnswer (answerOf skipCall b)
+    skip-stays m v g =
+        let k = passing-none p (skipLength b) e z m in
+        rw (answer-accepted skipCall b accepted, k .0, k .1, flag-back, wired-sound b s, g)

@@ -1,6 +1,6 @@
 -- What a contract quotes of the deadline. Each theorem is about a sound machine board whose line is low and whose clock
 -- does not run from host time: first where its deadline is d, last where it gives none. Assumes nothing.
-use Prim.Native.Nat.{ℕ, _+_, _-_, _≤_, _<_, min}
+use Prim.Native.Nat.{ℕ, _+_, _-_, _≤_, _<_}
 use native.Mathlib.Omega.{arith}
 use mathlib.Core.Path.{_≡_, sym, ap, _∙_}
 use mathlib.Core.Bool.{true, false, _||_, or-false, or-true}
@@ -8,19 +8,16 @@ use mathlib.Core.Option.{Option, none, some}
 use mathlib.Core.List.{List}
 use lib.Dec.{leb}
 use borrow.Author.Tests.{le-leb, lt-leb}
-use Rattle.wide.specs.Number.{largest}
 use Rattle.wide.specs.Deadline.{due}
 use Rattle.wide.proofs.Choices.{leb-same}
 use Rattle.wide.proofs.Deadlines.{due-is}
-use Rattle.wide.proofs.Forms.{flag-back}
 use Rattle.clock.specs.Clock.{fromHost}
 use Rattle.board.specs.declared.Board.{Board}
-use Rattle.board.specs.Board.{BoardFits, line, exactDeadline, wired, sound}
-use Rattle.board.specs.Calls.{answerOf, refusalOf, skipAnswer, movedBoard, advancedBoard, skipCall, skipLength}
+use Rattle.board.specs.Board.{BoardFits, line, exactDeadline, sound}
+use Rattle.board.specs.Calls.{advancedBoard}
 use Rattle.board.specs.Demand.{DemandCall, afterAll, total, source3}
-use Rattle.board.proofs.Steps.{good, boardDue, line-due, wired-line, advance-step}
+use Rattle.board.proofs.Steps.{good, boardDue, line-due, advance-step}
 use Rattle.board.proofs.Demand3.{line-after, source-after}
-use Rattle.board.proofs.Answers.{answer-accepted}
 
 module _ (b : Board) (f : BoardFits b) (s : sound b ≡ true) (low : line b ≡ false)
     (o : fromHost (b .clock .control) ≡ false)
@@ -72,20 +69,6 @@ module _ (b : Board) (f : BoardFits b) (s : sound b ≡ true) (low : line b ≡ 
       (λ t. sym (ap (λ v. v || due (exactDeadline (advancedBoard c b)) t) (advance-reaches c ∙ lt-leb d c l))
       ∙ due-after c t
       ∙ leb-same d (c + t) (d - c) t (λ p. omega arith) (λ p. omega arith))
-
-  -- a skip with D at most 2^64 − 1 passes D and ends with the line high, and any smaller advance would not have
-  pub skip-reaches : d ≤ largest →
-      (skipAnswer (answerOf skipCall b) .passed .0 ≡ d) × (skipAnswer (answerOf skipCall b) .line ≡ true)
-      × (line (answerOf skipCall b .board) ≡ true) × ((c : ℕ) → c < d → line (advancedBoard c b) ≡ false)
-  unfolding advancedBoard
-  skip-reaches l =
-      let m : min d largest ≡ d = omega arith in
-      let high : line (wired (movedBoard d b)) ≡ true = advance-reaches d ∙ le-leb d d (omega arith) in
-      let v : line (movedBoard d b) ≡ true = sym (wired-line (movedBoard d b)) ∙ high in
-      let by : skipLength b ≡ some d = rw (low, given, m) in
-      let z : refusalOf b 0 ≡ 0 = rw s in
-      let a = answer-accepted skipCall b z in
-      (rw (a, by), rw (a, by, flag-back) v, rw (a, by) high, λ c k. advance-reaches c ∙ lt-leb d c k)
 
 -- where it gives no deadline
 module _ (b : Board) (f : BoardFits b) (s : sound b ≡ true) (low : line b ≡ false)

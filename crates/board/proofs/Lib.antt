@@ -7,4 +7,5 @@ pub mod Demand3
 pub mod Answers
 pub mod Kept
 pub mod Corollaries
+pub mod Skips
 pub mod Hypotheses

@@ -1,10 +1,10 @@
 -- One call on a sound board: it stays sound, what is due moves by the cycles that the call adds, and source 3 is
 -- latched by a rise of the line. Assumes nothing.
 use Prim.Native.Nat.{ℕ, _+_, _<_}
-use native.Mathlib.Nat.{zero-add}
+use native.Mathlib.Nat.{zero-add, add-zero}
 use native.Mathlib.Omega.{arith}
 use mathlib.Core.Path.{_≡_, refl, sym, ap, ap₂, _∙_}
-use mathlib.Core.Bool.{Bool, true, false, not, _&&_, _||_, and-not-self}
+use mathlib.Core.Bool.{Bool, true, false, not, _&&_, _||_, and-not-self, or-true, false≢true}
 use lib.Dec.{leb}
 use borrow.Author.Tests.{leb-false}
 use Rattle.wide.specs.Bits.{bit}
@@ -24,7 +24,13 @@ use Rattle.clock.proofs.Soundness.{
   advance-sound,
   host-sound,
 }
-use Rattle.clock.proofs.Law.{advance-due as clock-advance-due, advance-own, host-due, line-due as clock-line-due}
+use Rattle.clock.proofs.Law.{
+  advance-due as clock-advance-due,
+  advance-own,
+  host-due,
+  due-host,
+  line-due as clock-line-due,
+}
 use Rattle.controller.proofs.Laws.{level-set, pending-set}
 use Rattle.channel.specs.Prescaler.{advanced}
 use Rattle.board.specs.declared.Board.{Board}
@@ -159,6 +165,37 @@ module _ (c : ℕ) (b : Board) (g : Good b) where
             ∙ ap (λ v. (line moved && not v) || source3 b) (g .facts .level)
             ∙ ap (λ v. (v && not (line b)) || source3 b) (sym (wired-line moved));
       }
+
+  -- what is due of a low line is high after the advance, whatever the clock runs from: from host time it has no
+  -- deadline of its own, so that the channels are due
+  pub advance-rises : line b ≡ false → due (exactDeadline b) c ≡ true → line (advancedBoard c b) ≡ true
+  unfolding advancedBoard movedBoard line boardDue
+  advance-rises low d =
+      either (fromHost (b .clock .control))
+      (λ h. wired-line moved
+      ∙ ap (λ v. v || clockLine (moved .clock)) (channels-line-due e 0 (moved .timers)
+      (channels-fits e c 0 (b .timers) (g .fits .timers))
+      (channels-sound e c 0 (b .timers) (g .fits .timers) (g .facts .timers))
+      ∙ channels-advance-due e c 0 (b .timers) (g .fits .timers) (g .facts .timers) 0
+      ∙ from-channels h))
+      (λ o. line-due (wired moved) (advance-step .good) ∙ advance-step .due o 0 ∙ rw (low, add-zero) d)
+    where
+      e : ℕ
+      e = b .«timer_enable»
+
+      -- a low line, high by the first of two parts
+      first : (x y z : Bool) → (z || y) ≡ false → (x || y) ≡ true → x ≡ true
+      first true y z l t = refl
+      first false true true l t = absurd (false≢true (sym l))
+      first false true false l t = absurd (false≢true (sym l))
+      first false false z l t = absurd (false≢true t)
+
+      from-channels : fromHost (b .clock .control) ≡ true → channelsDue e 0 (b .timers) (c + 0) ≡ true
+      from-channels h =
+          rw add-zero
+          (first (channelsDue e 0 (b .timers) c) (clockLine (b .clock)) (anyLine (b .timers)) low
+          (ap (λ v. channelsDue e 0 (b .timers) c || v) (sym (due-host (rateOf (b .clock)) (b .clock) c h))
+          ∙ sym (due-parts b c) ∙ ap (λ v. line b || v) d ∙ or-true (line b)))
 
 module _ (h : HostTime) (b : Board) (small : h .nanoseconds < nanosPerSecond) (g : Good b) where
   abbrev hosted : Board

@@ -8,7 +8,7 @@ use mathlib.Core.List.{List, [], _∷_}
 use lib.ListN.{getD}
 use lib.Dec.{leb, ltb, eqb}
 use Rattle.wide.specs.Bits.{flagOf}
-use Rattle.wide.specs.Number.{wideOf}
+use Rattle.wide.specs.Number.{wideOf, largest}
 use Rattle.clock.specs.declared.HostTime.{HostTime}
 use Rattle.clock.specs.Clock.{rateOf, nanosPerSecond, advanceClock}
 use Rattle.clock.specs.Fields.{withHost}
@@ -152,10 +152,23 @@ deadlineCall b =
 
 -- ---- 06 skip. Skip is document 01's term
 
--- 'with the line high or no D, it makes no advance, changes nothing and passes 0; else advances once by
--- min(D, 2^64 − 1) and passes that': the cycles of its advance, or none
+-- 'with the line high or no D, it makes no advance, changes nothing and passes 0'; else it advances once by D and passes
+-- that: the cycles of its advance, or none
 abbrev pub skipLength : Board → Option ℕ
-skipLength b = cond (line b) none (wordDeadline (exactDeadline b))
+skipLength b = cond (line b) none (exactDeadline b)
+
+abbrev pub deadlineTooLarge : ℕ
+deadlineTooLarge = 13
+
+-- the refusal of an advance by so many cycles: more than 2^64 − 1 do not go into one
+abbrev pub lengthRefusal : Option ℕ → ℕ
+lengthRefusal none = 0
+lengthRefusal (some d) = cond (ltb largest d) deadlineTooLarge 0
+
+-- S-2: 'A skip with the line low whose D is above 2^64 − 1 is now refused'; '13, D too large for one skip'. This refusal
+-- depends on the board
+abbrev pub skipRefusal : Board → ℕ
+skipRefusal b = lengthRefusal (skipLength b)
 
 abbrev pub movedBy : Option ℕ → Board → Board
 movedBy none b = b
@@ -164,7 +177,7 @@ movedBy (some n) b = movedBoard n b
 abbrev pub skipCall : Board → Call
 skipCall b =
     record {
-      refusal = 0;
+      refusal = skipRefusal b;
       board = movedBy (skipLength b) b;
       members = orZero (skipLength b) ∷ flagOf (line (movedBy (skipLength b) b)) ∷ [];
     }

@@ -1,9 +1,11 @@
 -- What is promised of the deadline: of a sound board with its line low and its clock not running from host time,
--- after any list of advances and host-time calls, the line and source 3 by the deadline that the board gave.
+-- after any list of advances and host-time calls, the line and source 3 by the deadline that the board gave. And what
+-- is promised of a skip.
 use Prim.Native.Nat.{ℕ, _+_, _≤_, min}
 use mathlib.Core.Path.{_≡_}
 use mathlib.Core.Logic.{_↔_, _⊎_}
 use mathlib.Core.Bool.{Bool, true, false, cond}
+use mathlib.Core.Option.{some}
 use mathlib.Core.List.{List, [], _∷_}
 use lib.Dec.{eqb}
 use Rattle.wide.specs.Bits.{bit}
@@ -11,7 +13,8 @@ use Rattle.wide.specs.Number.{largest}
 use Rattle.clock.specs.declared.HostTime.{HostTime}
 use Rattle.clock.specs.Clock.{fromHost}
 use Rattle.board.specs.declared.Board.{Board}
-use Rattle.board.specs.Board.{line, sound}
+use Rattle.board.specs.declared.calls.SkipAnswer.{SkipAnswer}
+use Rattle.board.specs.Board.{line, exactDeadline, sound}
 use Rattle.board.specs.Calls.{answerOf, advanceCall, hostTimeCall}
 
 -- a call of the promise's lists: an advance, or a host-time call
@@ -65,3 +68,12 @@ abbrev pub Promise : Board → Bool → ℕ → ℕ → Type 0
 Promise b present d word =
     sound b ≡ true → line b ≡ false → fromHost (b .clock .control) ≡ false →
     (calls : List DemandCall) → PromiseAfter present d word b (total calls b) (afterAll calls b)
+
+-- ---- skip
+
+-- S-2: 'every accepted skip with a D ends with the line high', whatever the clock runs from, and where the line was low
+-- it passes D: of the board that is skipped on and the answer
+abbrev pub SkipPromise : Board → SkipAnswer → Type 0
+SkipPromise b r =
+    r .refusal ≡ 0 → (d : ℕ) → exactDeadline b ≡ some d →
+    (r .line ≡ true) × (line (r .board) ≡ true) × (line b ≡ false → r .passed .0 ≡ d)

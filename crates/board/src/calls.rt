@@ -1,7 +1,7 @@
 // The direct calls but read and write. Each tests soundness first, then its own refusal, and a refused call returns the
 // board given.
 ghost use mathlib.Core.Path.{_≡_};
-ghost use mathlib.Core.Bool.{true};
+ghost use mathlib.Core.Bool.{true, false};
 ghost use Rattle.wide.specs.Number.{valueOf};
 ghost use Rattle.board.specs.Board.{BoardFits, sound, exactDeadline};
 ghost use Rattle.board.specs.Calls.{refusalOf, answerOf, emptyAnswer, byteAnswer, advanceAnswer};
@@ -10,7 +10,7 @@ ghost use Rattle.board.specs.Calls.{advancedBoard, advanceCall, deadline
 ghost use Rattle.board.specs.Calls.{sourceRefusal, sourceCall, controllerReadCall, controllerWriteCall};
 ghost use Rattle.board.specs.Calls.{outputCall};
 ghost use Rattle.board.specs.CodeCalls.{deadlineGiven, passingOf};
-ghost use Rattle.board.specs.Demand.{Promise};
+ghost use Rattle.board.specs.Demand.{Promise, SkipPromise};
 use crate::Board;
 use crate::channels::advance_all;
 use channel::Cycles;
@@ -68,8 +68,10 @@ pub struct DeadlineMembers {
     pub word: Cycles,
 }
 
-// Whether an advance is made, and its cycles, 0 where none is.
+// An advance that may be refused or not made: its refusal, 0 for none; whether it is made, and its cycles, 0 where it is
+// not.
 pub struct Passing {
+    pub refusal: u8,
     pub made: bool,
     pub cycles: Cycles,
 }
@@ -85,6 +87,9 @@ impl Board {
     pub const SOURCE_OF_LINE: u8 = 9;
 
     pub const LEVEL_TOO_LARGE: u8 = 10;
+
+    // The refusal of a skip, by the number of S-2.
+    pub const DEADLINE_TOO_LARGE: u8 = 13;
 
     // ---- what a call computes of a sound board
 
@@ -121,29 +126,27 @@ impl Board {
         }
     }
 
-    // The advance that a skip makes: to the interrupt or as far as a word reaches; with the line high or no deadline,
-    // none. The level of source 3 is the line.
+    // The advance that a skip makes: to the interrupt; with the line high or no deadline, none. It is refused where the
+    // deadline is more than a word. The level of source 3 is the line.
     pub fn skip_length(self) -> Passing
         requires { ⌜ sound self ≡ true ⌝ }
         ensures { λ r. ⌜ r ≡ passingOf (skipLength self) ⌝ }
     {
         let controller = self.controller;
         if controller::level_of(controller, Self::LINE_SOURCE) {
-            return Passing {
-                made: false,
-                cycles: Cycles(0),
-            };
+            return passing_none(0);
         }
         let Deadline::At(exact) = self.exact_deadline() else {
-            return Passing {
-                made: false,
-                cycles: Cycles(0),
-            };
+            return passing_none(0);
         };
-        Passing {
-            made: true,
-            cycles: Cycles(exact.capped()),
+        if exact.at_most(Wide::from_word(u64::MAX)) {
+            return Passing {
+                refusal: 0,
+                made: true,
+                cycles: Cycles(exact.capped()),
+            };
         }
+        passing_none(Self::DEADLINE_TOO_LARGE)
     }
 
     // ---- the calls
@@ -217,19 +220,28 @@ impl Board {
         }
     }
 
+    // A skip, with what is promised of it.
     pub fn skip(self) -> SkipAnswer
         ensures { λ r. ⌜ r ≡ skipAnswer (answerOf skipCall self) ⌝ }
+        ensures { λ r. ⌜ SkipPromise self r ⌝ }
     {
-        let refusal = self.refusal_of(0);
-        if refusal != 0 {
+        if !self.sound() {
             return SkipAnswer {
                 board: self,
-                refusal,
+                refusal: Self::NOT_SOUND,
                 passed: Cycles(0),
                 line: false,
             };
         }
         let skip = self.skip_length();
+        if skip.refusal != 0 {
+            return SkipAnswer {
+                board: self,
+                refusal: skip.refusal,
+                passed: Cycles(0),
+                line: false,
+            };
+        }
         let passed = skip.cycles;
         if skip.made {
             let board = self.advanced(passed);
@@ -320,6 +332,17 @@ impl Board {
             valid: o.valid,
             number,
         }
+    }
+}
+
+// No advance, by a refusal or, where it is 0, because none is to be made.
+pub fn passing_none(refusal: u8) -> Passing
+    ensures { λ r. ⌜ r ≡ record { refusal = refusal; made = false; cycles = record { 0 = 0 } } ⌝ }
+{
+    Passing {
+        refusal,
+        made: false,
+        cycles: Cycles(0),
     }
 }
 

@@ -126,6 +126,12 @@ module _ (rate : ℕ) (k : Clock) (t : ℕ) where
   due-unmoved p =
       due-is ∙ unmoved (ownTime (k .control)) (alarmOn k) (k .alarm .armed) (k .alarm .pending) cycles t p
 
+  -- a clock that runs from host time has no deadline of its own
+  pub due-host : fromHost (k .control) ≡ true → clockDue rate k t ≡ clockLine k
+  due-host h =
+      due-unmoved
+      (either (ownTime (k .control)) (λ o. absurd (false≢true (sym (own-host (k .control) o) ∙ h))) (λ o. o))
+
   due-waiting : ownTime (k .control) ≡ true → alarmOn k ≡ true → k .alarm .armed ≡ true → k .alarm .pending ≡ false →
       k .seconds < k .alarm .seconds → k .subsecond < rate →
       clockDue rate k t ≡ leb (k .alarm .seconds) (k .seconds + (k .subsecond + t) / rate)

@@ -20,7 +20,7 @@ use Rattle.board.specs.declared.Latches.{Latches}
 use Rattle.board.specs.declared.calls.Passing.{Passing}
 use Rattle.board.specs.Fields.{withController, channelAt, withChannel}
 use Rattle.board.specs.Board.{line, wired, sound}
-use Rattle.board.specs.Calls.{boardAfter, movedBoard, deadlineCall}
+use Rattle.board.specs.Calls.{boardAfter, movedBoard, deadlineCall, skipLength}
 use Rattle.board.specs.CodeCalls.{passingOf}
 use Rattle.board.proofs.Soundness.{facts-sound}
 use Rattle.board.proofs.Steps.{good}
@@ -53,8 +53,8 @@ use Rattle.format.proofs.Frames.{framed}
 use Rattle.perform.specs.declared.Effect.{Effect}
 use Rattle.perform.specs.declared.Front.{Front}
 use Rattle.perform.specs.Calls.{callAt, refusalAt}
-use Rattle.perform.specs.CodeCalls.{FrontFound, cyclesAt, answeredBytes, Lesser, withEffect, EffectIs}
-use Rattle.perform.proofs.Calls.{read-is, write-is, deadline-is, passes, stays, other-bytes}
+use Rattle.perform.specs.CodeCalls.{FrontFound, passingAt, answeredBytes, Lesser, withEffect, EffectIs}
+use Rattle.perform.proofs.Calls.{read-is, write-is, deadline-is, Passes, passes, stays, other-bytes}
 use Rattle.list.specs.declared.Outcome.{Outcome}
 use Rattle.list.specs.Run.{Turn, done, refused, turnOf, stepped}
 use Rattle.perform.proofs.Refusals.{Clear, clear}
@@ -171,26 +171,22 @@ module _ (l : List ℕ) (b : Board) where
           (ap (λ (n : ℕ). eqb n 4) t) (ap (λ (n : ℕ). eqb n 6) t)
           (rw (g, t))
 
-    module _ (t : (tagAt l ≡ 4) ⊎ (tagAt l ≡ 6)) (p : Passing)
-        (e : p ≡ passingOf (cyclesAt (tagAt l) (argumentsOf (tagAt l) l) b)) (g : c ≡ p .cycles .0)
-        (m : moved ≡ true) where
-      pub advance-carried : p .made ≡ true → y ≡ movedBoard (p .cycles .0) b → Carried y c moved a
-      advance-carried f h =
-          let k = passes (tagAt l) (argumentsOf (tagAt l) l) b t p e f y h in
+    module _ (z : callAt l b .refusal ≡ 0) (skip : Passing) (k : tagAt l ≡ 6 → skip ≡ passingOf (skipLength b))
+        (t : (tagAt l ≡ 4) ⊎ (tagAt l ≡ 6)) (p : Passing) (e : p ≡ passingAt (tagAt l) (argumentsOf (tagAt l) l) skip)
+        (g : c ≡ p .cycles .0) (m : moved ≡ true) where
+      passed : Passes (tagAt l) (argumentsOf (tagAt l) l) b z skip k p e y → Carried y c moved a
+      passed h =
           record {
-            board = k .0;
+            board = h .0;
             still = moves moved m;
-            bytes = λ v n. rw g (k .1 v (valueBytes a) (n m));
+            bytes = λ v n. rw g (h .1 v (valueBytes a) (n m));
           }
 
+      pub advance-carried : p .made ≡ true → y ≡ movedBoard (p .cycles .0) b → Carried y c moved a
+      advance-carried f h = passed (passes (tagAt l) (argumentsOf (tagAt l) l) b z skip k p e t f y h)
+
       pub skip-carried : p .made ≡ false → y ≡ b → Carried y c moved a
-      skip-carried f h =
-          let k = stays (tagAt l) (argumentsOf (tagAt l) l) b t p e f y h in
-          record {
-            board = k .0;
-            still = moves moved m;
-            bytes = λ v n. rw g (k .1 v (valueBytes a) (n m));
-          }
+      skip-carried f h = passed (stays (tagAt l) (argumentsOf (tagAt l) l) b z skip k p e t f y h)
 
     pub deadline-carried : tagAt l ≡ 5 → y ≡ b → valueBytes a ≡ answerBytes 5 (deadlineCall b .members) → moved ≡ true →
         Carried y c moved a
@@ -241,12 +237,14 @@ pub record Found (b : Board) (l : List ℕ) (room : ℕ) (f : Front) : Type 0 wh
   pub clear : Clear b l room
   pub length : f .length ≡ 3 + valueLength (tagAt l)
   pub size : f .size ≡ answerLength (tagAt l)
+  pub skip : tagAt l ≡ 6 → f .skip ≡ passingOf (skipLength b)
 
 pub found : (b : Board) (l : List ℕ) (room : ℕ) (f : Front) → FrontFound b l room f → f .refusal ≡ 0 →
     Found b l room f
 found b l room f k z =
     let n = sym (k .0) ∙ z in
-    record { none = n; clear = clear b l room n; length = k .1 n .0; size = k .1 n .1 }
+    let parts = k .1 n in
+    record { none = n; clear = clear b l room n; length = parts .0; size = parts .1; skip = parts .2 }
 
 module _ (list buf₀ : List ℕ) (s₀ : Outcome) (buf : List ℕ) (b : Board) (calls used written : ℕ)
     (r : Running list buf₀ s₀ buf (stateOf b calls used written)) (inside : used < length list)

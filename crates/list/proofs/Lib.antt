@@ -5,3 +5,4 @@ mod Accepted
 pub mod Demand
 pub mod TwoParts
 pub mod Settings
+pub mod Skips

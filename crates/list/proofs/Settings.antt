@@ -1,5 +1,5 @@
 -- Document 01's 'Settings that a quick reading gets wrong': one table over the rules, with the readings that it calls
--- wrong and its worked run, by one computation. Assumes nothing.
+-- wrong, its worked run and skips about S-2's limit, by one computation. Assumes nothing.
 use Prim.Native.Nat.{ℕ, _+_, _-_, _^_}
 use mathlib.Core.Path.{_≡_, refl}
 use mathlib.Core.Bool.{Bool, true, false, cond, not, _&&_}
@@ -62,7 +62,7 @@ use Rattle.board.specs.declared.Board.{Board}
 use Rattle.board.specs.Loops.{mapFrom, foldFrom}
 use Rattle.board.specs.Fields.{freshBoard, withTimers, withTimerEnable, withClock}
 use Rattle.board.specs.Board.{line, exactDeadline, wired, soundParts, sound}
-use Rattle.board.specs.Calls.{boardAfter, movedBoard, advancedBoard, controllerWriteCall}
+use Rattle.board.specs.Calls.{boardAfter, answerOf, movedBoard, advancedBoard, skipCall, controllerWriteCall}
 use Rattle.board.specs.Demand.{source3}
 use Rattle.offsets.specs.Words.{timerWord, clockWord, liveWord}
 use Rattle.registers.specs.Reads.{readLive, readCountHigh, readChannel, secondsLatched, readLow, readHigh, readAt}
@@ -95,6 +95,14 @@ settingC reload = running (withReload reload (withCounter (2 ^ 64 - 3) (withComp
 
 abbrev timerD : HardwareTimer
 timerD = withFlags false true (inMode 2)
+
+-- the same timer with a compare, so many cycles away
+abbrev away : ℕ → Board
+away compare = running (withCompare compare timerD)
+
+-- a skip alone, with so much room for its answer
+skipped : ℕ → ℕ → Run
+skipped compare room = runOf (away compare) (0x06 ∷ 0x00 ∷ 0x00 ∷ []) room
 
 abbrev settingF : Board
 settingF = clocked (withAlarm (record { enable = 1; seconds = 2; pending = false; armed = true }) freshClock)
@@ -175,6 +183,21 @@ settings =
     && line (advancedBoard 1 (advancedBoard (2 ^ 64 - 1) (running timerD)))
     -- E the same, prescaler 2^32 − 1: D 2^96
     && gives (exactDeadline (running (withPrescaler (2 ^ 32 - 1) timerD))) (2 ^ 96)
+    -- S-2: a skip is accepted at D 2^64 − 1, passes that and ends with the line high; its answer has 12 bytes
+    && gives (exactDeadline (away (2 ^ 64 - 1))) (2 ^ 64 - 1)
+    && eqb (answerOf skipCall (away (2 ^ 64 - 1)) .refusal) 0
+    && line (answerOf skipCall (away (2 ^ 64 - 1)) .board)
+    && same (answerOf skipCall (away (2 ^ 64 - 1)) .members) ((2 ^ 64 - 1) ∷ 1 ∷ [])
+    && eqb (skipped (2 ^ 64 - 1) 12 .outcome .calls) 1
+    && eqb (skipped (2 ^ 64 - 1) 11 .outcome .refusal) 11
+    -- at D 2^64 it is refused with 13, in a run too, where 13 comes before 11, and nothing moves
+    && eqb (answerOf skipCall (away 0) .refusal) 13
+    && eqb (channel0 (answerOf skipCall (away 0) .board) .counter) 0
+    && same (answerOf skipCall (away 0) .members) []
+    && eqb (skipped 0 12 .outcome .refusal) 13
+    && eqb (skipped 0 11 .outcome .refusal) 13
+    && eqb (skipped 0 12 .outcome .calls) 0
+    && eqb (channel0 (skipped 0 12 .outcome .board) .counter) 0
     -- F alarm 2, armed, alarm enable 1: D 96,000,000
     && gives (exactDeadline settingF) 96_000_000
     -- G seconds 2^64 − 1: 47,999,999 cycles leave that subsecond, 48,000,000 leave 0
@@ -212,14 +235,14 @@ settings =
 
 pub settings-hold : settings ≡ true
 unfolding
-    seconds settingI settingJ lowCount steady worked gives same settings beAt be withByte enabledOf irqEnabledOf
+    skipped seconds settingI settingJ lowCount steady worked gives same settings beAt be withByte enabledOf irqEnabledOf
     disabled soundTimer lineOf advanced oneShot reloaded matched periodic distance freeRunning tickedIn ticked
     ticksToGo deadlineOf wordOf controlWritten channelWritten shifted ownNanoseconds timeOf timeSeconds alarmReached
     checkAlarm movedTime endAdvance advanceClock soundOffset soundAlarm clockParts alarmAhead soundClock
     clockDeadline signedDifference setTime timeKept changeControl writeControl marked shadowByte offsetFor
     commitSeconds writeSeconds timeNanoseconds withBit without sourceSet outputOf lowestFrom byteWritten
-    pendingCleared mapFrom foldFrom line exactDeadline wired soundParts sound movedBoard advancedBoard
-    timerWord clockWord liveWord readLive readCountHigh readChannel secondsLatched readLow
+    pendingCleared mapFrom foldFrom line exactDeadline wired soundParts sound answerOf movedBoard
+    advancedBoard timerWord clockWord liveWord readLive readCountHigh readChannel secondsLatched readLow
     readHigh readAt timerWritten clockWritten writtenAt addressRefusal membersAt
     frameRefusal membersBytes recordOf callOf refusalAt turnOf stepped runOn runOf
 settings-hold = refl

@@ -113,7 +113,7 @@ pub fn run(board: Board, list: &[u8], answers: &mut [u8]) -> Outcome
             }
             // advance and skip
             4 | 6 => {
-                let p = perform::passing(b, tag, rest);
+                let p = perform::passing(tag, rest, front.skip);
                 cycles = p.cycles;
                 if p.made {
                     let enable = b.timer_enable;

@@ -7,34 +7,38 @@ use mathlib.Core.Option.{Option, none, some}
 use mathlib.Core.List.{List}
 use mathlib.Core.Logic.{_⊎_, inl, inr}
 use lib.Dec.{eqb}
+use borrow.Author.Tests.{eq-eqb}
 use Rattle.wide.proofs.Choices.{choose}
 use Rattle.board.specs.declared.Board.{Board}
 use Rattle.board.specs.declared.calls.Passing.{Passing}
 use Rattle.board.specs.Board.{line}
-use Rattle.board.specs.Calls.{Call, isPresent, orZero, movedBoard, movedBy, skipLength, deadlineCall}
+use Rattle.board.specs.Calls.{Call, orZero, movedBoard, movedBy, skipLength, deadlineCall}
 use Rattle.board.specs.CodeCalls.{passingOf}
-use Rattle.board.proofs.Answers.{passing-some, passing-none}
+use Rattle.board.proofs.Answers.{passing-refusal, passing-some, passing-none}
 use Rattle.registers.specs.Calls.{readCall, writeCall}
 use Rattle.format.specs.Format.{answerBytes}
 use Rattle.perform.specs.Calls.{argument, callOf}
-use Rattle.perform.specs.CodeCalls.{cyclesAt, answeredBytes, Lesser}
+use Rattle.perform.specs.CodeCalls.{passingAt, answeredBytes, Lesser}
 
 -- ---- the own refusal
 
 -- the calls that have none
 pub unrefused : (tag : ℕ) (m : List ℕ) (b : Board) → eqb tag 1 ≡ false → eqb tag 2 ≡ false → eqb tag 3 ≡ false →
-    eqb tag 7 ≡ false → 0 ≡ callOf tag m b .refusal
+    eqb tag 6 ≡ false → eqb tag 7 ≡ false → 0 ≡ callOf tag m b .refusal
 unfolding callOf
-unrefused tag m b n1 n2 n3 n7 =
-    rw (n1, n2, n3, n7)
+unrefused tag m b n1 n2 n3 n6 n7 =
+    rw (n1, n2, n3, n6, n7)
     (choose P (eqb tag 4) (λ _. refl)
     (λ _. choose P (eqb tag 5) (λ _. refl)
-    (λ _. choose P (eqb tag 6) (λ _. refl)
     (λ _. choose P (eqb tag 8) (λ _. refl)
-    (λ _. choose P (eqb tag 9) (λ _. refl) (λ _. refl))))))
+    (λ _. choose P (eqb tag 9) (λ _. refl) (λ _. refl)))))
   where
     P : Call → Type 0
     P c = 0 ≡ c .refusal
+
+-- another tag is not a skip's
+pub no-skip : {P : Type 0} (tag n : ℕ) → tag ≡ n → eqb n 6 ≡ false → tag ≡ 6 → P
+no-skip tag n e f q = absurd (true≢false (sym (eq-eqb n 6 (sym e ∙ q)) ∙ f))
 
 -- ---- the calls of one tag
 
@@ -51,10 +55,10 @@ module _ (tag : ℕ) (m : List ℕ) (b : Board) where
   unfolding callOf
   deadline-is e = rw e
 
--- ---- advance and skip, by the advance p that the code makes
+-- ---- advance and skip, by the advance p that the code makes; skip is what it found of a skip
 
-module _ (tag : ℕ) (m : List ℕ) (b : Board) (t : (tag ≡ 4) ⊎ (tag ≡ 6)) (p : Passing)
-    (e : p ≡ passingOf (cyclesAt tag m b)) where
+module _ (tag : ℕ) (m : List ℕ) (b : Board) (z : callOf tag m b .refusal ≡ 0) (skip : Passing)
+    (k : tag ≡ 6 → skip ≡ passingOf (skipLength b)) (p : Passing) (e : p ≡ passingAt tag m skip) where
   -- its board and its answer, where y is the board after it
   abbrev pub Passes : Board → Type 0
   Passes y =
@@ -62,36 +66,39 @@ module _ (tag : ℕ) (m : List ℕ) (b : Board) (t : (tag ≡ 4) ⊎ (tag ≡ 6)
       × ((v : Bool) (other : List ℕ) → v ≡ line y →
       answeredBytes tag (p .cycles .0) v other ≡ answerBytes tag (callOf tag m b .members))
 
-  -- by the cycles
-  by-cycles : (u : (tag ≡ 4) ⊎ (tag ≡ 6)) (o : Option ℕ) → cyclesAt tag m b ≡ o → (c : ℕ) → c ≡ orZero o →
-      (tag ≡ 4 → isPresent o ≡ true) → (y : Board) → y ≡ movedBy o b →
-      (y ≡ callOf tag m b .board)
-      × ((v : Bool) (other : List ℕ) → v ≡ line y →
-      answeredBytes tag c v other ≡ answerBytes tag (callOf tag m b .members))
-  unfolding callOf cyclesAt answeredBytes
-  by-cycles (inl q) o f c h n y g =
-      let k : some (argument 0 m) ≡ o = rw q at f in
-      let j : y ≡ movedBoard (argument 0 m) b = g ∙ ap (λ (x : Option ℕ). movedBy x b) (sym k) in
+  four : tag ≡ 4 → p ≡ record { refusal = 0; made = true; cycles = record { 0 = argument 0 m } }
+  unfolding passingAt
+  four q = rw q at e
+
+  six : tag ≡ 6 → p ≡ passingOf (skipLength b)
+  unfolding passingAt
+  six q = let s : p ≡ skip = rw q at e in s ∙ k q
+
+  -- a skip that is not refused
+  six-accepted : tag ≡ 6 → p .refusal ≡ 0
+  unfolding callOf
+  six-accepted q = passing-refusal p (skipLength b) (six q) ∙ rw q at z
+
+  -- a skip, by its cycles
+  by-length : tag ≡ 6 → (o : Option ℕ) → skipLength b ≡ o → p .cycles .0 ≡ orZero o → (y : Board) → y ≡ movedBy o b →
+      Passes y
+  unfolding callOf answeredBytes
+  by-length q o f h y g = (rw (q, f) g, λ v other i. rw (q, f, i, h, g))
+
+  pub passes : (tag ≡ 4) ⊎ (tag ≡ 6) → p .made ≡ true → (y : Board) → y ≡ movedBoard (p .cycles .0) b → Passes y
+  unfolding callOf answeredBytes
+  passes (inl q) f y g =
+      let h = ap (λ (x : Passing). x .cycles .0) (four q) in
+      let j : y ≡ movedBoard (argument 0 m) b = g ∙ ap (λ (n : ℕ). movedBoard n b) h in
       (rw q j, λ v other i. rw (q, i, j))
-  by-cycles (inr q) o f c h n y g =
-      let k : skipLength b ≡ o = rw q at f in
-      (rw (q, k) g, λ v other i. rw (q, k, i, h, g))
+  passes (inr q) f y g =
+      by-length q (some (p .cycles .0)) (passing-some p (skipLength b) (six q) f) refl y g
 
-  -- an advance is always made
-  four : tag ≡ 4 → cyclesAt tag m b ≡ none → ⊥
-  unfolding cyclesAt
-  four q h = let k : some (argument 0 m) ≡ none = rw q at h in true≢false (ap isPresent k)
-
-  pub passes : p .made ≡ true → (y : Board) → y ≡ movedBoard (p .cycles .0) b → Passes y
-  passes f y g =
-      let o = passing-some (cyclesAt tag m b) p e f in
-      by-cycles t (some (p .cycles .0)) o (p .cycles .0) refl (λ _. refl) y g
-
-  pub stays : p .made ≡ false → (y : Board) → y ≡ b → Passes y
-  stays f y g =
-      let o = passing-none (cyclesAt tag m b) p e f in
-      by-cycles t none (o .0) (p .cycles .0) (ap (λ (q : Passing). q .cycles .0) (o .1))
-      (λ q. absurd (four q (o .0))) y g
+  pub stays : (tag ≡ 4) ⊎ (tag ≡ 6) → p .made ≡ false → (y : Board) → y ≡ b → Passes y
+  stays (inl q) f y g = absurd (true≢false (sym (ap (λ (x : Passing). x .made) (four q)) ∙ f))
+  stays (inr q) f y g =
+      let o = passing-none p (skipLength b) (six q) (six-accepted q) f in
+      by-length q none (o .0) (ap (λ (x : Passing). x .cycles .0) (o .1)) y g
 
 -- ---- the bytes of an answer that has neither cycles nor the line
 

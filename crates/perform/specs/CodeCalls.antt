@@ -4,32 +4,35 @@ use Prim.Native.Nat.{ℕ, _+_, _<_}
 use mathlib.Core.Path.{_≡_}
 use mathlib.Core.Logic.{_⊎_}
 use mathlib.Core.List.{List, [], _∷_}
-use mathlib.Core.Bool.{Bool, cond}
-use mathlib.Core.Option.{Option, some}
+use mathlib.Core.Bool.{Bool, true, cond}
 use lib.Dec.{eqb}
 use Rattle.wide.specs.Bits.{flagOf}
 use Rattle.clock.specs.declared.HostTime.{HostTime}
 use Rattle.clock.specs.Fields.{withHost}
 use Rattle.controller.specs.declared.IrqController.{IrqController}
 use Rattle.board.specs.declared.Board.{Board}
+use Rattle.board.specs.declared.calls.Passing.{Passing}
 use Rattle.board.specs.Fields.{withClock, withController}
 use Rattle.board.specs.Calls.{skipLength}
+use Rattle.board.specs.CodeCalls.{passingOf}
 use Rattle.format.specs.Format.{headerLength, valueLength, answerLength, tagAt, answerBytes, valueBytes}
 use Rattle.perform.specs.declared.Effect.{Effect}
 use Rattle.perform.specs.declared.Front.{Front}
 use Rattle.perform.specs.Calls.{argument, callOf, refusalAt}
 
 -- the call at the front, on a board and with so much room: its refusal and, where there is none, the list bytes that it
--- uses and the bytes of its answer's members
+-- uses, the bytes of its answer's members and, of a skip, its advance
 abbrev pub FrontFound : Board → List ℕ → ℕ → Front → Type 0
 FrontFound b l room f =
     (f .refusal ≡ refusalAt b l room)
     × (refusalAt b l room ≡ 0 →
-    (f .length ≡ headerLength + valueLength (tagAt l)) × (f .size ≡ answerLength (tagAt l)))
+    (f .length ≡ headerLength + valueLength (tagAt l)) × (f .size ≡ answerLength (tagAt l))
+    × (tagAt l ≡ 6 → f .skip ≡ passingOf (skipLength b)))
 
--- 04 and 06: the cycles of the advance, or none where skip makes none
-unfoldable pub cyclesAt : ℕ → List ℕ → Board → Option ℕ
-cyclesAt tag m b = cond (eqb tag 4) (some (argument 0 m)) (skipLength b)
+-- 04 and 06: the advance, by that which was found of a skip
+unfoldable pub passingAt : ℕ → List ℕ → Passing → Passing
+passingAt tag m skip =
+    cond (eqb tag 4) (record { refusal = 0; made = true; cycles = record { 0 = argument 0 m } }) skip
 
 -- the bytes of an answer, by the cycles that have passed and the line after the call, which 04 and 06 answer, and the
 -- bytes of another call's answer

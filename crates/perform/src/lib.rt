@@ -7,15 +7,16 @@ ghost use lib.ListN.{length};
 ghost use lib.Seq.{sets};
 ghost use Rattle.wide.specs.Fields.{beAt};
 ghost use Rattle.board.specs.Board.{sound};
-ghost use Rattle.board.specs.Calls.{deadlineCall};
+ghost use Rattle.board.specs.Calls.{deadlineCall, skipLength};
 ghost use Rattle.board.specs.CodeCalls.{passingOf};
 ghost use Rattle.offsets.specs.Registers.{base};
 ghost use Rattle.format.specs.Format.{valueLength, argumentsOf, answerBytes, valueBytes, recordOf};
 ghost use Rattle.perform.specs.Calls.{callOf};
-ghost use Rattle.perform.specs.CodeCalls.{FrontFound, cyclesAt, answeredBytes, Lesser, EffectIs};
+ghost use Rattle.perform.specs.CodeCalls.{FrontFound, passingAt, answeredBytes, Lesser, EffectIs};
 use board::Board;
 use board::calls::Passing;
 use board::calls::host_time_refusal;
+use board::calls::passing_none;
 use board::calls::source_refusal;
 use channel::Cycles;
 use clock::HostTime;
@@ -33,12 +34,13 @@ pub struct Effect {
     pub answer: Answer,
 }
 
-// The call at the front of what is left of a list: its refusal, 0 for none; the list bytes that it uses, and the bytes
-// of its answer's members, where it is not refused.
+// The call at the front of what is left of a list: its refusal, 0 for none; and where it is not refused the list bytes
+// that it uses, the bytes of its answer's members and, of a skip, its advance.
 pub struct Front {
     pub refusal: u8,
     pub length: usize,
     pub size: usize,
+    pub skip: Passing,
 }
 
 // ---- the fields of a call
@@ -87,17 +89,21 @@ fn host_at(rest: &[u8]) -> HostTime
 
 // ---- ahead of the call
 
-// The call's own refusal on a board, 0 for none. A refusal may look at the board, so it is asked to be sound.
-fn own_refusal(board: Board, tag: u8, rest: &[u8]) -> u8
+// The call's own refusal on a board, 0 for none, and a skip's advance. Bytes and room alone do not say whether a call is
+// refused: a skip is by the board's deadline, which is then its cycles, so its advance is found with the refusal. No
+// other call has one here.
+fn own_refusal(board: Board, tag: u8, rest: &[u8]) -> Passing
     requires { ⌜ (3 + valueLength tag ≤ length (now rest)) × (sound board ≡ true) ⌝ }
-    ensures { λ r. ⌜ r ≡ callOf tag (argumentsOf tag (now (rest .entry))) board .refusal ⌝ }
+    ensures { λ r. ⌜ r .refusal ≡ callOf tag (argumentsOf tag (now (rest .entry))) board .refusal ⌝ }
+    ensures { λ r. ⌜ (tag ≡ 6 → r ≡ passingOf (skipLength board)) ⌝ }
 {
     match tag {
-        1 => host_time_refusal(host_at(rest)),
-        2 => registers::address_refusal(address_at(rest)),
-        3 => registers::address_refusal(address_at(rest)),
-        7 => source_refusal(SourceNumber(byte_at(rest, 3)), byte_at(rest, 4)),
-        _ => 0,
+        1 => passing_none(host_time_refusal(host_at(rest))),
+        2 => passing_none(registers::address_refusal(address_at(rest))),
+        3 => passing_none(registers::address_refusal(address_at(rest))),
+        6 => board.skip_length(),
+        7 => passing_none(source_refusal(SourceNumber(byte_at(rest, 3)), byte_at(rest, 4))),
+        _ => passing_none(0),
     }
 }
 
@@ -109,6 +115,7 @@ fn refused(refusal: u8) -> Front
         refusal,
         length: 0,
         size: 0,
+        skip: passing_none(refusal),
     }
 }
 
@@ -122,8 +129,8 @@ pub fn front_of(board: Board, rest: &[u8], room: usize) -> Front
         return refused(frame.refusal);
     }
     let own = own_refusal(board, rest[0], rest);
-    if own != 0 {
-        return refused(own);
+    if own.refusal != 0 {
+        return refused(own.refusal);
     }
     if room < format::HEADER_LENGTH + frame.answer {
         return refused(format::ANSWER_TOO_LONG);
@@ -132,23 +139,25 @@ pub fn front_of(board: Board, rest: &[u8], room: usize) -> Front
         refusal: 0,
         length: format::HEADER_LENGTH + frame.value,
         size: frame.answer,
+        skip: own,
     }
 }
 
 // ---- the call
 
-// The advance that advance or skip makes.
-pub fn passing(board: Board, tag: u8, rest: &[u8]) -> Passing
-    requires { ⌜ (3 + valueLength tag ≤ length (now rest)) × (sound board ≡ true) ⌝ }
-    ensures { λ r. ⌜ r ≡ passingOf (cyclesAt tag (argumentsOf tag (now (rest .entry))) board) ⌝ }
+// The advance that advance or skip makes; that of a skip is found ahead of the call.
+pub fn passing(tag: u8, rest: &[u8], skip: Passing) -> Passing
+    requires { ⌜ 3 + valueLength tag ≤ length (now rest) ⌝ }
+    ensures { λ r. ⌜ r ≡ passingAt tag (argumentsOf tag (now (rest .entry))) skip ⌝ }
 {
     if tag == 4 {
         return Passing {
+            refusal: 0,
             made: true,
             cycles: Cycles(fields::get(rest, 3, 8)),
         };
     }
-    board.skip_length()
+    skip
 }
 
 // The answer of a call after which the line is as given. Advance and skip answer it, skip with the cycles too; another

@@ -215,6 +215,8 @@ carried c =
     let n = c .match .cycles .0 in
     let m = c .match .moved in
     let a = c .match .answer in
+    let front = frontOf (c .before .before) in
+    let k = found-at (c .before .before) in
     elim (c .match .came) [
       -- a read, without the latches and with them
       | inl w ↦ plain-carried l b s y n m a (w .1 .result) (w .1 .ensures) (w .0 .keys1)
@@ -239,11 +241,11 @@ carried c =
           ∙ channel-written l b (w .1 .result) (w .2 .result) (w .6 .result) (w .6 .ensures .0))
           (w .13 ∙ w .9 .ensures) (w .11)
       -- an advance is made, or none
-      | inr (inr (inr (inr (inr (inr (inr (inl w))))))) ↦ advance-carried l b s y n m a (w .0 .keys3) (w .1 .result)
-          (w .1 .ensures) (ap (λ (x : Cycles). x .0) (w .10)) (w .11) (w .3 .taken)
+      | inr (inr (inr (inr (inr (inr (inr (inl w))))))) ↦ advance-carried l b s y n m a (k .clear .own)
+          (front .skip) (k .skip) (w .0 .keys3) (w .1 .result) (w .1 .ensures) (ap (λ (x : Cycles). x .0) (w .10)) (w .11) (w .3 .taken)
           (w .8 ∙ all-advanced _ _ _ _ _ (w .4 .inv) (w .5 .left) refl (w .7 .result) (w .7 .ensures))
-      | inr (inr (inr (inr (inr (inr (inr (inr (inl w)))))))) ↦ skip-carried l b s y n m a (w .0 .keys3) (w .1 .result)
-          (w .1 .ensures) (ap (λ (x : Cycles). x .0) (w .6)) (w .7) (w .3 .left) (w .4)
+      | inr (inr (inr (inr (inr (inr (inr (inr (inl w)))))))) ↦ skip-carried l b s y n m a (k .clear .own)
+          (front .skip) (k .skip) (w .0 .keys3) (w .1 .result) (w .1 .ensures) (ap (λ (x : Cycles). x .0) (w .6)) (w .7) (w .3 .left) (w .4)
       -- the deadline, and the calls that change host time or the controller at most
       | inr (inr (inr (inr (inr (inr (inr (inr (inr (inl w))))))))) ↦ deadline-carried l b s y n m a (w .0 .keys4)
           (w .2)
@@ -426,10 +428,7 @@ at-control-requires c κs = channel-range _ (sym (c .before .before .before .bef
     ∙ c .before .before .before .enum-told5 .given .1)
 
 passing-requires : tie.Need-passing-requires Inv-loop2 μ-loop2 Inv-loop μ-loop
-passing-requires c κs = (
-  framed _ (found-at (c .before .before) .clear .frame) .0,
-  c .before .before .before .before .before .before .before .loop .inv .sound,
-)
+passing-requires c κs = framed _ (found-at (c .before .before) .clear .frame) .0
 
 loop2-holds : tie.Need-loop2-holds Inv-loop2 μ-loop2 Inv-loop μ-loop
 loop2-holds c =
@@ -442,8 +441,8 @@ mul-timer-2 c = omega (arith, c .loop2-test .taken)
 element-copy-out-timer-2 : tie.Need-element-copy-out-timer-2 Inv-loop2 μ-loop2 Inv-loop μ-loop
 element-copy-out-timer-2 c = c .loop2-test .taken
 
-cast-t73 : tie.Need-cast-t73 Inv-loop2 μ-loop2 Inv-loop μ-loop
-cast-t73 c = omega (arith, c .before .loop2-test .taken)
+cast-t72 : tie.Need-cast-t72 Inv-loop2 μ-loop2 Inv-loop μ-loop
+cast-t72 c = omega (arith, c .before .loop2-test .taken)
 
 selected-requires : tie.Need-selected-requires Inv-loop2 μ-loop2 Inv-loop μ-loop
 selected-requires c κs = tt
@@ -607,7 +606,7 @@ run-spec =
     loop2-holds
     mul-timer-2
     element-copy-out-timer-2
-    cast-t73
+    cast-t72
     selected-requires
     runs-requires
     advance-cycles-requires

@@ -45,44 +45,48 @@ refused-requires-2 : tie.Need-refused-requires-2
 refused-requires-2 c κs = search needs
 
 returns-2 : tie.Need-returns-2
-returns-2 c = let f = c .before .before .before .before .before .before in
+returns-2 c = let own = c .before .before .before .own-refusal in
+    let f = c .before .before .before .before .before .before .before in
     let z : frameRefusal (f .before .before .args .rest .now) ≡ 0 = sym (f .frame-of .ensures .0)
-    ∙ c .before .before .before .before .if1 .left in
+    ∙ c .before .before .before .before .before .if1 .left in
     let n = ne-eqb _ _ (c .before .if2 .taken) in
-    refused-front _ _ _ (c .refused2 .ensures) (refused-own _ _ _ z _ (c .before .before .own-refusal .ensures) n) n
+    refused-front _ _ _ (c .refused2 .ensures) (refused-own _ _ _ z _ (own .ensures .0) n) n
 
 add-if3 : tie.Need-add-if3
-add-if3 c = let f = c .before .before .before .before .before .before in
+add-if3 c = let f = c .before .before .before .before .before .before .before in
     let z : frameRefusal (f .before .before .args .rest .now) ≡ 0 = sym (f .frame-of .ensures .0)
-    ∙ c .before .before .before .before .if1 .left in
+    ∙ c .before .before .before .before .before .if1 .left in
     omega (arith, size-most (f .before .before .args .rest .now) z, f .frame-of .ensures .1 z .1)
 
 refused-requires-3 : tie.Need-refused-requires-3
 refused-requires-3 c κs = search needs
 
 returns-3 : tie.Need-returns-3
-returns-3 c = let f = c .before .before .before .before .before .before .before .before in
+returns-3 c = let own = c .before .before .before .before .before .own-refusal in
+    let f = c .before .before .before .before .before .before .before .before .before in
     let z : frameRefusal (f .before .before .args .rest .now) ≡ 0 = sym (f .frame-of .ensures .0)
-    ∙ c .before .before .before .before .before .before .if1 .left in
+    ∙ c .before .before .before .before .before .before .before .if1 .left in
     refused-front _ _ _ (c .refused3 .ensures)
-    (refused-room _ _ _ z (sym (c .before .before .before .before .own-refusal .ensures)
-    ∙ c .before .before .before .if2 .left) _ (f .frame-of .ensures .1 z .1) (c .before .if3 .taken))
+    (refused-room _ _ _ z (sym (own .ensures .0) ∙ c .before .before .before .if2 .left) _
+    (f .frame-of .ensures .1 z .1) (c .before .if3 .taken))
     refl
 
 add-t9 : tie.Need-add-t9
-add-t9 c = let f = c .before .before .before .before .before .before .before .before in
+add-t9 c = let f = c .before .before .before .before .before .before .before .before .before in
     let l = f .before .before .args .rest .now in
     let z : frameRefusal l ≡ 0 = sym (f .frame-of .ensures .0)
-    ∙ c .before .before .before .before .before .before .if1 .left in
+    ∙ c .before .before .before .before .before .before .before .if1 .left in
     omega (arith, length-most l z, f .frame-of .ensures .1 z .0)
 
 returns-4 : tie.Need-returns-4
-returns-4 c = let f = c .before .before .before .before .before .before .before .before in
+returns-4 c = let own = c .before .before .before .before .before .own-refusal in
+    let f = c .before .before .before .before .before .before .before .before .before in
     let z : frameRefusal (f .before .before .args .rest .now) ≡ 0 = sym (f .frame-of .ensures .0)
-    ∙ c .before .before .before .before .before .before .if1 .left in (
-      unrefused-front _ _ _ z (sym (c .before .before .before .before .own-refusal .ensures)
-          ∙ c .before .before .before .if2 .left) _ (f .frame-of .ensures .1 z .1) (c .before .if3 .left),
-      λ _. (ap (λ (n : ℕ). 3 + n) (f .frame-of .ensures .1 z .0), f .frame-of .ensures .1 z .1),
+    ∙ c .before .before .before .before .before .before .before .if1 .left in
+    let lengths = f .frame-of .ensures .1 z in (
+      unrefused-front _ _ _ z (sym (own .ensures .0) ∙ c .before .before .before .if2 .left) _ (lengths .1)
+          (c .before .if3 .left),
+      λ _. (ap (λ (n : ℕ). 3 + n) (lengths .0), lengths .1, own .ensures .1),
     )
 
 pub front-of-spec : {M : Type 1} → statement M

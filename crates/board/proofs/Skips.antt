@@ -1,0 +1,56 @@
+-- A skip that is accepted gets to the interrupt, whatever the clock runs from. Assumes nothing.
+use Prim.Native.Nat.{ℕ}
+use native.Mathlib.Omega.{arith}
+use mathlib.Core.Path.{_≡_, sym, ap, _∙_}
+use mathlib.Core.Bool.{true, false}
+use mathlib.Core.Option.{Option, none, some}
+use lib.Dec.{eqb}
+use borrow.Author.Tests.{le-leb}
+use Rattle.wide.specs.Deadline.{due}
+use Rattle.wide.proofs.Choices.{either}
+use Rattle.wide.proofs.Forms.{flag-back}
+use Rattle.board.specs.declared.Board.{Board}
+use Rattle.board.specs.declared.calls.SkipAnswer.{SkipAnswer}
+use Rattle.board.specs.Board.{BoardFits, line, exactDeadline, sound}
+use Rattle.board.specs.Calls.{
+  refusalOf,
+  boardAfter,
+  answerOf,
+  skipAnswer,
+  advancedBoard,
+  movedBoard,
+  movedBy,
+  skipLength,
+  skipRefusal,
+  skipCall,
+}
+use Rattle.board.specs.Demand.{SkipPromise}
+use Rattle.board.proofs.Steps.{Good, good, wired-line, advance-rises}
+use Rattle.board.proofs.Answers.{accepted-sound, answer-accepted, answered-refusal}
+
+module _ (b : Board) (d : ℕ) (given : exactDeadline b ≡ some d) where
+  -- from a low line it goes by D
+  pub skip-by : line b ≡ false → skipLength b ≡ some d
+  skip-by low = rw (low, given)
+
+  -- and the line is high behind it
+  pub skip-high : Good b → line (movedBy (skipLength b) b) ≡ true
+  unfolding advancedBoard
+  skip-high g =
+      either (line b) (λ h. rw h h)
+      (λ low. ap (λ (o : Option ℕ). line (movedBy o b)) (skip-by low)
+      ∙ sym (wired-line (movedBoard d b))
+      ∙ advance-rises d b g low (ap (λ (o : Option ℕ). due o d) given ∙ le-leb d d (omega arith)))
+
+-- what is promised, by the answer
+pub skip-reaches : (b : Board) → BoardFits b → (r : SkipAnswer) → r ≡ skipAnswer (answerOf skipCall b) →
+    SkipPromise b r
+skip-reaches b f r e z d given =
+    let n : refusalOf b (skipRefusal b) ≡ 0 =
+    sym (answered-refusal skipCall b) ∙ ap (λ (a : SkipAnswer). a .refusal) (sym e) ∙ z in
+    let a = answer-accepted skipCall b n in
+    let high = skip-high b d given (good b f (accepted-sound b (skipRefusal b) n)) in (
+      rw (e, a, flag-back) high,
+      rw (e, a) (wired-line (movedBy (skipLength b) b) ∙ high),
+      λ low. rw (e, a, skip-by b d given low),
+    )
