@@ -1,5 +1,5 @@
-//! The ten calls and their answers: members, tags, lengths, big-endian form, and a call's own refusals. Tags, lengths
-//! and the bytes of calls and answers come from one table, `FORMS`.
+//! The ten calls and their answers: members, tags, lengths, big-endian form, and the refusals that a call's value alone
+//! decides. Tags, lengths and the bytes of calls and answers come from one table, `FORMS`.
 
 use crate::{Fault, Refusal, NANOSECONDS_PER_SECOND};
 
@@ -23,7 +23,8 @@ pub enum Call {
     Advance { cycles: u64 },
     /// Asks for the cycles until the next interrupt; answers [`Answer::Deadline`].
     Deadline,
-    /// Advances once to the deadline, where the line is low and there is one; answers [`Answer::Skip`].
+    /// Advances once to the deadline, where the line is low and there is one, and so raises the line; refused with
+    /// [`Refusal::DeadlineTooLarge`] where that deadline is above 2^64 - 1. Answers [`Answer::Skip`].
     Skip,
     /// Sets the level, 0 or 1, of a source of the controller.
     Source { number: u8, level: u8 },
@@ -46,7 +47,8 @@ pub enum Answer {
     Line(bool),
     /// Whether there is a deadline, D, and the smaller of D and 2^64 - 1; zeros if there is none.
     Deadline { present: bool, exact: u128, capped: u64 },
-    /// The cycles that a skip passed, and whether the line is high.
+    /// The cycles that a skip passed, and whether the line is high. They are D, and it is high, where the line was low
+    /// and there was a D; with the line high before, or no D, they are 0, and the line is as it was.
     Skip { passed: u64, line: bool },
     /// Whether a source is presented, and which.
     Output { valid: bool, number: u8 },
@@ -275,7 +277,8 @@ impl Call {
         encoded.expect("the tag is known");
     }
 
-    /// The call's own refusal, in document 01's order; 1 is the board's, 2 to 5 and 11 are the run's.
+    /// The call's own refusal as far as its value alone decides it, 6 to 10, in document 01's order. A skip's own, 13,
+    /// depends on the board and is not found here; 1 is the board's too, 2 to 5 and 11 are the run's.
     pub fn refusal(&self) -> Option<Refusal> {
         match *self {
             Self::HostTime { nanoseconds, .. } if nanoseconds >= NANOSECONDS_PER_SECOND => {

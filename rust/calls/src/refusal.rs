@@ -4,8 +4,8 @@ use std::error::Error;
 use std::fmt;
 
 /// Why a run stopped before the end of its list, why a direct call was not carried out, or why a board was not parked
-/// or an image not read. Numbers 1 to 11 are document 01's, 12 is that of the request for parked boards, S-1, and so
-/// are the words in quotes.
+/// or an image not read. Numbers 1 to 11 are document 01's, 12 is that of the request for parked boards, S-1, and 13
+/// that of the request for skips that get there, S-2; so are the words in quotes.
 #[derive(Clone, Copy, Debug, PartialEq, Eq, PartialOrd, Ord, Hash)]
 #[repr(u8)]
 pub enum Refusal {
@@ -33,11 +33,13 @@ pub enum Refusal {
     BufferTooSmall = 11,
     /// An image: 'a field missing, cut, out of order, of wrong length, a flag above 1, or bytes over'.
     MalformedImage = 12,
+    /// Skip: 'D too large for one skip', above 2^64 - 1 with the line low.
+    DeadlineTooLarge = 13,
 }
 
 impl Refusal {
     /// Every refusal, in the order of the numbers.
-    pub const ALL: [Self; 12] = [
+    pub const ALL: [Self; 13] = [
         Self::UnsoundBoard,
         Self::TruncatedHeader,
         Self::UnknownTag,
@@ -50,14 +52,15 @@ impl Refusal {
         Self::LevelOutOfRange,
         Self::BufferTooSmall,
         Self::MalformedImage,
+        Self::DeadlineTooLarge,
     ];
 
-    /// Its number, 1 to 12.
+    /// Its number, 1 to 13.
     pub fn number(self) -> u8 {
         self as u8
     }
 
-    /// The refusal of a number; none for 0, which is no refusal, and for numbers above 12.
+    /// The refusal of a number; none for 0, which is no refusal, and for numbers above 13.
     pub fn from_number(number: u8) -> Option<Self> {
         let place = usize::from(number).checked_sub(1)?;
         Self::ALL.get(place).copied()
@@ -79,6 +82,7 @@ impl fmt::Display for Refusal {
             Self::LevelOutOfRange => "the level is above 1",
             Self::BufferTooSmall => "the answer is longer than the rest of the buffer",
             Self::MalformedImage => "the image is malformed",
+            Self::DeadlineTooLarge => "the deadline is above 2^64 - 1, too large for one skip",
         })
     }
 }

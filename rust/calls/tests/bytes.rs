@@ -147,7 +147,7 @@ fn what_is_no_call_is_refused_in_order() {
 }
 
 #[test]
-fn a_calls_own_refusals_are_document_01s() {
+fn refusals_that_a_calls_value_decides_are_document_01s() {
     let host_time = |nanoseconds| Call::HostTime {
         seconds: 0,
         nanoseconds,
@@ -170,6 +170,8 @@ fn a_calls_own_refusals_are_document_01s() {
         (source(LINE_SOURCE, 2), Some(Refusal::ReservedSource)),
         (source(15, 2), Some(Refusal::LevelOutOfRange)),
         (Call::ControllerRead { address: u32::MAX }, None),
+        // Whether a skip is refused depends on the board.
+        (Call::Skip, None),
     ] {
         assert_eq!(call.refusal(), refusal, "{call:?}");
     }
@@ -265,6 +267,7 @@ fn refusals_have_their_numbers_and_words() {
         "the level is above 1",
         "the answer is longer than the rest of the buffer",
         "the image is malformed",
+        "the deadline is above 2^64 - 1, too large for one skip",
     ];
     assert_eq!(words.len(), Refusal::ALL.len());
     for (number, words) in (1..).zip(words) {
@@ -276,7 +279,7 @@ fn refusals_have_their_numbers_and_words() {
         };
         assert_eq!(outcome.refusal_number(), number);
     }
-    assert!((13..=255)
+    assert!((14..=255)
         .chain([0])
         .all(|number| Refusal::from_number(number).is_none()));
     assert_eq!(Outcome::default().refusal_number(), 0);
