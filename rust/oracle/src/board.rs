@@ -28,6 +28,13 @@ pub struct Devices {
     host_nanoseconds: u32,
 }
 
+/// A call that is not refused, and what its refusal was decided from.
+pub(crate) struct Accepted {
+    call: Call,
+    /// The cycles of the advance that a skip makes; none where it makes none, and of another call.
+    skipped: Option<u64>,
+}
+
 /// What a direct call returns besides the board.
 #[derive(Clone, Copy, Debug, PartialEq, Eq)]
 pub struct Reply {
@@ -71,16 +78,21 @@ impl Board {
     /// A direct call. A refused one leaves the board as it was and answers with zeros.
     pub fn call(&mut self, call: Call) -> Reply {
         let sound = self.sound();
-        let own = call.refusal();
+        let answer = match self {
+            Self::Sound(devices) if sound => devices.accept(call).map(|accepted| devices.carry_out(accepted)),
+            _ => Err(Refusal::UnsoundBoard),
+        };
+        Reply {
+            refusal: answer.err(),
+            answer: answer.unwrap_or(call.zero_answer()),
+        }
+    }
+
+    /// The refusal that a direct call would give.
+    pub fn refusal(&self, call: Call) -> Option<Refusal> {
         match self {
-            Self::Sound(devices) if sound && own.is_none() => Reply {
-                refusal: None,
-                answer: devices.carry_out(call),
-            },
-            _ => Reply {
-                refusal: if sound { own } else { Some(Refusal::UnsoundBoard) },
-                answer: call.zero_answer(),
-            },
+            Self::Sound(devices) if self.sound() => devices.accept(call).err(),
+            _ => Some(Refusal::UnsoundBoard),
         }
     }
 }
@@ -112,16 +124,40 @@ impl Devices {
         fields
     }
 
-    /// Carries out a call that is not refused, and then sets source 3 to the line.
-    pub(crate) fn carry_out(&mut self, call: Call) -> Answer {
+    /// The call accepted, or its own refusal: one that its value decides, or a skip's, which the board decides.
+    pub(crate) fn accept(&self, call: Call) -> Result<Accepted, Refusal> {
+        if let Some(refusal) = call.refusal() {
+            return Err(refusal);
+        }
+        let skipped = match call {
+            Call::Skip => self.cycles_to_skip()?,
+            _ => None,
+        };
+        Ok(Accepted { call, skipped })
+    }
+
+    /// The cycles by which a skip advances: none with the line high or no D, else D; or 13, with D above 2^64 - 1.
+    fn cycles_to_skip(&self) -> Result<Option<u64>, Refusal> {
+        if self.timing.irq_asserted() {
+            return Ok(None);
+        }
+        match self.timing.cycles_until_irq() {
+            // The Rust's figure is the smaller of D and 2^64 - 1. Below that it is D, and D itself need not be asked.
+            Some(u64::MAX) if self.exact_deadline() > Some(u64::MAX.into()) => Err(Refusal::DeadlineTooLarge),
+            cycles => Ok(cycles),
+        }
+    }
+
+    /// Carries out an accepted call, and then sets source 3 to the line.
+    pub(crate) fn carry_out(&mut self, accepted: Accepted) -> Answer {
         host_time::set(self.host_seconds, self.host_nanoseconds);
-        let answer = self.perform(call);
+        let answer = self.perform(accepted);
         let line = self.timing.irq_asserted();
         self.controller.get_mut().set_source(LINE_SOURCE, line);
         answer
     }
 
-    fn perform(&mut self, call: Call) -> Answer {
+    fn perform(&mut self, Accepted { call, skipped }: Accepted) -> Answer {
         let irqc = self.controller.get_mut();
         match call {
             Call::HostTime { seconds, nanoseconds } => {
@@ -139,7 +175,7 @@ impl Devices {
                 Answer::Line(self.timing.irq_asserted())
             }
             Call::Deadline => self.deadline(),
-            Call::Skip => self.skip(),
+            Call::Skip => self.skip(skipped),
             Call::Source { number, level } => {
                 irqc.set_source(number, level == 1);
                 Answer::Empty
@@ -159,11 +195,16 @@ impl Devices {
         }
     }
 
-    /// The exact deadline by document 01, the 64-bit deadline by the Rust.
-    fn deadline(&self) -> Answer {
+    /// Document 01's D.
+    fn exact_deadline(&self) -> Option<u128> {
         let mut fields = Fields::default();
         self.timing.store(&mut fields);
-        let exact = deadline::exact(&fields);
+        deadline::exact(&fields)
+    }
+
+    /// The exact deadline by document 01, the 64-bit deadline by the Rust.
+    fn deadline(&self) -> Answer {
+        let exact = self.exact_deadline();
         let capped = self.timing.cycles_until_irq();
         Answer::Deadline {
             present: exact.is_some(),
@@ -172,17 +213,13 @@ impl Devices {
         }
     }
 
-    /// Document 01's skip: at most one advance, by the smaller of D and 2^64 - 1, which the Rust gives.
-    fn skip(&mut self) -> Answer {
-        let passed = match self.timing.cycles_until_irq() {
-            Some(cycles) if !self.timing.irq_asserted() => {
-                self.timing.advance(cycles);
-                cycles
-            }
-            _ => 0,
-        };
+    /// Document 01's skip: at most one advance, by these cycles.
+    fn skip(&mut self, cycles: Option<u64>) -> Answer {
+        if let Some(cycles) = cycles {
+            self.timing.advance(cycles);
+        }
         Answer::Skip {
-            passed,
+            passed: cycles.unwrap_or(0),
             line: self.timing.irq_asserted(),
         }
     }

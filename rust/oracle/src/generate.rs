@@ -274,7 +274,7 @@ impl Generator {
             8 => self.host_time(),
             9..=12 => self.advance(),
             13 => self.call(Call::Deadline),
-            14 => self.call(Call::Skip),
+            14 => self.skip(),
             15 => self.any_call(),
             16 => self.drive_controller(),
             17 => self.read_latched(),
@@ -434,8 +434,15 @@ impl Generator {
     /// Any call that is accepted.
     fn any_call(&mut self) {
         let call = self.random.call();
-        if call.refusal().is_none() {
+        if self.board.refusal(call).is_none() {
             self.call(call);
+        }
+    }
+
+    /// A skip. A refused one ends the run, so that it is seldom left in the list.
+    fn skip(&mut self) {
+        if self.board.refusal(Call::Skip).is_none() || self.random.once_in(8) {
+            self.call(Call::Skip);
         }
     }
 
@@ -512,13 +519,13 @@ impl Generator {
         }
     }
 
-    /// A call with a refusal of its own, and perhaps a call after it.
+    /// A call with a refusal of its own, a skip where the board refuses it, and perhaps a call after it.
     fn refused_call(&mut self) {
         let seconds = self.random.number();
         let nanoseconds = self.random.pick(&[NANOSECONDS_PER_SECOND, u32::MAX]);
         let address = self.random.pick(&[registers::SIZE, u16::MAX]);
         let byte = self.random.word() as u8;
-        let call = self.random.pick(&[
+        let mut call = self.random.pick(&[
             Call::HostTime { seconds, nanoseconds },
             Call::Read { address },
             Call::Write { address, byte },
@@ -534,6 +541,9 @@ impl Generator {
             },
             Call::Source { number: 15, level: 255 },
         ]);
+        if self.board.refusal(Call::Skip).is_some() && self.random.once_in(2) {
+            call = Call::Skip;
+        }
         self.call(call);
         if self.random.once_in(2) {
             self.call(Call::Output);

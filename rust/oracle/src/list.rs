@@ -19,15 +19,16 @@ pub fn run(board: &mut Board, list: &[u8], answers: &mut [u8]) -> Outcome {
             Ok(decoded) => decoded,
             Err(refusal) => return refused(outcome, refusal),
         };
-        if let Some(refusal) = call.refusal() {
-            return refused(outcome, refusal);
-        }
+        let accepted = match devices.accept(call) {
+            Ok(accepted) => accepted,
+            Err(refusal) => return refused(outcome, refusal),
+        };
         // An answer's length is known from the tag, so 11 is found before the call is carried out.
         let end = outcome.answer_bytes + call.answer_bytes();
         if end > answers.len() {
             return refused(outcome, Refusal::BufferTooSmall);
         }
-        let answer = devices.carry_out(call);
+        let answer = devices.carry_out(accepted);
         answer.store(call.tag(), &mut answers[outcome.answer_bytes..end]);
         outcome.calls += 1;
         outcome.list_bytes += used;

@@ -336,13 +336,38 @@ pub fn set_source_3(fields: &mut Fields) {
     set_source(fields, 3, fields.line());
 }
 
+/// The cycles that an accepted skip passes, and the fields after it.
 fn skip(before: &Fields) -> (u64, Fields) {
     match deadline::exact(before) {
         Some(exact) if !before.line() => {
-            let passed = exact.min(TOP) as u64;
+            let passed = u64::try_from(exact).expect("a larger D is refused");
             (passed, advance(before, passed))
         }
         _ => (0, *before),
+    }
+}
+
+/// The number of the refusal that a sound board gives a call, 0 for none.
+fn refusal(before: &Fields, call: Call) -> u8 {
+    match call {
+        Call::Read { address } | Call::Write { address, .. } if address >= 0x380 => 6,
+        Call::HostTime { nanoseconds, .. } if i128::from(nanoseconds) >= SECOND => 7,
+        Call::Source { number, .. } if number > 15 => 8,
+        Call::Source { number: 3, .. } => 9,
+        Call::Source { level, .. } if level > 1 => 10,
+        Call::Skip if !before.line() && deadline::exact(before).is_some_and(|exact| exact > TOP) => 13,
+        _ => 0,
+    }
+}
+
+/// What a sound board gives a direct call: the refusal's number, the answer and the fields after it.
+pub fn direct(before: &Fields, call: Call) -> (u8, Answer, Fields) {
+    match refusal(before, call) {
+        0 => {
+            let (answer, after) = carry_out(before, call);
+            (0, answer, after)
+        }
+        refused => (refused, call.zero_answer(), *before),
     }
 }
 
@@ -395,13 +420,14 @@ pub fn carry_out(before: &Fields, call: Call) -> (Answer, Fields) {
     (answer, after)
 }
 
-/// Compares the board's answer and fields with the rules; gives the fields.
-fn compare(fields: &Fields, call: Call) -> Fields {
+/// Compares the board's refusal, answer and fields with the rules; gives the refusal's number and the fields.
+fn compare(fields: &Fields, call: Call) -> (u8, Fields) {
     let mut board = Board::from_fields(fields);
-    let answer = accepted(&mut board, call);
-    let after = board.fields();
-    assert_eq!((answer, after), carry_out(fields, call), "{fields:?} {call:?}");
-    after
+    let reply = board.call(call);
+    let (refusal, after) = (number(&reply), board.fields());
+    let given = (refusal, reply.answer, after);
+    assert_eq!(given, direct(fields, call), "{fields:?} {call:?}");
+    (refusal, after)
 }
 
 /// Cycles about a channel's tick, its match or the end of a second, or any number.
@@ -425,7 +451,7 @@ fn advance_follows_the_rules() {
     let mut matches = [0; 4];
     for (mut random, fields) in sound_boards(150_000) {
         let cycles = some_cycles(&mut random, &fields);
-        let after = compare(&fields, Call::Advance { cycles });
+        let (_, after) = compare(&fields, Call::Advance { cycles });
         for number in 0..4 {
             let (old, new) = (fields.channels[number], after.channels[number]);
             matches[usize::from(old.mode())] += usize::from(!old.pending && new.pending);
@@ -440,15 +466,17 @@ fn advance_follows_the_rules() {
 
 #[test]
 fn every_call_follows_the_rules() {
-    let mut calls = [0; 11];
+    let (mut accepted, mut refused) = ([0; 11], [0; 14]);
     for (mut random, fields) in sound_boards(400_000) {
         let call = random.call();
-        if call.refusal().is_none() {
-            compare(&fields, call);
-            calls[usize::from(call.tag())] += 1;
+        match compare(&fields, call) {
+            (0, _) => accepted[usize::from(call.tag())] += 1,
+            (number, _) => refused[usize::from(number)] += 1,
         }
     }
-    assert!(calls[1..].iter().all(|&count| count > 10_000), "{calls:?}");
+    assert!(accepted[1..].iter().all(|&count| count > 10_000), "{accepted:?}");
+    let own = [6, 7, 8, 9, 10, 13];
+    assert!(own.iter().all(|&number| refused[number] > 1_000), "{refused:?}");
 }
 
 #[test]

@@ -1,9 +1,10 @@
-//! Document 01's settings A to J, and the wrong readings that it names.
+//! Document 01's settings A to J, the wrong readings that it names, and the skip, S-2's limit of it too.
 
-use calls::{list_of, Answer, Call};
-use oracle::board::Board;
+use calls::{list_of, Answer, Call, Outcome, Refusal};
+use oracle::board::{Board, Reply};
 use oracle::fields::Fields;
 use oracle::generate::Random;
+use oracle::list::run;
 
 use crate::support::*;
 
@@ -96,16 +97,7 @@ fn e_free_running_with_the_largest_prescaler() {
     let mut fields = running(2);
     fields.channels[0].armed = true;
     fields.channels[0].prescaler = u32::MAX;
-    let mut board = Board::from_fields(&fields);
-    assert_eq!(deadline(&mut board), Some(1 << 96));
-    let skipped = accepted(&mut board, Call::Skip);
-    assert_eq!(
-        skipped,
-        Answer::Skip {
-            passed: u64::MAX,
-            line: false
-        }
-    );
+    assert_eq!(deadline(&mut Board::from_fields(&fields)), Some(1 << 96));
 }
 
 #[test]
@@ -291,31 +283,221 @@ fn wrong_subsecond_1_kept_when_the_clock_is_switched_off() {
 }
 
 #[test]
-fn skip_of_a_high_line_or_without_deadline_changes_nothing() {
+fn skip_by_line_and_deadline_of_any_board() {
     let mut random = Random::new(0);
-    let mut seen = [0; 3];
+    let mut seen = [0; 4];
     for _ in 0..20_000 {
         let fields = random.sound_fields();
         let mut board = Board::from_fields(&fields);
         let deadline = deadline(&mut board);
-        let Answer::Skip { passed, line } = accepted(&mut board, Call::Skip) else {
-            panic!()
-        };
+        let reply = board.call(Call::Skip);
         let after = board.fields();
-        assert_eq!(line, after.line());
-        match deadline {
-            _ if fields.line() => assert_eq!((passed, after), (0, fields)),
-            None => assert_eq!((passed, after), (0, fields)),
-            Some(exact) => {
-                assert_eq!(u128::from(passed), exact.min(u128::from(u64::MAX)));
-                assert_eq!(after, fields_after(&fields, Call::Advance { cycles: passed }));
+        let kind = match deadline.map(u64::try_from) {
+            _ if fields.line() => {
+                assert_eq!((reply, after), (skipped(0, true), fields));
+                0
             }
-        }
-        seen[if fields.line() {
-            0
-        } else {
-            1 + usize::from(deadline.is_some())
-        }] += 1;
+            None => {
+                assert_eq!((reply, after), (skipped(0, false), fields));
+                1
+            }
+            Some(Ok(cycles)) => {
+                assert_eq!(reply, skipped(cycles, true));
+                assert_eq!(after, fields_after(&fields, Call::Advance { cycles }));
+                2
+            }
+            Some(Err(_)) => {
+                assert_eq!((reply, after), (TOO_LARGE, fields));
+                3
+            }
+        };
+        seen[kind] += 1;
     }
     assert!(seen.iter().all(|&count| count > 500), "{seen:?}");
+}
+
+/// A board whose D is at a limit of one skip, by name: D, and the fields.
+fn far_boards() -> Vec<(&'static str, u128, Fields)> {
+    let with = |mode, edit: fn(&mut Fields)| {
+        let mut fields = running(mode);
+        fields.channels[0].armed = true;
+        edit(&mut fields);
+        fields
+    };
+    let alarm = |alarm, subsecond| Fields {
+        alarm,
+        subsecond,
+        alarm_armed: true,
+        alarm_enable: 1,
+        ..Fields::fresh()
+    };
+    vec![
+        (
+            "one-shot at the top",
+            (1 << 64) - 1,
+            with(0, |f| f.channels[0].compare = u64::MAX),
+        ),
+        (
+            "periodic at the top",
+            (1 << 64) - 1,
+            with(1, |f| f.channels[0].compare = u64::MAX),
+        ),
+        (
+            "free-running below distance 0",
+            (1 << 64) - 1,
+            with(2, |f| f.channels[0].counter = 1),
+        ),
+        ("distance 0", 1 << 64, with(2, |_| {})),
+        (
+            "distance 0 at another counter",
+            1 << 64,
+            with(2, |f| {
+                (f.channels[0].counter, f.channels[0].compare) = (77, 77);
+            }),
+        ),
+        // 2^32 ticks of 2^32 cycles, at phase 0 and 1.
+        (
+            "2^32 ticks",
+            1 << 64,
+            with(0, |f| {
+                (f.channels[0].compare, f.channels[0].prescaler) = (1 << 32, u32::MAX);
+            }),
+        ),
+        (
+            "2^32 ticks but one cycle",
+            (1 << 64) - 1,
+            with(1, |f| {
+                (f.channels[0].compare, f.channels[0].prescaler, f.channels[0].phase) = (1 << 32, u32::MAX, 1);
+            }),
+        ),
+        // 2^63 + 1 ticks of 2 cycles, at phase 1.
+        (
+            "one cycle more",
+            (1 << 64) + 1,
+            with(0, |f| {
+                (f.channels[0].compare, f.channels[0].prescaler, f.channels[0].phase) = ((1 << 63) + 1, 1, 1);
+            }),
+        ),
+        ("the largest", 1 << 96, with(2, |f| f.channels[0].prescaler = u32::MAX)),
+        // 2^64 = 384,307,168,202 x F + 13,551,616, and so 384,307,168,203 x F is 34,448,384 more.
+        ("an alarm at the top", (1 << 64) - 1, alarm(384_307_168_203, 34_448_385)),
+        ("an alarm past the top", 1 << 64, alarm(384_307_168_203, 34_448_384)),
+        ("the last alarm", 0xFFFF_FFFF_FFFF_FFFF * 48_000_000, alarm(u64::MAX, 0)),
+    ]
+}
+
+/// The reply of an accepted skip.
+fn skipped(passed: u64, line: bool) -> Reply {
+    Reply {
+        refusal: None,
+        answer: Answer::Skip { passed, line },
+    }
+}
+
+/// The reply of a skip that is refused with 13.
+const TOO_LARGE: Reply = Reply {
+    refusal: Some(Refusal::DeadlineTooLarge),
+    answer: Answer::Skip { passed: 0, line: false },
+};
+
+#[test]
+fn skip_gets_there_or_is_refused_with_13() {
+    for (name, exact, fields) in far_boards() {
+        let mut board = Board::from_fields(&fields);
+        assert_eq!(deadline(&mut board), Some(exact), "{name}");
+        let reply = board.call(Call::Skip);
+        if exact < 1 << 64 {
+            assert_eq!(reply, skipped(exact as u64, true), "{name}");
+            let advanced = fields_after(&fields, Call::Advance { cycles: exact as u64 });
+            assert_eq!(board.fields(), advanced, "{name}");
+            assert!(advanced.line(), "{name}");
+        } else {
+            assert_eq!(reply, TOO_LARGE, "{name}");
+            assert_eq!(board.fields(), fields, "{name}");
+            assert_eq!(number(&reply), 13);
+            // Once the rest fits, a skip gets there.
+            if exact < (1 << 65) - 1 {
+                assert!(!advance(&mut board, u64::MAX), "{name}");
+                let rest = (exact - u128::from(u64::MAX)) as u64;
+                assert_eq!(board.call(Call::Skip), skipped(rest, true), "{name}");
+            }
+        }
+    }
+}
+
+#[test]
+fn skip_is_refused_with_13_after_1_and_before_11() {
+    let list = list_of(&[Call::Source { number: 4, level: 1 }, Call::Skip, Call::Output]);
+    for (name, exact, fields) in far_boards() {
+        let too_large = exact >= 1 << 64;
+        // The source's record has 3 bytes, the skip's 12, the output's 5.
+        for length in 0..=21 {
+            let mut board = Board::from_fields(&fields);
+            let mut buffer = [0xEE; 21];
+            let outcome = run(&mut board, &list, &mut buffer[..length]);
+            let (calls, refusal) = match length {
+                0..3 => (0, 11),
+                _ if too_large => (1, 13),
+                3..15 => (1, 11),
+                15..20 => (2, 11),
+                _ => (3, 0),
+            };
+            let expected = Outcome {
+                calls,
+                list_bytes: [0, 5, 8, 11][calls],
+                answer_bytes: [0, 3, 15, 20][calls],
+                refusal: Refusal::from_number(refusal),
+            };
+            assert_eq!(outcome, expected, "{name} into {length}");
+            // The calls before the refused one stand, and nothing else is changed.
+            let done = [Call::Source { number: 4, level: 1 }, Call::Skip, Call::Output];
+            let after = done[..calls]
+                .iter()
+                .fold(fields, |fields, &call| fields_after(&fields, call));
+            assert_eq!(board.fields(), after, "{name} into {length}");
+            assert!(buffer[outcome.answer_bytes..].iter().all(|&byte| byte == 0xEE));
+        }
+        // A record that is cut or too long is refused for its form.
+        for (form, refusal) in [(&[6][..], 2), (&[6, 0], 2), (&[6, 0, 1, 0], 4)] {
+            let mut board = Board::from_fields(&fields);
+            assert_eq!(run(&mut board, form, &mut []).refusal_number(), refusal, "{name}");
+        }
+        // A board that is not sound is refused for that.
+        let unsound = Fields {
+            timer_enable: 17,
+            ..fields
+        };
+        let mut board = Board::from_fields(&unsound);
+        assert_eq!(number(&board.call(Call::Skip)), 1, "{name}");
+        assert_eq!(run(&mut board, &[6, 0, 0], &mut []).refusal_number(), 1, "{name}");
+        assert_eq!(board.fields(), unsound, "{name}");
+    }
+}
+
+#[test]
+fn skip_of_a_high_line_is_accepted_beside_any_deadline() {
+    for (name, exact, mut fields) in far_boards() {
+        // Channel 1 is pending with its interrupt enabled, and does not run.
+        fields.channels[1].pending = true;
+        fields.channels[1].control = 8;
+        fields.controller_levels = 1 << 3;
+        let mut board = Board::from_fields(&fields);
+        assert_eq!(deadline(&mut board), Some(exact), "{name}");
+        assert_eq!(board.call(Call::Skip), skipped(0, true), "{name}");
+        assert_eq!(board.fields(), fields, "{name}");
+    }
+}
+
+#[test]
+fn the_smallest_deadline_decides_a_skip() {
+    for (name, exact, mut fields) in far_boards() {
+        // Channel 1 is due after 5 cycles, and, without its interrupt, never.
+        fields.timer_enable |= 2;
+        fields.channels[1].compare = 5;
+        fields.channels[1].control = 12;
+        assert_eq!(Board::from_fields(&fields).call(Call::Skip), skipped(5, true), "{name}");
+        fields.channels[1].control = 4;
+        let reply = Board::from_fields(&fields).call(Call::Skip);
+        assert_eq!(number(&reply), if exact < 1 << 64 { 0 } else { 13 }, "{name}");
+    }
 }

@@ -154,7 +154,7 @@ fn fields_are_set_and_read_back() {
 #[test]
 fn every_call_keeps_a_sound_board_sound() {
     let mut accepted = [0; 11];
-    let mut refused = [0; 11];
+    let mut refused = [0; 14];
     for (mut random, fields) in sound_boards(60_000) {
         let mut board = Board::from_fields(&fields);
         for _ in 0..4 {
@@ -173,6 +173,8 @@ fn every_call_keeps_a_sound_board_sound() {
         }
     }
     assert!(accepted[1..].iter().all(|&count| count > 10_000), "{accepted:?}");
-    assert!(refused[6..].iter().all(|&count| count > 500), "{refused:?}");
-    assert_eq!(refused[..6], [0; 6]);
+    for (number, &count) in refused.iter().enumerate() {
+        let own = matches!(number, 6..=10 | 13);
+        assert!(if own { count > 500 } else { count == 0 }, "{refused:?}");
+    }
 }
