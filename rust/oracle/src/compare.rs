@@ -5,6 +5,7 @@
 pub mod controller;
 pub mod parked;
 pub mod passes;
+pub mod skips;
 
 use std::fmt::{self, Write};
 

@@ -8,7 +8,7 @@ use calls::Call;
 use crate::generate::Random;
 use crate::registers::{self, channel, of_channel, CHANNELS};
 use crate::sys::MASTER_CLOCK;
-use crate::writes::{byte, two_words, word};
+use crate::writes::{alarm, byte, program, RUNNING};
 
 /// The calls of a measured list.
 pub const CALLS: usize = 4_000;
@@ -32,38 +32,19 @@ pub fn named(wanted: Option<&str>) -> Vec<Kind> {
     kinds
 }
 
-/// Programs a channel to run with its interrupt enabled.
-fn program(number: usize, mode: u8, prescaler: u32, compare: u64, reload: u64) -> Vec<Call> {
-    let register = |register| of_channel(number, register);
-    let mut calls = word(register(channel::PRESCALER), prescaler);
-    calls.extend(two_words(
-        register(channel::RELOAD_LOW),
-        register(channel::RELOAD_HIGH),
-        reload,
-    ));
-    calls.extend(two_words(
-        register(channel::COMPARE_LOW),
-        register(channel::COMPARE_HIGH),
-        compare,
-    ));
-    calls.push(byte(register(channel::CONTROL) + 3, mode | 12));
-    calls
-}
-
 /// Four channels in modes 1 and 2 that match now and then, and a clock whose alarm is far off.
 fn running(prescaler: u32) -> Vec<Call> {
     let mut calls = Vec::new();
     for number in 0..CHANNELS {
         calls.extend(program(
             number,
-            1 + number as u8 % 2,
+            RUNNING | (1 + number as u8 % 2),
             prescaler,
             1_000 + number as u64,
             1_000,
         ));
     }
-    calls.extend(two_words(registers::ALARM_LOW, registers::ALARM_HIGH, 1 << 40));
-    calls.push(byte(registers::ALARM_ENABLE + 3, 1));
+    calls.extend(alarm(1 << 40));
     calls.push(byte(registers::ENABLE + 3, 15));
     calls
 }
@@ -110,7 +91,7 @@ fn kinds() -> Vec<Kind> {
         kind("mixed", running(0), mixed),
     ];
     // Ten years of interrupts, one each simulated minute: this prescaler gives a tick each millisecond.
-    let mut minute = program(0, 1, MASTER_CLOCK / 1_000 - 1, 60_000, 60_000);
+    let mut minute = program(0, RUNNING | 1, MASTER_CLOCK / 1_000 - 1, 60_000, 60_000);
     minute.push(byte(registers::ENABLE + 3, 1));
     kinds.push(Kind {
         name: "ten-years",

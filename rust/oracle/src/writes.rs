@@ -1,6 +1,10 @@
-//! Register writes as calls: a byte, a word of four bytes, two words.
+//! Register writes as calls: a byte, a word of four bytes, two words; a channel, an alarm; and both with a deadline that
+//! is wanted.
 
 use calls::Call;
+
+use crate::registers::{self, channel, of_channel};
+use crate::sys::MASTER_CLOCK;
 
 pub fn byte(address: u16, byte: u8) -> Call {
     Call::Write { address, byte }
@@ -17,4 +21,60 @@ pub fn word(address: u16, value: u32) -> Vec<Call> {
 /// A 64-bit number in two registers, the high word first.
 pub fn two_words(low: u16, high: u16, value: u64) -> Vec<Call> {
     [word(high, (value >> 32) as u32), word(low, value as u32)].concat()
+}
+
+/// The control, but for the mode, of a channel that runs with its interrupt enabled.
+pub const RUNNING: u8 = 12;
+/// The bit of a control written that zeroes the counter and arms.
+const RESET: u8 = 16;
+
+/// Programs a channel, its control last.
+pub fn program(number: usize, control: u8, prescaler: u32, compare: u64, reload: u64) -> Vec<Call> {
+    let register = |register| of_channel(number, register);
+    let mut calls = word(register(channel::PRESCALER), prescaler);
+    for (low, high, value) in [
+        (channel::RELOAD_LOW, channel::RELOAD_HIGH, reload),
+        (channel::COMPARE_LOW, channel::COMPARE_HIGH, compare),
+    ] {
+        calls.extend(two_words(register(low), register(high), value));
+    }
+    calls.push(byte(register(channel::CONTROL) + 3, control));
+    calls
+}
+
+/// Arms the alarm and enables its interrupt.
+pub fn alarm(seconds: u64) -> Vec<Call> {
+    let mut calls = two_words(registers::ALARM_LOW, registers::ALARM_HIGH, seconds);
+    calls.push(byte(registers::ALARM_ENABLE + 3, 1));
+    calls
+}
+
+/// Makes a channel the only one that runs, from 0 and with its interrupt enabled, due after exactly `deadline` cycles;
+/// none where its mode and prescaler cannot have that. It advances the board, by less than a tick.
+pub fn channel_due(number: usize, mode: u8, prescaler: u32, deadline: u128) -> Option<Vec<Call>> {
+    let divisor = u128::from(prescaler) + 1;
+    let ticks = deadline.div_ceil(divisor);
+    // A free-running channel takes a compare of 0 for 2^64 ticks.
+    let longest = if mode == 2 { 1 << 64 } else { u64::MAX.into() };
+    if !(1..=longest).contains(&ticks) {
+        return None;
+    }
+    let mut calls = program(number, mode | RUNNING | RESET, prescaler, ticks as u64, 0);
+    calls.push(byte(registers::ENABLE + 3, 1 << number));
+    calls.push(Call::Advance {
+        cycles: (ticks * divisor - deadline) as u64,
+    });
+    Some(calls)
+}
+
+/// Sets the alarm of a clock that stands at 0 and does not run from host time, due after exactly `deadline` cycles. It
+/// advances the board, by less than a second.
+pub fn alarm_due(deadline: u128) -> Vec<Call> {
+    let second = u128::from(MASTER_CLOCK);
+    let seconds = deadline.div_ceil(second);
+    let mut calls = alarm(seconds as u64);
+    calls.push(Call::Advance {
+        cycles: (seconds * second - deadline) as u64,
+    });
+    calls
 }

@@ -2,14 +2,14 @@
 //!
 //! `compare FIRST LAST` compares the lists of the seeds from FIRST to LAST, what the boards hold after each, and lists
 //! over parked boards by the same seeds. `compare all FIRST LAST` compares these, and every register with every byte,
-//! damaged lists, short buffers, damaged images, and the controller by itself. Ends with how many comparisons agreed,
-//! or prints the shortest list that shows a difference.
+//! damaged lists, short buffers, skips to large deadlines, damaged images, and the controller by itself. Ends with how
+//! many comparisons agreed, or prints the shortest list that shows a difference.
 
 use std::process::ExitCode;
 use std::time::Instant;
 
 use oracle::compare::parked::{self, Parking};
-use oracle::compare::{controller, passes, Count, Difference, Pair};
+use oracle::compare::{controller, passes, skips, Count, Difference, Pair};
 use oracle::list;
 
 const PAIR: Pair = Pair {
@@ -81,6 +81,8 @@ fn compare(all: bool, first: u64, last: u64) -> Result<Count, String> {
         part("short buffers", &mut total, || {
             passes::short_buffers(&PAIR).map_err(text)
         })?;
+        part("skips", &mut total, || skips::lists(&PAIR).map_err(text))?;
+        part("skips of parked boards", &mut total, || skips::parked(&PARKING))?;
         part("damaged images", &mut total, || parked::damaged(&PARKING))?;
         part("a fresh board's image", &mut total, || parked::fresh(&PARKING))?;
         part("controller", &mut total, controller::compare)?;

@@ -8,7 +8,7 @@ use super::{readouts, Count, Difference, Pair};
 use crate::generate;
 use crate::registers::{self, channel, of_channel, CHANNELS};
 use crate::sys::MASTER_CLOCK;
-use crate::writes::{byte, two_words, word};
+use crate::writes::{alarm, byte, two_words, word};
 
 /// The answer buffer of a run that is to have room.
 pub const BUFFER: usize = 32_768;
@@ -16,7 +16,8 @@ pub const BUFFER: usize = 32_768;
 /// The answer buffer of the pass over the registers: room for the lists of `prepared` and for `state_readout`.
 pub const REGISTERS_BUFFER: usize = 4_096;
 
-type Compared = Result<Count, Box<Difference>>;
+/// What a pass gives: how much agreed, or the first difference.
+pub type Compared = Result<Count, Box<Difference>>;
 
 /// The list of a seed, then what the board holds after it, and then the list of the next seed over that board.
 pub fn seed(pair: &Pair, seed: u64) -> Compared {
@@ -102,8 +103,7 @@ pub fn prepared() -> Vec<Vec<u8>> {
     alarm_due.push(Call::Read {
         address: registers::SECONDS_LOW,
     });
-    alarm_due.extend(two_words(registers::ALARM_LOW, registers::ALARM_HIGH, 3));
-    alarm_due.push(byte(registers::ALARM_ENABLE + 3, 1));
+    alarm_due.extend(alarm(3));
     alarm_due.push(Call::HostTime {
         seconds: 3,
         nanoseconds: 0,
@@ -122,8 +122,7 @@ pub fn prepared() -> Vec<Vec<u8>> {
         }
         busy.push(byte(register(channel::CONTROL) + 3, 12 + number as u8));
     }
-    busy.extend(two_words(registers::ALARM_LOW, registers::ALARM_HIGH, 1));
-    busy.push(byte(registers::ALARM_ENABLE + 3, 1));
+    busy.extend(alarm(1));
     busy.push(byte(registers::ENABLE + 3, 15));
     busy.push(Call::ControllerWrite { address: 5, byte: 8 });
     let mut fired = busy.clone();

@@ -15,5 +15,6 @@ mod recorded;
 mod registers;
 mod rules;
 mod settings;
+mod skips;
 mod soundness;
 mod support;
