@@ -10,7 +10,7 @@ use crate::fields::Fields;
 use crate::generate::{self, Random};
 use crate::list;
 use crate::registers::{self, channel, of_channel, CHANNELS};
-use crate::writes::{byte, word};
+use crate::writes::{alarm, byte, channel_due, word};
 
 /// The longest file, and the longest answer buffer, that `replay` takes.
 pub const FILE_LIMIT: usize = 65_535;
@@ -214,11 +214,12 @@ fn prepared(random: &mut Random, realtime: bool) -> Vec<Call> {
     calls
 }
 
-/// Calls that show the board at the end of a list.
+/// Calls that show the board at the end of a list. The skip comes late: it may be refused.
 fn shown() -> impl Iterator<Item = Call> {
-    [Call::Deadline, Call::Skip, Call::Output]
+    [Call::Deadline, Call::Output]
         .into_iter()
         .chain((0..8).map(|address| Call::ControllerRead { address }))
+        .chain([Call::Skip, Call::Output])
 }
 
 /// Every address, in order, backwards or shuffled.
@@ -294,7 +295,7 @@ fn registers_written(random: &mut Random) -> Vec<Start> {
     starts
 }
 
-/// A call that is not refused.
+/// A call whose value is not refused.
 fn accepted(random: &mut Random) -> Call {
     loop {
         let call = random.call();
@@ -304,7 +305,7 @@ fn accepted(random: &mut Random) -> Call {
     }
 }
 
-/// Refusals 1 to 10, each after up to three calls, and with a call behind it at times.
+/// Refusals 1 to 10 and 13, each after up to three calls, and with a call behind it at times.
 fn refusals(random: &mut Random) -> Vec<Start> {
     let mut starts = Vec::new();
     // 1: the board is not sound, whatever the list and the buffer.
@@ -324,8 +325,13 @@ fn refusals(random: &mut Random) -> Vec<Start> {
             }
         }
     }
-    for (end, whole_call) in refused_ends(random) {
-        let calls: Vec<Call> = (0..random.below(4)).map(|_| accepted(random)).collect();
+    let ends = refused_ends(random).into_iter();
+    let ends = ends.map(|(end, whole_call)| (vec![], end, whole_call));
+    let skips = refused_skips().into_iter();
+    let skips = skips.map(|board| (board, Call::Skip.encode(), true));
+    for (board, end, whole_call) in ends.chain(skips) {
+        let mut calls: Vec<Call> = (0..random.below(4)).map(|_| accepted(random)).collect();
+        calls.extend(board);
         let mut list = list_of(&calls);
         list.extend(end);
         if whole_call && random.once_in(2) {
@@ -410,7 +416,32 @@ fn refused_calls(random: &mut Random) -> Vec<Call> {
     calls
 }
 
-/// Refusal 11 at every place: lists with every tag, into buffers of every length up to one byte more than needed.
+/// Calls after which a skip is refused with 13: each channel free-running, one-shot and periodic, on host time or not,
+/// and the last alarm.
+fn refused_skips() -> Vec<Vec<Call>> {
+    let mut boards = Vec::new();
+    for number in 0..CHANNELS {
+        for (mode, prescaler, deadline) in [
+            (2, 0, 1 << 64),
+            (2, 1, (1 << 64) + 1),
+            (2, u32::MAX, 1 << 96),
+            (0, 1, 1 << 64),
+            (0, u32::MAX, (1 << 64) + 1),
+            (1, 274_176, (1 << 64) + 1),
+            (1, u32::MAX - 1, 1 << 95),
+        ] {
+            let control = if mode == number as u8 { 5 } else { 1 };
+            let mut board = vec![byte(registers::CLOCK_CONTROL + 3, control)];
+            board.extend(channel_due(number, mode, prescaler, deadline).expect("a channel can have this deadline"));
+            boards.push(board);
+        }
+    }
+    boards.push([&[byte(registers::CLOCK_CONTROL + 3, 1)][..], &alarm(u64::MAX)].concat());
+    boards
+}
+
+/// Refusal 11 at every place: lists with every tag, into buffers of every length up to one byte more than needed. And a
+/// skip of 2^64 - 1 cycles, and one of 2^64, which is refused with 13, into buffers from the start of its record on.
 fn short_buffers(random: &mut Random) -> Vec<Start> {
     let mut starts = Vec::new();
     for _ in 0..4 {
@@ -427,6 +458,17 @@ fn short_buffers(random: &mut Random) -> Vec<Start> {
         for buffer in 0..=answer_bytes(&calls) + 1 {
             starts.push(Start {
                 timer_enable: random.below(16) as u8,
+                list: list_of(&calls),
+                buffer,
+            });
+        }
+    }
+    for deadline in [(1 << 64) - 1, 1 << 64] {
+        let board = channel_due(0, 2, 0, deadline).expect("a free-running channel can have this deadline");
+        let calls = [&board[..], &[Call::Skip, Call::Output]].concat();
+        for buffer in answer_bytes(&board)..=answer_bytes(&calls) + 1 {
+            starts.push(Start {
+                timer_enable: 0,
                 list: list_of(&calls),
                 buffer,
             });

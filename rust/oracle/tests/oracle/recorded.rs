@@ -35,7 +35,27 @@ fn recording_covers_tags_registers_and_refusals() {
     assert_eq!(coverage.tags, (0x01..=0x0A).collect());
     assert_eq!(coverage.read, (0x000..0x380).collect());
     assert_eq!(coverage.written, (0x000..0x380).collect());
-    assert_eq!(coverage.refusals, (0..=11).collect());
+    // 12 is that of an image.
+    assert_eq!(coverage.refusals, (0..=11).chain([13]).collect());
+}
+
+#[test]
+fn refused_skips_are_recorded_into_full_buffers_and_with_room() {
+    for (name, expected) in [("refusals", 29), ("short-buffers", 19)] {
+        let recordings = recordings();
+        let recording = recordings.iter().find(|recording| recording.name == name).unwrap();
+        let refused = recording
+            .records
+            .iter()
+            .filter(|record| record.outcome.refusal_number() == 13);
+        let rooms: Vec<usize> = refused
+            .map(|record| record.start.buffer - record.outcome.answer_bytes)
+            .collect();
+        assert_eq!(rooms.len(), expected, "{name}");
+        // A skip's record has 12 bytes.
+        let full = rooms.iter().filter(|&&room| room < 12).count();
+        assert!(full > 5 && rooms.len() - full > 5, "{name}: {rooms:?}");
+    }
 }
 
 #[test]
