@@ -1,5 +1,5 @@
-//! Register writes as calls: a byte, a word of four bytes, two words; a channel, an alarm; and both with a deadline that
-//! is wanted.
+//! Register writes as calls: a byte, a word of four bytes, two words; a channel, an alarm; and both with a given
+//! deadline.
 
 use calls::Call;
 

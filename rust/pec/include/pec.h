@@ -14,8 +14,10 @@
 extern "C" {
 #endif
 
-/* Runs a list over a fresh board. Gives the calls done, the list bytes they used and the answer bytes; the result is the
-   refusal, 0 for none. */
+/* Runs a list over a fresh board. Gives the calls done, the list bytes they used and the answer bytes; the result is
+   the refusal, 0 for none. The first call that is refused stops the run and changes nothing; the calls before it stand.
+   A skip with the line low is refused with 13 where the deadline is above 2^64 - 1; else, where there is a deadline, it
+   ends with the line high. */
 uint8_t pec_run(const uint8_t *list, size_t list_length, uint8_t *answers, size_t answers_length, size_t *calls,
                 size_t *used, size_t *written);
 

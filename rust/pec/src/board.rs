@@ -67,7 +67,26 @@ impl Board {
     }
 
     /// Runs a list over the board. The buffer then holds the answers of the calls done, from its first byte, and after
-    /// them its old bytes. A refusal stops the run, and the calls before it stand.
+    /// them its old bytes. A refusal stops the run, and the calls before it stand; the refused call changes nothing.
+    ///
+    /// A skip with the line low and a deadline is refused, by [`Refusal::DeadlineTooLarge`], where that deadline is
+    /// above 2^64 - 1 cycles; an accepted one ends with the line high. An advance brings a larger deadline nearer:
+    ///
+    /// ```
+    /// use pec::{answers, list_of, Answer, Board, Call, Refusal};
+    ///
+    /// // Channel 0 free-running with its interrupt enabled: control 0x1E starts it from 0, and it goes round in 2^64.
+    /// let mut board = Board::fresh();
+    /// let mut buffer = [0; 32];
+    /// let start = [(0x283, 0x1E), (0x007, 1)].map(|(address, byte)| Call::Write { address, byte });
+    /// board.run(&list_of(&start), &mut buffer);
+    /// let outcome = board.run(&list_of(&[Call::Skip]), &mut buffer);
+    /// assert_eq!(outcome.refusal, Some(Refusal::DeadlineTooLarge));
+    ///
+    /// let outcome = board.run(&list_of(&[Call::Advance { cycles: u64::MAX }, Call::Skip]), &mut buffer);
+    /// let last = answers(&buffer[..outcome.answer_bytes]).last();
+    /// assert_eq!(last, Some(Ok((0x06, Answer::Skip { passed: 1, line: true }))));
+    /// ```
     ///
     /// A list can be cut between two calls and run in two parts, the second into the rest of the buffer. Where the first
     /// part is not refused, they leave the same board as one run, and give the same answers, one after the other.

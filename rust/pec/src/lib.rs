@@ -67,7 +67,7 @@ unsafe extern "C" {
 
 /// The refusal of a number that the library gives, 0 for none.
 fn refusal_of(number: u8) -> Option<Refusal> {
-    (number != 0).then(|| Refusal::from_number(number).expect("the library's refusals are 1 to 12"))
+    (number != 0).then(|| Refusal::from_number(number).expect("the library's refusals are 1 to 13"))
 }
 
 /// The outcome of a call of the library that writes calls, list bytes and answer bytes and gives the refusal's number,

@@ -84,6 +84,71 @@ fn a_board_goes_on_where_a_run_left_it() {
 }
 
 #[test]
+fn a_skip_that_is_too_large_is_refused_and_changes_nothing() {
+    // Channel 0 free-running with its interrupt enabled, started from 0 by control's bit 4: due after 2^64 cycles. Two
+    // writes (6 bytes each, answers of 3) and a source (5 bytes, an answer of 3).
+    let mut start = [(0x283, 0x1E), (0x007, 1)]
+        .map(|(address, byte)| Call::Write { address, byte })
+        .to_vec();
+    start.push(Call::Source { number: 5, level: 1 });
+    let mut started = Board::fresh();
+    assert_eq!(started.run(&list_of(&start), &mut [0; 9]).refusal, None);
+    assert_ne!(started, Board::fresh());
+    let too_large = Outcome {
+        calls: 3,
+        list_bytes: 17,
+        answer_bytes: 9,
+        refusal: Some(Refusal::DeadlineTooLarge),
+    };
+    // The calls before the skip stand, and the one behind it is not done; 13 comes before 11.
+    let list = list_of(&[&start[..], &[Call::Skip, Call::Output]].concat());
+    for length in [9, 20, 21, 40] {
+        let mut board = Board::fresh();
+        let mut answers = [7; 40];
+        assert_eq!(board.run(&list, &mut answers[..length]), too_large);
+        assert_eq!(board.image(), started.image());
+        assert_eq!(answers[..9], [3, 0, 0, 3, 0, 0, 7, 0, 0]);
+        assert_eq!(answers[9..], [7; 31]);
+        assert_eq!(run(&list, &mut answers[..length]), too_large);
+    }
+    // By itself, it leaves every byte of the image and of the buffer.
+    let refused = Outcome {
+        refusal: Some(Refusal::DeadlineTooLarge),
+        ..Outcome::default()
+    };
+    let skip = Call::Skip.encode();
+    for length in [0, 12] {
+        let (mut image, mut answers) = (*started.image(), [7; 12]);
+        assert_eq!(run_parked(&mut image, &skip, &mut answers[..length]), refused);
+        assert_eq!((&image, answers), (started.image(), [7; 12]));
+    }
+    // A board that is not sound is refused for that, and not for its deadline.
+    let mut unsound = *started.image();
+    unsound[TIMER_ENABLE] = 17;
+    let outcome = run_parked(&mut unsound, &skip, &mut []);
+    assert_eq!(outcome.refusal, Some(Refusal::UnsoundBoard));
+    // One cycle nearer, the skip passes 2^64 - 1 cycles and raises the line; without room for its answer it is 11.
+    let mut board = started.clone();
+    let mut answers = [7; 16];
+    assert_eq!(
+        board.run(&Call::Advance { cycles: 1 }.encode(), &mut answers).refusal,
+        None
+    );
+    let nearer = board.clone();
+    let outcome = board.run(&skip, &mut answers[..11]);
+    assert_eq!((outcome.refusal, &board), (Some(Refusal::BufferTooSmall), &nearer));
+    assert_eq!(board.run(&skip, &mut answers).refusal, None);
+    assert_eq!(answers[..12], [6, 0, 9, 255, 255, 255, 255, 255, 255, 255, 255, 1]);
+    // With the line high it passes 0, and changes nothing.
+    let high = board.clone();
+    assert_eq!(board.run(&skip, &mut answers).refusal, None);
+    assert_eq!(
+        (&answers[..12], &board),
+        (&[6, 0, 9, 0, 0, 0, 0, 0, 0, 0, 0, 1][..], &high)
+    );
+}
+
+#[test]
 fn a_board_is_shown_as_its_image() {
     let text = format!("{:?}", Board::fresh());
     assert!(text.starts_with("Board(2000230000"), "{text}");

@@ -1,5 +1,5 @@
-//! C and C++ programs over the header and the archive: document 01's worked answers, parked boards, and the memory
-//! that the library uses.
+//! C and C++ programs over the header and the archive: document 01's worked answers, parked boards, a skip that is
+//! refused, and the memory that the library uses.
 
 use std::env;
 use std::io::Write;
@@ -67,8 +67,11 @@ fn a_board_is_parked_and_taken_up_from_c_and_from_cpp() {
     // Refusal, calls, list bytes and answer bytes. Three writes (6 bytes each, answers of 3), two deadlines (3 bytes,
     // answers of 28) and two advances (11 bytes, answers of 4); the parking stands after the first advance.
     let runs = "whole: 0 7 46 73\nfirst: 0 5 32 41\nsecond: 0 2 14 32\n";
+    // The two writes before the skip stand. An advance's answer has 4 bytes, a skip's 12.
+    let far = "too far: 13 2 12 6\ntoo far, not parked: 13 2 12 6\n".repeat(2);
+    let nearer = "nearer: 0 2 14 16, line 1\n";
     let expected = format!(
-        "short: 11 0\nfresh: 0 269, read 0\n{runs}one byte over: 12 12 0 0 0\ncut: 12 12 0 0 0\n\
+        "short: 11 0\nfresh: 0 269, read 0\n{runs}{far}{nearer}one byte over: 12 12 0 0 0\ncut: 12 12 0 0 0\n\
          unsound: 1 1 0 0 0\ndamaged and unsound: 12 12 0 0 0\ndamaged: 12 12 0 0 0\n"
     );
     for language in [C, CPP] {

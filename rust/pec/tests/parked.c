@@ -1,6 +1,7 @@
 /* Parks a fresh board, runs a list over it in two parts, and holds the answers, the counts and the image against the
-   list in one run; then images and buffers that are refused. Prints each result, and ends with 1 where something that
-   must stay or agree does not. The text is C and C++: the test compiles it as both. */
+   list in one run; then a skip that is refused over a parked board, and images and buffers that are refused. Prints
+   each result, and ends with 1 where something that must stay or agree does not. The text is C and C++: the test
+   compiles it as both. */
 #include "pec.h"
 
 #include <stdio.h>
@@ -47,6 +48,37 @@ static void run_in_two_parts(void)
     must(image[PEC_IMAGE_SIZE] == FILLING, "the byte after the image stays");
 }
 
+/* Channel 0 free-running from 0, control 0x1E; timer enable 1. Due after 2^64 cycles. Then a skip, and an output. */
+static const uint8_t FAR[] = {3, 0, 3, 0x02, 0x83, 0x1E, 3, 0, 3, 0x00, 0x07, 1, 6, 0, 0, 0x0A, 0, 0};
+/* An advance of one cycle, and a skip. */
+static const uint8_t NEARER[] = {4, 0, 8, 0, 0, 0, 0, 0, 0, 0, 1, 6, 0, 0};
+enum { STARTED = 12 };
+
+/* A skip whose deadline is too large, over a parked board, into buffers with room for its answer and without; and one
+   that is a cycle nearer. */
+static void skip_too_far(void)
+{
+    uint8_t answers[ANSWERS], far[PEC_IMAGE_SIZE], started[PEC_IMAGE_SIZE];
+    size_t calls, used, written;
+    must(pec_fresh(started, sizeof started, &written) == 0, "a buffer of the image's size holds it");
+    pec_run_parked(started, sizeof started, FAR, STARTED, answers, ANSWERS, &calls, &used, &written);
+    const size_t lengths[] = {ANSWERS, 6};
+    for (size_t i = 0; i < 2; i++) {
+        pec_fresh(far, sizeof far, &written);
+        memset(answers, FILLING, ANSWERS);
+        unsigned refusal =
+            pec_run_parked(far, sizeof far, FAR, sizeof FAR, answers, lengths[i], &calls, &used, &written);
+        printf("too far: %u %zu %zu %zu\n", refusal, calls, used, written);
+        must(memcmp(far, started, sizeof far) == 0, "a refused skip leaves the board of the calls before it");
+        must(answers[written] == FILLING, "a refused skip leaves the rest of the answers");
+        refusal = pec_run(FAR, sizeof FAR, answers, lengths[i], &calls, &used, &written);
+        printf("too far, not parked: %u %zu %zu %zu\n", refusal, calls, used, written);
+    }
+    unsigned refusal =
+        pec_run_parked(far, sizeof far, NEARER, sizeof NEARER, answers, ANSWERS, &calls, &used, &written);
+    printf("nearer: %u %zu %zu %zu, line %u\n", refusal, calls, used, written, answers[written - 1]);
+}
+
 /* The refusals of an image: of the question, and of a run over it, which must change nothing. */
 static void show_refused(const char *name, size_t length)
 {
@@ -75,6 +107,7 @@ int main(void)
     must(image[PEC_IMAGE_SIZE] == FILLING, "the byte after a fresh image stays");
 
     run_in_two_parts();
+    skip_too_far();
 
     show_refused("one byte over", PEC_IMAGE_SIZE + 1);
     show_refused("cut", PEC_IMAGE_SIZE - 1);

@@ -112,8 +112,8 @@ fn several_channels() -> Vec<Start> {
     starts
 }
 
-/// The alarm, by itself and beside a channel that is due a cycle before it, with it and after it; the last alarm; and an
-/// alarm on host time, which has no deadline.
+/// The alarm, by itself and beside a channel that is due a cycle before it, with it and after it; the last alarm; and
+/// an alarm on host time, which has no deadline.
 fn alarms() -> Vec<Start> {
     let mut starts = Vec::new();
     for deadline in ABOUT_THE_LIMIT {

@@ -15,8 +15,8 @@ const TOP: u128 = u64::MAX as u128;
 /// The bytes of a skip's record.
 const RECORD: usize = 12;
 
-/// What a skip on a board, with so many bytes left in the buffer, gives instead of what it should; none where it does as
-/// it should.
+/// What a skip on a board, with so many bytes left in the buffer, gives instead of what it should; none where it does
+/// as it should.
 type Fault = fn(&mut Board, usize) -> Option<Result<Answer, Refusal>>;
 
 /// D, where a skip would advance by it.
