@@ -31,8 +31,8 @@ pub struct Devices {
 /// A call that is not refused, and what its refusal was decided from.
 pub(crate) struct Accepted {
     call: Call,
-    /// The cycles of the advance that a skip makes; none where it makes none, and of another call.
-    skipped: Option<u64>,
+    /// The cycles that a skip passes, 0 where it makes no advance; 0 of another call.
+    passed: u64,
 }
 
 /// What a direct call returns besides the board.
@@ -129,22 +129,23 @@ impl Devices {
         if let Some(refusal) = call.refusal() {
             return Err(refusal);
         }
-        let skipped = match call {
+        let passed = match call {
             Call::Skip => self.cycles_to_skip()?,
-            _ => None,
+            _ => 0,
         };
-        Ok(Accepted { call, skipped })
+        Ok(Accepted { call, passed })
     }
 
-    /// The cycles by which a skip advances: none with the line high or no D, else D; or 13, with D above 2^64 - 1.
-    fn cycles_to_skip(&self) -> Result<Option<u64>, Refusal> {
+    /// The cycles that a skip passes: 0 with the line high or no D, else D, which is never 0; or 13, with D above
+    /// 2^64 - 1.
+    fn cycles_to_skip(&self) -> Result<u64, Refusal> {
         if self.timing.irq_asserted() {
-            return Ok(None);
+            return Ok(0);
         }
         match self.timing.cycles_until_irq() {
             // The Rust's figure is the smaller of D and 2^64 - 1. Below that it is D, and D itself need not be asked.
             Some(u64::MAX) if self.exact_deadline() > Some(u64::MAX.into()) => Err(Refusal::DeadlineTooLarge),
-            cycles => Ok(cycles),
+            cycles => Ok(cycles.unwrap_or(0)),
         }
     }
 
@@ -157,7 +158,7 @@ impl Devices {
         answer
     }
 
-    fn perform(&mut self, Accepted { call, skipped }: Accepted) -> Answer {
+    fn perform(&mut self, Accepted { call, passed }: Accepted) -> Answer {
         let irqc = self.controller.get_mut();
         match call {
             Call::HostTime { seconds, nanoseconds } => {
@@ -175,7 +176,7 @@ impl Devices {
                 Answer::Line(self.timing.irq_asserted())
             }
             Call::Deadline => self.deadline(),
-            Call::Skip => self.skip(skipped),
+            Call::Skip => self.skip(passed),
             Call::Source { number, level } => {
                 irqc.set_source(number, level == 1);
                 Answer::Empty
@@ -213,13 +214,13 @@ impl Devices {
         }
     }
 
-    /// Document 01's skip: at most one advance, by these cycles.
-    fn skip(&mut self, cycles: Option<u64>) -> Answer {
-        if let Some(cycles) = cycles {
-            self.timing.advance(cycles);
+    /// Document 01's skip: one advance by these cycles, or none where they are 0.
+    fn skip(&mut self, passed: u64) -> Answer {
+        if passed > 0 {
+            self.timing.advance(passed);
         }
         Answer::Skip {
-            passed: cycles.unwrap_or(0),
+            passed,
             line: self.timing.irq_asserted(),
         }
     }
