@@ -1,8 +1,10 @@
-//! The comparison finds planted faults and shortens what shows them; the lists of its passes are not refused.
+//! The comparison finds planted faults and shortens what shows them; the lists of its passes are not refused, nor are
+//! those that are measured.
 
 use calls::{list_of, Call, Outcome};
 use oracle::compare::passes::{self, BUFFER, REGISTERS_BUFFER};
 use oracle::compare::{readouts, shortest, Pair};
+use oracle::kinds;
 use oracle::list::run_repeated;
 use oracle::registers;
 
@@ -117,5 +119,17 @@ fn the_lists_of_the_passes_run_to_their_ends() {
     }
     for readout in readouts() {
         assert_eq!(run_repeated(&readout, &[], 0, &mut vec![0; BUFFER]).refusal, None);
+    }
+}
+
+#[test]
+fn the_measured_lists_run_to_their_ends() {
+    let mut answers = vec![0; kinds::BUFFER];
+    for kind in kinds::named(None) {
+        let (first, list) = (list_of(&kind.first), list_of(&kind.list));
+        for times in 0..10 {
+            let outcome = run_repeated(&first, &list, times, &mut answers);
+            assert_eq!(outcome.refusal, None, "{}, {times} times", kind.name);
+        }
     }
 }

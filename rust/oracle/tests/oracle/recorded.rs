@@ -41,8 +41,9 @@ fn recording_covers_tags_registers_and_refusals() {
 
 #[test]
 fn refused_skips_are_recorded_into_full_buffers_and_with_room() {
+    let recordings = recordings();
+    // Seven forms of four channels and one of the alarm; every length from none to one byte past 12 + 5.
     for (name, expected) in [("refusals", 29), ("short-buffers", 19)] {
-        let recordings = recordings();
         let recording = recordings.iter().find(|recording| recording.name == name).unwrap();
         let refused = recording
             .records

@@ -316,7 +316,7 @@ fn skip_by_line_and_deadline_of_any_board() {
     assert!(seen.iter().all(|&count| count > 500), "{seen:?}");
 }
 
-/// A board whose D is at a limit of one skip, by name: D, and the fields.
+/// Boards whose D is 2^64 - 1 or above, with the line low: a name, D and the fields.
 fn far_boards() -> Vec<(&'static str, u128, Fields)> {
     let with = |mode, edit: fn(&mut Fields)| {
         let mut fields = running(mode);
@@ -427,7 +427,8 @@ fn skip_gets_there_or_is_refused_with_13() {
 
 #[test]
 fn skip_is_refused_with_13_after_1_and_before_11() {
-    let list = list_of(&[Call::Source { number: 4, level: 1 }, Call::Skip, Call::Output]);
+    let calls = [Call::Source { number: 4, level: 1 }, Call::Skip, Call::Output];
+    let list = list_of(&calls);
     for (name, exact, fields) in far_boards() {
         let too_large = exact >= 1 << 64;
         // The source's record has 3 bytes, the skip's 12, the output's 5.
@@ -435,7 +436,7 @@ fn skip_is_refused_with_13_after_1_and_before_11() {
             let mut board = Board::from_fields(&fields);
             let mut buffer = [0xEE; 21];
             let outcome = run(&mut board, &list, &mut buffer[..length]);
-            let (calls, refusal) = match length {
+            let (done, refusal) = match length {
                 0..3 => (0, 11),
                 _ if too_large => (1, 13),
                 3..15 => (1, 11),
@@ -443,15 +444,14 @@ fn skip_is_refused_with_13_after_1_and_before_11() {
                 _ => (3, 0),
             };
             let expected = Outcome {
-                calls,
-                list_bytes: [0, 5, 8, 11][calls],
-                answer_bytes: [0, 3, 15, 20][calls],
+                calls: done,
+                list_bytes: [0, 5, 8, 11][done],
+                answer_bytes: [0, 3, 15, 20][done],
                 refusal: Refusal::from_number(refusal),
             };
             assert_eq!(outcome, expected, "{name} into {length}");
             // The calls before the refused one stand, and nothing else is changed.
-            let done = [Call::Source { number: 4, level: 1 }, Call::Skip, Call::Output];
-            let after = done[..calls]
+            let after = calls[..done]
                 .iter()
                 .fold(fields, |fields, &call| fields_after(&fields, call));
             assert_eq!(board.fields(), after, "{name} into {length}");
