@@ -3,18 +3,16 @@ use Prim.Native.Nat.{ℕ}
 use native.Mathlib.Omega.{arith}
 use mathlib.Core.Path.{_≡_, sym, ap, _∙_}
 use mathlib.Core.Bool.{true, false}
-use mathlib.Core.Option.{Option, none, some}
-use lib.Dec.{eqb}
+use mathlib.Core.Option.{Option, some}
 use borrow.Author.Tests.{le-leb}
 use Rattle.wide.specs.Deadline.{due}
 use Rattle.wide.proofs.Choices.{either}
 use Rattle.wide.proofs.Forms.{flag-back}
 use Rattle.board.specs.declared.Board.{Board}
 use Rattle.board.specs.declared.calls.SkipAnswer.{SkipAnswer}
-use Rattle.board.specs.Board.{BoardFits, line, exactDeadline, sound}
+use Rattle.board.specs.Board.{BoardFits, line, exactDeadline}
 use Rattle.board.specs.Calls.{
   refusalOf,
-  boardAfter,
   answerOf,
   skipAnswer,
   advancedBoard,

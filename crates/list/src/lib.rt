@@ -1,6 +1,6 @@
 // The call list: a run takes the calls of a list in order, writes an answer for each into a buffer, and stops at the
-// first refusal. A refusal is found before its call is carried out, so an accepted call changes the board where it
-// lies.
+// first refusal. A refusal is found before its call is carried out, from the list, the buffer's rest and the board, so
+// an accepted call changes the board where it lies.
 ghost use mathlib.Core.Path.{_≡_};
 ghost use lib.ListN.{length};
 ghost use Rattle.list.specs.Run.{runOf, over};

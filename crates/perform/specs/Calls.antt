@@ -57,7 +57,7 @@ firstOf m n = cond (eqb m 0) n m
 
 -- the refusal of the call at the front of a list, 0 for none, with so much room for its answer: 'for each call: 2 one
 -- or two bytes left; 3 unknown tag; 4 wrong length; 5 value cut; the call's own; 11 answer longer than the buffer's
--- rest'
+-- rest'. The bytes and the room do not decide it alone: a skip's own refusal depends on the board, and comes before 11
 unfoldable pub refusalAt : Board → List ℕ → ℕ → ℕ
 refusalAt b l room =
     firstOf (frameRefusal l)

@@ -89,9 +89,9 @@ fn host_at(rest: &[u8]) -> HostTime
 
 // ---- ahead of the call
 
-// The call's own refusal on a board, 0 for none, and a skip's advance. Bytes and room alone do not say whether a call is
-// refused: a skip is by the board's deadline, which is then its cycles, so its advance is found with the refusal. No
-// other call has one here.
+// The call's own refusal on a board, 0 for none, and a skip's advance. The list's bytes and the room do not say alone
+// whether a call is refused: a skip is by the board's deadline. That is also how far it goes, so its advance is found
+// here, once. Another call has none here.
 fn own_refusal(board: Board, tag: u8, rest: &[u8]) -> Passing
     requires { ⌜ (3 + valueLength tag ≤ length (now rest)) × (sound board ≡ true) ⌝ }
     ensures { λ r. ⌜ r .refusal ≡ callOf tag (argumentsOf tag (now (rest .entry))) board .refusal ⌝ }
