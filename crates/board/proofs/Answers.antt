@@ -5,8 +5,8 @@ use mathlib.Core.Path.{_≡_, refl, sym, ap, _∙_}
 use mathlib.Core.Bool.{Bool, true, false, cond, false≢true}
 use mathlib.Core.Option.{Option, none, some}
 use mathlib.Core.List.{[]}
-use lib.Dec.{leb, ltb, eqb}
-use borrow.Author.Tests.{leb-true, leb-false, lt-ltb, le-ltb, eqb-true}
+use lib.Dec.{leb, eqb}
+use borrow.Author.Tests.{leb-true, leb-false, lt-ltb, le-ltb, eqb-true, eq-eqb}
 use Rattle.wide.specs.declared.number.Wide.{Wide}
 use Rattle.wide.specs.Number.{valueOf, wideOf, largest}
 use Rattle.wide.proofs.Choices.{either}
@@ -34,7 +34,7 @@ use Rattle.board.specs.Calls.{
   skipRefusal,
   skipCall,
 }
-use Rattle.board.specs.CodeCalls.{deadlineGiven, passingOf}
+use Rattle.board.specs.CodeCalls.{deadlineGiven, passingNone, passingOf}
 use Rattle.board.specs.Demand.{Promise}
 use Rattle.board.proofs.Soundness.{wired-sound}
 use Rattle.board.proofs.Steps.{wired-line}
@@ -121,7 +121,7 @@ module _ (b : Board) (low : line b ≡ false) where
         rw (low, e, le-ltb largest d h, k)
 
     pub skips-far : leb d largest ≡ false →
-        record { refusal = deadlineTooLarge; made = false; cycles = record { 0 = 0 } } ≡ passingOf (skipLength b)
+        passingNone deadlineTooLarge ≡ passingOf (skipLength b)
     skips-far l = rw (low, e, lt-ltb largest d (leb-false d largest l))
 
 pub skips-high : (b : Board) → line b ≡ true → passingOf none ≡ passingOf (skipLength b)
@@ -130,25 +130,23 @@ skips-high b h = rw h
 -- the advance that the code makes of an optional number
 module _ (p : Passing) where
   pub passing-refusal : (o : Option ℕ) → p ≡ passingOf o → p .refusal ≡ lengthRefusal o
-  passing-refusal none e = rw e
-  passing-refusal (some d) e = either (ltb largest d) (λ h. rw (e, h)) (λ h. rw (e, h))
+  passing-refusal o e =
+      either (eqb (lengthRefusal o) 0) (λ h. rw (e, h) (sym (eqb-true _ 0 h))) (λ h. rw (e, h))
 
   pub passing-some : (o : Option ℕ) → p ≡ passingOf o → p .made ≡ true → o ≡ some (p .cycles .0)
   passing-some none e m = absurd (false≢true (sym (ap (λ (q : Passing). q .made) e) ∙ m))
   passing-some (some d) e m =
-      either (ltb largest d)
+      either (eqb (lengthRefusal (some d)) 0) (λ h. rw (e, h))
       (λ h. absurd (false≢true (sym (ap (λ (q : Passing). q .made) (rw h at e)) ∙ m)))
-      (λ h. rw (e, h))
 
   pub passing-none : (o : Option ℕ) → p ≡ passingOf o → p .refusal ≡ 0 → p .made ≡ false →
       (o ≡ none) × (p ≡ passingOf none)
   passing-none none e z m = (refl, e)
   passing-none (some d) e z m =
-      either (ltb largest d)
-      (λ h. let n : _≡_ {A = ℕ} 13 0 = sym (ap (λ (q : Passing). q .refusal) (rw h at e)) ∙ z in absurd (omega arith))
-      (λ h. absurd (false≢true (sym m ∙ ap (λ (q : Passing). q .made) (rw h at e))))
+      let h = eq-eqb (lengthRefusal (some d)) 0 (sym (passing-refusal (some d) e) ∙ z) in
+      absurd (false≢true (sym m ∙ ap (λ (q : Passing). q .made) (rw h at e)))
 
--- what is refused, unsound or by its own refusal n
+-- a skip that is refused: on a board that is not sound, and by its own refusal
 pub skip-unsound : (b : Board) → sound b ≡ false →
     record { board = b; refusal = 1; passed = record { 0 = 0 }; line = false } ≡ skipAnswer (answerOf skipCall b)
 skip-unsound b s = ap skipAnswer (sym (answer-refused skipCall b 1 (rw s) refl))

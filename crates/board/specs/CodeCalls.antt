@@ -1,22 +1,26 @@
 -- Not document 01's sentences but what the code computes of them: optional numbers as the structs that hold them.
 use Prim.Native.Nat.{ℕ}
-use mathlib.Core.Bool.{true, false, cond}
-use mathlib.Core.Option.{Option, none, some}
-use lib.Dec.{ltb}
-use Rattle.wide.specs.Number.{wideOf, largest}
+use mathlib.Core.Bool.{false, cond}
+use mathlib.Core.Option.{Option}
+use lib.Dec.{eqb}
+use Rattle.wide.specs.Number.{wideOf}
 use Rattle.board.specs.declared.calls.DeadlineMembers.{DeadlineMembers}
 use Rattle.board.specs.declared.calls.Passing.{Passing}
 use Rattle.board.specs.Board.{wordDeadline}
-use Rattle.board.specs.Calls.{isPresent, orZero, deadlineTooLarge}
+use Rattle.board.specs.Calls.{isPresent, orZero, lengthRefusal}
 
 -- the members of the deadline's answer
 abbrev pub deadlineGiven : Option ℕ → DeadlineMembers
 deadlineGiven d =
     record { present = isPresent d; exact = wideOf (orZero d); word = record { 0 = orZero (wordDeadline d) } }
 
--- the cycles of an advance, or none; more than one advance takes are refused, and then none is made
+-- no advance, by a refusal or, where it is 0, because none is to be made
+abbrev pub passingNone : ℕ → Passing
+passingNone refusal = record { refusal = refusal; made = false; cycles = record { 0 = 0 } }
+
+-- the cycles of an advance, or none; where they are refused, none is made
 abbrev pub passingOf : Option ℕ → Passing
-passingOf none = record { refusal = 0; made = false; cycles = record { 0 = 0 } }
-passingOf (some d) =
-    cond (ltb largest d) (record { refusal = deadlineTooLarge; made = false; cycles = record { 0 = 0 } })
-    (record { refusal = 0; made = true; cycles = record { 0 = d } })
+passingOf o =
+    cond (eqb (lengthRefusal o) 0)
+    (record { refusal = 0; made = isPresent o; cycles = record { 0 = orZero o } })
+    (passingNone (lengthRefusal o))

@@ -1,7 +1,7 @@
 // The direct calls but read and write. Each tests soundness first, then its own refusal, and a refused call returns the
 // board given.
 ghost use mathlib.Core.Path.{_≡_};
-ghost use mathlib.Core.Bool.{true, false};
+ghost use mathlib.Core.Bool.{true};
 ghost use Rattle.wide.specs.Number.{valueOf};
 ghost use Rattle.board.specs.Board.{BoardFits, sound, exactDeadline};
 ghost use Rattle.board.specs.Calls.{refusalOf, answerOf, emptyAnswer, byteAnswer, advanceAnswer};
@@ -9,7 +9,7 @@ ghost use Rattle.board.specs.Calls.{deadlineAnswer, skipAnswer, outputAn
 ghost use Rattle.board.specs.Calls.{advancedBoard, advanceCall, deadlineCall, skipLength, skipCall};
 ghost use Rattle.board.specs.Calls.{sourceRefusal, sourceCall, controllerReadCall, controllerWriteCall};
 ghost use Rattle.board.specs.Calls.{outputCall};
-ghost use Rattle.board.specs.CodeCalls.{deadlineGiven, passingOf};
+ghost use Rattle.board.specs.CodeCalls.{deadlineGiven, passingNone, passingOf};
 ghost use Rattle.board.specs.Demand.{Promise, SkipPromise};
 use crate::Board;
 use crate::channels::advance_all;
@@ -337,7 +337,7 @@ impl Board {
 
 // No advance, by a refusal or, where it is 0, because none is to be made.
 pub fn passing_none(refusal: u8) -> Passing
-    ensures { λ r. ⌜ r ≡ record { refusal = refusal; made = false; cycles = record { 0 = 0 } } ⌝ }
+    ensures { λ r. ⌜ r ≡ passingNone refusal ⌝ }
 {
     Passing {
         refusal,
