@@ -20,7 +20,7 @@ use Rattle.board.specs.declared.Latches.{Latches}
 use Rattle.board.specs.declared.calls.Passing.{Passing}
 use Rattle.board.specs.Fields.{withController, channelAt, withChannel}
 use Rattle.board.specs.Board.{line, wired, sound}
-use Rattle.board.specs.Calls.{boardAfter, movedBoard, deadlineCall, skipLength}
+use Rattle.board.specs.Calls.{boardAfter, movedBoard, deadlineCall}
 use Rattle.board.specs.CodeCalls.{passingOf}
 use Rattle.board.proofs.Soundness.{facts-sound}
 use Rattle.board.proofs.Steps.{good}
@@ -53,7 +53,7 @@ use Rattle.format.proofs.Frames.{framed}
 use Rattle.perform.specs.declared.Effect.{Effect}
 use Rattle.perform.specs.declared.Front.{Front}
 use Rattle.perform.specs.Calls.{callAt, refusalAt}
-use Rattle.perform.specs.CodeCalls.{FrontFound, passingAt, answeredBytes, Lesser, withEffect, EffectIs}
+use Rattle.perform.specs.CodeCalls.{FrontFound, skipAt, passingAt, answeredBytes, Lesser, withEffect, EffectIs}
 use Rattle.perform.proofs.Calls.{read-is, write-is, deadline-is, Passes, passes, stays, other-bytes}
 use Rattle.list.specs.declared.Outcome.{Outcome}
 use Rattle.list.specs.Run.{Turn, done, refused, turnOf, stepped}
@@ -171,7 +171,7 @@ module _ (l : List ℕ) (b : Board) where
           (ap (λ (n : ℕ). eqb n 4) t) (ap (λ (n : ℕ). eqb n 6) t)
           (rw (g, t))
 
-    module _ (z : callAt l b .refusal ≡ 0) (skip : Passing) (k : tagAt l ≡ 6 → skip ≡ passingOf (skipLength b))
+    module _ (z : callAt l b .refusal ≡ 0) (skip : Passing) (k : skip ≡ passingOf (skipAt (tagAt l) b))
         (t : (tagAt l ≡ 4) ⊎ (tagAt l ≡ 6)) (p : Passing) (e : p ≡ passingAt (tagAt l) (argumentsOf (tagAt l) l) skip)
         (g : c ≡ p .cycles .0) (m : moved ≡ true) where
       passed : Passes (tagAt l) (argumentsOf (tagAt l) l) b z skip k p e y → Carried y c moved a
@@ -237,7 +237,7 @@ pub record Found (b : Board) (l : List ℕ) (room : ℕ) (f : Front) : Type 0 wh
   pub clear : Clear b l room
   pub length : f .length ≡ 3 + valueLength (tagAt l)
   pub size : f .size ≡ answerLength (tagAt l)
-  pub skip : tagAt l ≡ 6 → f .skip ≡ passingOf (skipLength b)
+  pub skip : f .skip ≡ passingOf (skipAt (tagAt l) b)
 
 pub found : (b : Board) (l : List ℕ) (room : ℕ) (f : Front) → FrontFound b l room f → f .refusal ≡ 0 →
     Found b l room f

@@ -7,18 +7,27 @@ use mathlib.Core.Option.{Option, none, some}
 use mathlib.Core.List.{List}
 use mathlib.Core.Logic.{_⊎_, inl, inr}
 use lib.Dec.{eqb}
-use borrow.Author.Tests.{eq-eqb}
-use Rattle.wide.proofs.Choices.{choose}
+use borrow.Author.Tests.{eqb-true, eqb-false, eq-eqb}
+use Rattle.wide.proofs.Choices.{choose, either}
 use Rattle.board.specs.declared.Board.{Board}
 use Rattle.board.specs.declared.calls.Passing.{Passing}
 use Rattle.board.specs.Board.{line}
-use Rattle.board.specs.Calls.{Call, orZero, movedBoard, movedBy, skipLength, deadlineCall}
+use Rattle.board.specs.Calls.{
+  Call,
+  orZero,
+  movedBoard,
+  movedBy,
+  skipLength,
+  lengthRefusal,
+  deadlineCall,
+  skipCall,
+}
 use Rattle.board.specs.CodeCalls.{passingOf}
 use Rattle.board.proofs.Answers.{passing-refusal, passing-some, passing-none}
 use Rattle.registers.specs.Calls.{readCall, writeCall}
 use Rattle.format.specs.Format.{answerBytes}
 use Rattle.perform.specs.Calls.{argument, callOf}
-use Rattle.perform.specs.CodeCalls.{passingAt, answeredBytes, Lesser}
+use Rattle.perform.specs.CodeCalls.{ValueRefuses, skipAt, passingAt, answeredBytes, Lesser}
 
 -- ---- the own refusal
 
@@ -55,10 +64,38 @@ module _ (tag : ℕ) (m : List ℕ) (b : Board) where
   unfolding callOf
   deadline-is e = rw e
 
+  pub skip-is : tag ≡ 6 → callOf tag m b ≡ skipCall b
+  unfolding callOf
+  skip-is e = rw e
+
+-- ---- the own refusal, by what the value decides of it and by the skip
+
+pub no-skip-at : (tag : ℕ) (b : Board) → eqb tag 6 ≡ false → skipAt tag b ≡ none
+unfolding skipAt
+no-skip-at tag b f = rw f
+
+pub six-skips : (tag : ℕ) (b : Board) → tag ≡ 6 → skipAt tag b ≡ skipLength b
+unfolding skipAt
+six-skips tag b e = rw e
+
+module _ (tag : ℕ) (m : List ℕ) (b : Board) (n : ℕ) (r : ValueRefuses tag m n) where
+  -- what the value refuses is the call's own refusal
+  pub refused-value : eqb n 0 ≡ false → n ≡ callOf tag m b .refusal
+  refused-value f = r .1 b (λ q. true≢false (sym (eq-eqb n 0 (r .0 q)) ∙ f))
+
+  -- where it refuses nothing, the own refusal is that of the skip
+  pub refused-skip : n ≡ 0 → (p : Passing) → p ≡ passingOf (skipAt tag b) → p .refusal ≡ callOf tag m b .refusal
+  refused-skip z p e =
+      passing-refusal p (skipAt tag b) e
+      ∙ either (eqb tag 6)
+      (λ q. let k = eqb-true tag 6 q in
+      ap lengthRefusal (six-skips tag b k) ∙ sym (ap (λ (c : Call). c .refusal) (skip-is tag m b k)))
+      (λ q. ap lengthRefusal (no-skip-at tag b q) ∙ sym z ∙ r .1 b (eqb-false tag 6 q))
+
 -- ---- advance and skip, by the advance p that the code makes; skip is what it found of a skip
 
 module _ (tag : ℕ) (m : List ℕ) (b : Board) (z : callOf tag m b .refusal ≡ 0) (skip : Passing)
-    (k : tag ≡ 6 → skip ≡ passingOf (skipLength b)) (p : Passing) (e : p ≡ passingAt tag m skip) where
+    (k : skip ≡ passingOf (skipAt tag b)) (p : Passing) (e : p ≡ passingAt tag m skip) where
   -- its board and its answer, where y is the board after it
   abbrev pub Passes : Board → Type 0
   Passes y =
@@ -72,7 +109,7 @@ module _ (tag : ℕ) (m : List ℕ) (b : Board) (z : callOf tag m b .refusal ≡
 
   six : tag ≡ 6 → p ≡ passingOf (skipLength b)
   unfolding passingAt
-  six q = let s : p ≡ skip = rw q at e in s ∙ k q
+  six q = let s : p ≡ skip = rw q at e in s ∙ k ∙ ap passingOf (six-skips tag b q)
 
   -- a skip that is not refused
   six-accepted : tag ≡ 6 → p .refusal ≡ 0

@@ -5,6 +5,7 @@ use mathlib.Core.Path.{_≡_}
 use mathlib.Core.Logic.{_⊎_}
 use mathlib.Core.List.{List, [], _∷_}
 use mathlib.Core.Bool.{Bool, true, cond}
+use mathlib.Core.Option.{Option, none}
 use lib.Dec.{eqb}
 use Rattle.wide.specs.Bits.{flagOf}
 use Rattle.clock.specs.declared.HostTime.{HostTime}
@@ -20,6 +21,14 @@ use Rattle.perform.specs.declared.Effect.{Effect}
 use Rattle.perform.specs.declared.Front.{Front}
 use Rattle.perform.specs.Calls.{argument, callOf, refusalAt}
 
+-- n is what a call's value decides of its own refusal: of a skip nothing, of another call all, whatever the board
+abbrev pub ValueRefuses : ℕ → List ℕ → ℕ → Type 0
+ValueRefuses tag m n = (tag ≡ 6 → n ≡ 0) × ((b : Board) → (tag ≡ 6 → ⊥) → n ≡ callOf tag m b .refusal)
+
+-- the cycles of a skip's advance, or none; another call's are none here
+unfoldable pub skipAt : ℕ → Board → Option ℕ
+skipAt tag b = cond (eqb tag 6) (skipLength b) none
+
 -- the call at the front, on a board and with so much room: its refusal and, where there is none, the list bytes that it
 -- uses, the bytes of its answer's members and, of a skip, its advance
 abbrev pub FrontFound : Board → List ℕ → ℕ → Front → Type 0
@@ -27,7 +36,7 @@ FrontFound b l room f =
     (f .refusal ≡ refusalAt b l room)
     × (refusalAt b l room ≡ 0 →
     (f .length ≡ headerLength + valueLength (tagAt l)) × (f .size ≡ answerLength (tagAt l))
-    × (tagAt l ≡ 6 → f .skip ≡ passingOf (skipLength b)))
+    × (f .skip ≡ passingOf (skipAt (tagAt l) b)))
 
 -- 04 and 06: the advance, by that which was found of a skip
 unfoldable pub passingAt : ℕ → List ℕ → Passing → Passing

@@ -7,12 +7,19 @@ ghost use lib.ListN.{length};
 ghost use lib.Seq.{sets};
 ghost use Rattle.wide.specs.Fields.{beAt};
 ghost use Rattle.board.specs.Board.{sound};
-ghost use Rattle.board.specs.Calls.{deadlineCall, skipLength};
+ghost use Rattle.board.specs.Calls.{deadlineCall};
 ghost use Rattle.board.specs.CodeCalls.{passingOf};
 ghost use Rattle.offsets.specs.Registers.{base};
 ghost use Rattle.format.specs.Format.{valueLength, argumentsOf, answerBytes, valueBytes, recordOf};
-ghost use Rattle.perform.specs.Calls.{callOf};
-ghost use Rattle.perform.specs.CodeCalls.{FrontFound, passingAt, answeredBytes, Lesser, EffectIs};
+ghost use Rattle.perform.specs.CodeCalls.{
+  FrontFound,
+  ValueRefuses,
+  skipAt,
+  passingAt,
+  answeredBytes,
+  Lesser,
+  EffectIs,
+};
 use board::Board;
 use board::calls::Passing;
 use board::calls::host_time_refusal;
@@ -89,22 +96,30 @@ fn host_at(rest: &[u8]) -> HostTime
 
 // ---- ahead of the call
 
-// The call's own refusal on a board, 0 for none, and a skip's advance. The list's bytes and the room do not say alone
-// whether a call is refused: a skip is by the board's deadline. That is also how far it goes, so its advance is found
-// here, once. Another call has none here.
-fn own_refusal(board: Board, tag: u8, rest: &[u8]) -> Passing
-    requires { ⌜ (3 + valueLength tag ≤ length (now rest)) × (sound board ≡ true) ⌝ }
-    ensures { λ r. ⌜ r .refusal ≡ callOf tag (argumentsOf tag (now (rest .entry))) board .refusal ⌝ }
-    ensures { λ r. ⌜ (tag ≡ 6 → r ≡ passingOf (skipLength board)) ⌝ }
+// What the value of a call decides of its own refusal, 0 for none: all of it, but for a skip.
+fn value_refusal(tag: u8, rest: &[u8]) -> u8
+    requires { ⌜ 3 + valueLength tag ≤ length (now rest) ⌝ }
+    ensures { λ r. ⌜ ValueRefuses tag (argumentsOf tag (now (rest .entry))) r ⌝ }
 {
     match tag {
-        1 => passing_none(host_time_refusal(host_at(rest))),
-        2 => passing_none(registers::address_refusal(address_at(rest))),
-        3 => passing_none(registers::address_refusal(address_at(rest))),
-        6 => board.skip_length(),
-        7 => passing_none(source_refusal(SourceNumber(byte_at(rest, 3)), byte_at(rest, 4))),
-        _ => passing_none(0),
+        1 => host_time_refusal(host_at(rest)),
+        2 => registers::address_refusal(address_at(rest)),
+        3 => registers::address_refusal(address_at(rest)),
+        7 => source_refusal(SourceNumber(byte_at(rest, 3)), byte_at(rest, 4)),
+        _ => 0,
     }
+}
+
+// What the board decides: of a skip its refusal and its advance, which both come from the deadline, so that this is
+// found once. Another call has neither.
+fn skip_at(board: Board, tag: u8) -> Passing
+    requires { ⌜ sound board ≡ true ⌝ }
+    ensures { λ r. ⌜ r ≡ passingOf (skipAt tag board) ⌝ }
+{
+    if tag == 6 {
+        return board.skip_length();
+    }
+    passing_none(0)
 }
 
 // A call that is refused.
@@ -119,7 +134,8 @@ fn refused(refusal: u8) -> Front
     }
 }
 
-// The call at the front, on a board and with so much room for its answer.
+// The call at the front, on a board and with so much room for its answer. The list's bytes and the room do not say alone
+// whether it is refused: a skip's own refusal, which comes before 11, depends on the board.
 pub fn front_of(board: Board, rest: &[u8], room: usize) -> Front
     requires { ⌜ sound board ≡ true ⌝ }
     ensures { λ r. ⌜ FrontFound board (now (rest .entry)) room r ⌝ }
@@ -128,18 +144,28 @@ pub fn front_of(board: Board, rest: &[u8], room: usize) -> Front
     if frame.refusal != 0 {
         return refused(frame.refusal);
     }
-    let own = own_refusal(board, rest[0], rest);
-    if own.refusal != 0 {
-        return refused(own.refusal);
+    let tag = rest[0];
+    let own = value_refusal(tag, rest);
+    if own != 0 {
+        return refused(own);
     }
+    // a skip is looked at on both sides of this test: ahead of it, every call would carry an advance across it
     if room < format::HEADER_LENGTH + frame.answer {
+        let without_room = skip_at(board, tag);
+        if without_room.refusal != 0 {
+            return refused(without_room.refusal);
+        }
         return refused(format::ANSWER_TOO_LONG);
+    }
+    let skip = skip_at(board, tag);
+    if skip.refusal != 0 {
+        return refused(skip.refusal);
     }
     Front {
         refusal: 0,
         length: format::HEADER_LENGTH + frame.value,
         size: frame.answer,
-        skip: own,
+        skip,
     }
 }
 
