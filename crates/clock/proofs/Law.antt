@@ -42,6 +42,7 @@ use Rattle.clock.proofs.Tests.{
   or-false,
   own-enabled,
   own-host,
+  host-own,
   off,
   polls-host,
   reached-enabled,
@@ -128,9 +129,7 @@ module _ (rate : ℕ) (k : Clock) (t : ℕ) where
 
   -- a clock that runs from host time has no deadline of its own
   pub due-host : fromHost (k .control) ≡ true → clockDue rate k t ≡ clockLine k
-  due-host h =
-      due-unmoved
-      (either (ownTime (k .control)) (λ o. absurd (false≢true (sym (own-host (k .control) o) ∙ h))) (λ o. o))
+  due-host h = due-unmoved (host-own (k .control) h)
 
   due-waiting : ownTime (k .control) ≡ true → alarmOn k ≡ true → k .alarm .armed ≡ true → k .alarm .pending ≡ false →
       k .seconds < k .alarm .seconds → k .subsecond < rate →

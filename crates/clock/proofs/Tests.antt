@@ -59,6 +59,15 @@ own-host n = apart (enabled n) (realtime n)
     apart true false e = refl
     apart false b e = refl
 
+-- and one that runs from host time is not moved by cycles
+pub host-own : (n : ℕ) → fromHost n ≡ true → ownTime n ≡ false
+host-own n = apart (enabled n) (realtime n)
+  where
+    apart : (a b : Bool) → (a && b) ≡ true → (a && not b) ≡ false
+    apart true true e = refl
+    apart true false e = sym e
+    apart false b e = refl
+
 -- from neither: it is not enabled
 pub off : (n : ℕ) → fromHost n ≡ false → ownTime n ≡ false → enabled n ≡ false
 off n = neither (enabled n) (realtime n)
