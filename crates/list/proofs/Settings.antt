@@ -96,7 +96,7 @@ settingC reload = running (withReload reload (withCounter (2 ^ 64 - 3) (withComp
 abbrev timerD : HardwareTimer
 timerD = withFlags false true (inMode 2)
 
--- the same timer with a compare, so many cycles away
+-- the same timer with a compare: so many cycles away, and 2^64 where it is 0
 abbrev away : ℕ → Board
 away compare = running (withCompare compare timerD)
 
