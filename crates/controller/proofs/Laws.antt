@@ -1,16 +1,19 @@
 -- Laws for callers: what setting a source, clearing pending bits and writing a register change, and what they leave.
 -- Assumes nothing.
-use Prim.Native.Nat.{ℕ, _*_, _<_}
+use Prim.Native.Nat.{ℕ, zero, suc, _+_, _*_, _≤_, _<_}
 use mathlib.Core.Path.{_≡_, refl}
-use mathlib.Core.Bool.{Bool, true, false, not, _&&_, _||_, cond, and-not-self}
-use borrow.Author.Tests.{lt-ltb}
+use mathlib.Core.Bool.{Bool, true, false, not, _&&_, _||_, cond, and-not-self, true≢false, false≢true}
+use native.Mathlib.Omega.{arith}
+use borrow.Author.Tests.{lt-ltb, eqb-true, eqb-false}
 use lib.Dec.{ltb, eqb}
 use Rattle.controller.specs.declared.IrqController.{IrqController}
+use Rattle.controller.specs.declared.IrqOutput.{IrqOutput}
 use Rattle.wide.specs.Bits.{bit}
-use Rattle.wide.proofs.Choices.{choose}
+use Rattle.wide.proofs.Choices.{choose, either}
 use Rattle.controller.specs.Bits.{withBit}
-use Rattle.controller.specs.Controller.{sourceSet, pendingCleared, byteWritten}
+use Rattle.controller.specs.Controller.{sourceSet, pendingCleared, byteWritten, lowestFrom, outputOf}
 use Rattle.controller.proofs.Bits.{bit-same, bit-other, bit-kept, bit-without}
+use Rattle.controller.proofs.Lowest.{none}
 
 -- ---- setting source k
 
@@ -84,3 +87,62 @@ written-levels c address value =
   where
     same : IrqController → Type 0
     same d = d .levels ≡ c .levels
+
+-- ---- the output
+
+-- of the n sources from k on: source s is one of them, it is enabled and pending, and none below it is
+pub record IsLowest (c : IrqController) (n k s : ℕ) : Type 0 where
+  pub from : k ≤ s
+  pub below : s < k + n
+  pub found : (bit s (c .pending) && bit s (c .enable)) ≡ true
+  pub first : (j : ℕ) → k ≤ j → j < s → (bit j (c .pending) && bit j (c .enable)) ≡ false
+
+found-from : (n k : ℕ) (c : IrqController) → lowestFrom n k c .valid ≡ true
+    → IsLowest c n k (lowestFrom n k c .number .0)
+unfolding lowestFrom
+found-from zero k c e = absurd (false≢true e)
+found-from (suc n) k c e =
+    choose (λ (o : IrqOutput). o .valid ≡ true → IsLowest c (suc n) k (o .number .0))
+    (bit k (c .pending) && bit k (c .enable))
+    (λ a _. record { from = omega arith; below = omega arith; found = a; first = λ j h i. absurd (omega arith) })
+    (λ a f. let r = found-from n (suc k) c f in
+    record {
+      from = omega (arith, r .from);
+      below = omega (arith, r .below);
+      found = r .found;
+      first = λ j h i. either (eqb j k) (λ q. rw (eqb-true j k q) a)
+          (λ q. r .first j (omega (arith, h, eqb-false j k q)) i);
+    }) e
+
+none-from : (n k : ℕ) (c : IrqController) → lowestFrom n k c .valid ≡ false
+    → (j : ℕ) → k ≤ j → j < k + n → (bit j (c .pending) && bit j (c .enable)) ≡ false
+unfolding lowestFrom
+none-from zero k c e j h i = absurd (omega arith)
+none-from (suc n) k c e j h i =
+    choose (λ (o : IrqOutput). o .valid ≡ false → (bit j (c .pending) && bit j (c .enable)) ≡ false)
+    (bit k (c .pending) && bit k (c .enable)) (λ a f. absurd (true≢false f))
+    (λ a f. either (eqb j k) (λ q. rw (eqb-true j k q) a)
+    (λ q. none-from n (suc k) c f j (omega (arith, h, eqb-false j k q)) (omega (arith, i)))) e
+
+zero-from : (n k : ℕ) (c : IrqController) → lowestFrom n k c .valid ≡ false → lowestFrom n k c ≡ none
+unfolding lowestFrom
+zero-from zero k c e = refl
+zero-from (suc n) k c e =
+    choose (λ (o : IrqOutput). o .valid ≡ false → o ≡ none)
+    (bit k (c .pending) && bit k (c .enable)) (λ a f. absurd (true≢false f)) (λ a f. zero-from n (suc k) c f) e
+
+-- a source that the output presents is the lowest
+pub output-one : (c : IrqController) → outputOf c .valid ≡ true → IsLowest c 16 0 (outputOf c .number .0)
+unfolding outputOf
+output-one c = found-from 16 0 c
+
+-- where it presents none, none is enabled and pending
+pub output-none : (c : IrqController) → outputOf c .valid ≡ false
+    → (j : ℕ) → j < 16 → (bit j (c .pending) && bit j (c .enable)) ≡ false
+unfolding outputOf
+output-none c e j = none-from 16 0 c e j (omega arith)
+
+-- and its number is 0
+pub output-zero : (c : IrqController) → outputOf c .valid ≡ false → outputOf c ≡ none
+unfolding outputOf
+output-zero c = zero-from 16 0 c
