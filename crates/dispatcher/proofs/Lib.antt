@@ -1,0 +1,4 @@
+pub mod Fair
+pub mod Next
+pub mod Settings
+pub mod Turn
