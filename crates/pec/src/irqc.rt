@@ -1,11 +1,13 @@
 // The controller's operations, every one of irqc.rs, on its three words packed into a number: pending from bit 32 on,
-// enable from bit 16 on, levels from bit 0 on.
+// enable from bit 16 on, levels from bit 0 on. And the turns of the dispatcher above it.
 ghost use mathlib.Core.Path.{_≡_};
 ghost use Rattle.controller.specs.Controller.{fresh, resetOf, pendingOf, enableMaskOf, enableMaskSet, sourceSet};
 ghost use Rattle.controller.specs.Controller.{sourceLevelsSet, pendingCleared, outputOf, byteRead, byteWritten};
 ghost use Rattle.controller.specs.Controller.{mmioSize};
+ghost use Rattle.dispatcher.specs.Dispatcher.{freshNumber, dispatched};
 ghost use Rattle.pec.specs.Packed.{controllerOf, packed, packedOutput};
 use controller::IrqController;
+use controller::IrqOutput;
 use controller::SourceNumber;
 
 // The controller of a number; its bits from 48 on are not looked at.
@@ -25,6 +27,16 @@ fn pack(controller: IrqController) -> u64
 {
     (controller.pending as u64 * 0x1_0000 + controller.enable as u64) * 0x1_0000
         + controller.levels as u64
+}
+
+// The number of an output: valid in bit 8, the source's number below.
+fn pack_output(output: IrqOutput) -> u16
+    ensures { λ r. ⌜ r ≡ packedOutput output ⌝ }
+{
+    if output.valid {
+        return 0x100 + output.number.0 as u16;
+    }
+    output.number.0 as u16
 }
 
 // `new`
@@ -91,16 +103,12 @@ pub extern "C" fn pec_irqc_clear_pending(word: u64, mask: u16) -> u64
     pack(controller::without_pending(unpack(word), mask))
 }
 
-// `irq_output`: valid in bit 8, the source's number below.
+// `irq_output`
 #[no_mangle]
 pub extern "C" fn pec_irqc_output(word: u64) -> u16
     ensures { λ r. ⌜ r ≡ packedOutput (outputOf (controllerOf word)) ⌝ }
 {
-    let output = controller::output_of(unpack(word));
-    if output.valid {
-        return 0x100 + output.number.0 as u16;
-    }
-    output.number.0 as u16
+    pack_output(controller::output_of(unpack(word)))
 }
 
 // `read`
@@ -133,4 +141,33 @@ pub extern "C" fn pec_irqc_size(word: u64) -> u32
     ensures { λ r. ⌜ r ≡ mmioSize (controllerOf word) ⌝ }
 {
     controller::size_of(unpack(word))
+}
+
+// The number that a fresh dispatcher remembers.
+#[no_mangle]
+pub extern "C" fn pec_irqc_dispatch_new() -> u8
+    ensures { λ r. ⌜ r ≡ freshNumber ⌝ }
+{
+    dispatcher::fresh_number().0
+}
+
+// One turn of the dispatcher, of a controller and the number that the turn before left. Gives the controller after, the
+// number to remember, and as its result the source that was served, as `pec_irqc_output` gives one.
+#[no_mangle]
+pub extern "C" fn pec_irqc_dispatch(
+    word: u64,
+    last: u8,
+    after: &mut u64,
+    remembered: &mut u8,
+) -> u16
+    ensures { λ r. ⌜ r ≡ packedOutput (dispatched (controllerOf word) last .served) ⌝ }
+    ensures { λ _. ⌜ now (after .exit) ≡ packed (dispatched (controllerOf word) last .controller) ⌝ }
+    ensures { λ _. ⌜ now (remembered .exit) ≡ dispatched (controllerOf word) last .remembered .0 ⌝ }
+{
+    let turn = dispatcher::dispatch(unpack(word), SourceNumber(last));
+    let controller = turn.controller;
+    let served = turn.served;
+    *after = pack(controller);
+    *remembered = turn.remembered.0;
+    pack_output(served)
 }
