@@ -36,7 +36,7 @@ pub struct IrqOutput {
 #[derive(Clone, Copy, Debug, PartialEq, Eq)]
 pub struct Controller {
     // Pending from bit 32 on, enable from bit 16 on, levels from bit 0 on.
-    word: u64,
+    pub(crate) word: u64,
 }
 
 impl Default for Controller {

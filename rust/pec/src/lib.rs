@@ -4,7 +4,8 @@
 //! crates/pec. Each is safe: the library's contracts ask nothing of their callers, and it keeps nothing between
 //! calls. A call list and its answers are bytes that the caller lends; the types of the crate rust/calls, which stand
 //! here too, make and read them. [`run`] takes a fresh board; a [`Board`] goes on from list to list, and its image
-//! keeps it while no program runs.
+//! keeps it while no program runs. A [`Controller`] is the interrupt controller by itself, and a [`Dispatcher`] above
+//! it serves its sources in turn.
 //!
 //! ```
 //! use pec::{answers, list_of, Answer, Call, Refusal};
@@ -24,11 +25,13 @@
 
 mod board;
 mod controller;
+mod dispatcher;
 mod parked;
 
 pub use board::Board;
 pub use calls::{answers, list_of, Answer, Answers, Call, DamagedAnswers, Fault, Outcome, Refusal};
 pub use controller::{Controller, IrqOutput};
+pub use dispatcher::Dispatcher;
 pub use parked::{image_refusal, park_fresh, run_parked, IMAGE_SIZE};
 
 // A slice goes as its pointer and its length.

@@ -1,5 +1,5 @@
 //! C and C++ programs over the header and the archive: document 01's worked answers, parked boards, a skip that is
-//! refused, and the memory that the library uses.
+//! refused, turns of the dispatcher, and the memory that the library uses.
 
 use std::env;
 use std::io::Write;
@@ -76,6 +76,32 @@ fn a_board_is_parked_and_taken_up_from_c_and_from_cpp() {
     );
     for language in [C, CPP] {
         assert_eq!(printed("parked", language, &[]), expected);
+    }
+}
+
+#[test]
+fn sources_are_served_in_turn_from_c_and_from_cpp() {
+    // The controller after a turn is pending, enable and levels, four digits each. Enable 8221 is sources 15, 9, 5 and
+    // 0. Source 3 is pending throughout and never enabled; 9 and 15 are pending at first, and 0 before each of the
+    // first four turns. After 15 comes 0; after 0 comes 9, since 5 is enabled but not pending; after 9, 15; and then 0.
+    let again = "source 0 again: lowest 100, served 100, after 820882218209, remembered 0\n\
+                 source 0 again: lowest 100, served 109, after 800982218209, remembered 9\n\
+                 source 0 again: lowest 100, served 10f, after 000982218209, remembered 15\n\
+                 source 0 again: lowest 100, served 100, after 000882218209, remembered 0\n";
+    // Only source 3 is left: the controller and the remembered number stay, 200 being read as 15.
+    let none = "none: lowest 0, served 0, after 000882218209, remembered 0\n\
+                none after 5: lowest 0, served 0, after 000882218209, remembered 5\n\
+                none after 200: lowest 0, served 0, after 000882218209, remembered 15\n";
+    // Source 5 has risen and 0 has fallen: 5 is alone and comes last. Then 0, 5 and 15 have risen again: 15 is the
+    // first after 5, and 16 is read as 15, which 0 follows.
+    let after = "5 itself: lowest 105, served 105, after 000882218228, remembered 5\n\
+                 0, 5 and 15 after 5: lowest 100, served 10f, after 002982218229, remembered 15\n\
+                 0 and 5 after 16: lowest 100, served 100, after 002882218229, remembered 0\n";
+    for language in [C, CPP] {
+        assert_eq!(
+            printed("dispatcher", language, &[]),
+            format!("fresh: 15\n{again}{none}{after}")
+        );
     }
 }
 
