@@ -3,6 +3,7 @@
 
 #[cfg(feature = "proved")]
 pub mod controller;
+pub mod dispatcher;
 pub mod parked;
 pub mod passes;
 pub mod skips;
@@ -27,7 +28,7 @@ pub struct Pair {
 /// How much was compared.
 #[derive(Clone, Copy, Debug, Default, PartialEq, Eq)]
 pub struct Count {
-    /// Outcomes and buffers of a run, or results of an operation, found equal.
+    /// Outcomes and buffers of a run, results of an operation, or the dispatcher's turns on a controller, found equal.
     pub comparisons: u64,
     /// The calls that the compared runs carried out.
     pub calls: u64,

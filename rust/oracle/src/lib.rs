@@ -18,6 +18,7 @@ pub mod bus;
 pub mod compare;
 pub mod controller;
 pub mod deadline;
+pub mod dispatcher;
 pub mod fields;
 pub mod generate;
 mod host_time;

@@ -2,14 +2,16 @@
 //!
 //! `compare FIRST LAST` compares the lists of the seeds from FIRST to LAST, what the boards hold after each, and lists
 //! over parked boards by the same seeds. `compare all FIRST LAST` compares these, and every register with every byte,
-//! damaged lists, short buffers, skips to large deadlines, damaged images, and the controller by itself. Ends with how
-//! many comparisons agreed, or prints the shortest list that shows a difference.
+//! damaged lists, short buffers, skips to large deadlines, damaged images, the controller by itself, and the
+//! dispatcher, against the oracle's own reading of its rule. Ends with how many comparisons agreed, or prints the
+//! shortest list that shows a difference.
 
 use std::process::ExitCode;
 use std::time::Instant;
 
 use oracle::compare::parked::{self, Parking};
-use oracle::compare::{controller, passes, skips, Count, Difference, Pair};
+use oracle::compare::{controller, dispatcher, passes, skips, Count, Difference, Pair};
+use oracle::dispatcher::Turn;
 use oracle::list;
 
 const PAIR: Pair = Pair {
@@ -22,6 +24,18 @@ const PARKING: Parking = Parking {
     refusal: pec::image_refusal,
     run: pec::run_parked,
 };
+
+/// A turn of the proved dispatcher on pending, enable and levels, after a remembered number.
+fn proved_turn([pending, enable, levels]: [u16; 3], last: u8) -> Turn {
+    let mut controller = pec::Controller::from_words(pending, enable, levels);
+    let mut dispatcher = pec::Dispatcher::from_last(last);
+    let served = dispatcher.next(&mut controller);
+    Turn {
+        words: [controller.pending(), controller.enable_mask(), controller.levels()],
+        served,
+        remembered: dispatcher.last(),
+    }
+}
 
 fn main() -> ExitCode {
     let arguments: Vec<String> = std::env::args().skip(1).collect();
@@ -86,6 +100,14 @@ fn compare(all: bool, first: u64, last: u64) -> Result<Count, String> {
         part("damaged images", &mut total, || parked::damaged(&PARKING))?;
         part("a fresh board's image", &mut total, || parked::fresh(&PARKING))?;
         part("controller", &mut total, controller::compare)?;
+        let mut turns = 0_u64;
+        part("dispatcher", &mut total, || {
+            dispatcher::compare(|words, last| {
+                turns += 1;
+                proved_turn(words, last)
+            })
+        })?;
+        println!("  in these, {turns} turns of the dispatcher, against the oracle's own reading of S-3");
     }
     Ok(total)
 }

@@ -4,6 +4,7 @@ mod clock;
 mod compare;
 mod controller;
 mod demand;
+mod dispatcher;
 mod generated;
 mod image;
 mod list;
