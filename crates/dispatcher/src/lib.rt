@@ -21,29 +21,28 @@ pub struct Dispatched {
 
 // The number that a fresh dispatcher remembers.
 pub fn fresh_number() -> SourceNumber
-    ensures { λ r. ⌜ r ≡ record { 0 = freshNumber } ⌝ }
+    ensures { λ r. ⌜ r .0 ≡ freshNumber ⌝ }
 {
     SourceNumber(HIGHEST)
 }
 
 // A remembered number as it is read: one above 15 as 15.
-fn number_read(last: SourceNumber) -> u8
-    ensures { λ r. ⌜ r ≡ numberRead (last .0) ⌝ }
+fn number_read(last: SourceNumber) -> SourceNumber
+    ensures { λ r. ⌜ r .0 ≡ numberRead (last .0) ⌝ }
 {
-    let number = last.0;
-    if HIGHEST < number {
-        return HIGHEST;
+    if HIGHEST < last.0 {
+        return SourceNumber(HIGHEST);
     }
-    number
+    last
 }
 
 // The next enabled pending source after `last`, going round: the lowest of those above it, or, where there is none
 // above, the lowest of all. Each is one count of trailing zeros, in `output_of`.
-fn next_after(controller: IrqController, last: u8) -> IrqOutput
-    requires { ⌜ last < 16 ⌝ }
-    ensures { λ r. ⌜ r ≡ nextAfter last controller ⌝ }
+fn next_after(controller: IrqController, last: SourceNumber) -> IrqOutput
+    requires { ⌜ last .0 < 16 ⌝ }
+    ensures { λ r. ⌜ r ≡ nextAfter (last .0) controller ⌝ }
 {
-    let up_to_last = 0xFFFFu16 >> (HIGHEST - last);
+    let up_to_last = 0xFFFFu16 >> (HIGHEST - last.0);
     let above = controller::output_of(controller::without_pending(controller, up_to_last));
     if above.valid {
         return above;
@@ -62,7 +61,7 @@ pub fn dispatch(controller: IrqController, last: SourceNumber) -> Dispatched
         return Dispatched {
             controller,
             served: next,
-            remembered: SourceNumber(remembered),
+            remembered,
         };
     }
     let source = next.number;

@@ -21,18 +21,19 @@ output-of-requires c κs = search needs
 
 returns : tie.Need-returns
 returns c =
-    next-above (c .before .before .before .args .controller) (c .before .before .before .args .last)
-    (c .before .before .before .pre) _ _ (c .before .before .without-pending .ensures) (c .before .output-of .ensures)
-    (c .if1 .taken)
+    let at = c .before .before .before .before in
+    next-above (at .args .controller) (at .args .last .0) (at .pre) _ _ (c .before .before .without-pending .ensures)
+    (c .before .output-of .ensures) (c .if1 .taken)
 
 output-of-requires-2 : tie.Need-output-of-requires-2
 output-of-requires-2 c κs = search needs
 
 returns-2 : tie.Need-returns-2
 returns-2 c =
-    next-round (c .before .before .before .before .args .controller) (c .before .before .before .before .args .last)
-    (c .before .before .before .before .pre) _ _ (c .before .before .before .without-pending .ensures)
-    (c .before .before .output-of .ensures) _ (c .before .if1 .left) (c .output-of2 .ensures)
+    let at = c .before .before .before .before .before in
+    next-round (at .args .controller) (at .args .last .0) (at .pre) _ _
+    (c .before .before .before .without-pending .ensures) (c .before .before .output-of .ensures) _
+    (c .before .if1 .left) (c .output-of2 .ensures)
 
 pub next-after-spec : {M : Type 1} → statement M
 next-after-spec =

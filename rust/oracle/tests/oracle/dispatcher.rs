@@ -93,7 +93,7 @@ fn the_remembered_source_waits_for_the_sixteenth_turn_where_all_stay() {
 }
 
 #[test]
-fn the_rule_agrees_with_itself() {
+fn the_comparison_has_every_pair_of_bytes_after_every_number() {
     let mut turns = 0;
     let count = compare(|words, last| {
         turns += 1;
