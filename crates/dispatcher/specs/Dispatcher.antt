@@ -69,3 +69,10 @@ servedIn k (t ∷ ts) = serves k t || servedIn k ts
 unfoldable pub stays : ℕ → List IrqController → Bool
 stays k [] = true
 stays k (c ∷ cs) = enabledPending k c && stays k cs
+
+-- the same until a turn has served it, which clears its pending bit
+unfoldable pub staysUntilServed : ℕ → List IrqController → ℕ → Bool
+staysUntilServed k [] last = true
+staysUntilServed k (c ∷ cs) last =
+    enabledPending k c
+    && (serves k (dispatched c last) || staysUntilServed k cs (dispatched c last .remembered .0))
