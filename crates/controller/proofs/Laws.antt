@@ -1,5 +1,5 @@
--- Laws for callers: what setting a source, clearing pending bits and writing a register change, and what they leave.
--- Assumes nothing.
+-- Laws for callers: what setting a source, clearing pending bits and writing a register change, and what they leave;
+-- and what the output says. Assumes nothing.
 use Prim.Native.Nat.{ℕ, zero, suc, _+_, _*_, _≤_, _<_}
 use mathlib.Core.Path.{_≡_, refl}
 use mathlib.Core.Bool.{Bool, true, false, not, _&&_, _||_, cond, and-not-self, true≢false, false≢true}

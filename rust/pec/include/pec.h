@@ -27,8 +27,8 @@ uint8_t pec_run_repeated(const uint8_t *first, size_t first_length, const uint8_
                          uint64_t times, uint8_t *answers, size_t answers_length, size_t *calls, size_t *used,
                          size_t *written);
 
-/* Writes the listing of a run at the start of `text`, as much of it as fits: a line for each answer, its tag and value in
-   hexadecimal, and a last line with calls done, refusal and list bytes used in decimal. The result is the listing's
+/* Writes the listing of a run at the start of `text`, as much of it as fits: a line for each answer, its tag and value
+   in hexadecimal, and a last line with calls done, refusal and list bytes used in decimal. The result is the listing's
    length, at most twice `answers_length` and 67; no zero byte follows it. */
 size_t pec_listing(const uint8_t *answers, size_t answers_length, size_t calls, uint8_t refusal, size_t used,
                    uint8_t *text, size_t text_length);
@@ -38,8 +38,8 @@ size_t pec_listing(const uint8_t *answers, size_t answers_length, size_t calls, 
 #define PEC_IMAGE_SIZE 269
 
 /* Parks a fresh board: writes its image at the start of `image` and leaves the bytes after it. Gives the bytes
-   written; the result is the refusal, 0 for none. A buffer shorter than PEC_IMAGE_SIZE is refused with 11 and left as it
-   is. */
+   written; the result is the refusal, 0 for none. A buffer shorter than PEC_IMAGE_SIZE is refused with 11 and left as
+   it is. */
 uint8_t pec_fresh(uint8_t *image, size_t image_length, size_t *written);
 
 /* The refusal of reading an image: 12 where it is malformed, else 1 where its board is not sound, else 0. */
@@ -50,8 +50,8 @@ uint8_t pec_image_refusal(const uint8_t *image, size_t image_length);
 uint8_t pec_run_parked(uint8_t *image, size_t image_length, const uint8_t *list, size_t list_length, uint8_t *answers,
                        size_t answers_length, size_t *calls, size_t *used, size_t *written);
 
-/* The interrupt controller's operations on its three words in one number: pending from bit 32 on, enable from bit 16 on,
-   levels from bit 0 on. Those that alter it give the number after. */
+/* The interrupt controller's operations on its three words in one number: pending from bit 32 on, enable from bit 16
+   on, levels from bit 0 on. Those that alter it give the number after. */
 uint64_t pec_irqc_new(void);
 uint64_t pec_irqc_reset(uint64_t word);
 uint16_t pec_irqc_pending(uint64_t word);
