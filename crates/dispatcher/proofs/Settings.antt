@@ -50,3 +50,9 @@ sixteenth : (map (λ (t : Dispatched). t .served .number .0) (turns (all 16) 9)
     × (servedIn 9 (turns (all 16) 9) ≡ true)
 unfolding servedIn turns dispatched turn nextAfter firstFrom pendingCleared without
 sixteenth = (refl, refl, refl)
+
+-- and so of every source: fifteen turns are not enough for source k after number k
+fifteen : map (λ (k : ℕ). servedIn k (turns (all 15) k))
+    (0 ∷ 1 ∷ 2 ∷ 3 ∷ 4 ∷ 5 ∷ 6 ∷ 7 ∷ 8 ∷ 9 ∷ 10 ∷ 11 ∷ 12 ∷ 13 ∷ 14 ∷ 15 ∷ []) ≡ replicate 16 false
+unfolding servedIn turns dispatched turn nextAfter firstFrom pendingCleared without
+fifteen = refl
