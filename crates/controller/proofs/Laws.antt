@@ -115,21 +115,20 @@ found-from (suc n) k c e =
     }) e
 
 none-from : (n k : ℕ) (c : IrqController) → lowestFrom n k c .valid ≡ false
-    → (j : ℕ) → k ≤ j → j < k + n → (bit j (c .pending) && bit j (c .enable)) ≡ false
+    → (lowestFrom n k c ≡ none)
+    × ((j : ℕ) → k ≤ j → j < k + n → (bit j (c .pending) && bit j (c .enable)) ≡ false)
 unfolding lowestFrom
-none-from zero k c e j h i = absurd (omega arith)
-none-from (suc n) k c e j h i =
-    choose (λ (o : IrqOutput). o .valid ≡ false → (bit j (c .pending) && bit j (c .enable)) ≡ false)
+none-from zero k c e = (refl, λ j h i. absurd (omega arith))
+none-from (suc n) k c e =
+    choose
+    (λ (o : IrqOutput). o .valid ≡ false → (o ≡ none)
+    × ((j : ℕ) → k ≤ j → j < k + suc n → (bit j (c .pending) && bit j (c .enable)) ≡ false))
     (bit k (c .pending) && bit k (c .enable)) (λ a f. absurd (true≢false f))
-    (λ a f. either (eqb j k) (λ q. rw (eqb-true j k q) a)
-    (λ q. none-from n (suc k) c f j (omega (arith, h, eqb-false j k q)) (omega (arith, i)))) e
-
-zero-from : (n k : ℕ) (c : IrqController) → lowestFrom n k c .valid ≡ false → lowestFrom n k c ≡ none
-unfolding lowestFrom
-zero-from zero k c e = refl
-zero-from (suc n) k c e =
-    choose (λ (o : IrqOutput). o .valid ≡ false → o ≡ none)
-    (bit k (c .pending) && bit k (c .enable)) (λ a f. absurd (true≢false f)) (λ a f. zero-from n (suc k) c f) e
+    (λ a f. let r = none-from n (suc k) c f in (
+      r .0,
+      λ j h i. either (eqb j k) (λ q. rw (eqb-true j k q) a)
+          (λ q. r .1 j (omega (arith, h, eqb-false j k q)) (omega (arith, i))),
+    )) e
 
 -- a source that the output presents is the lowest
 pub output-one : (c : IrqController) → outputOf c .valid ≡ true → IsLowest c 16 0 (outputOf c .number .0)
@@ -140,9 +139,9 @@ output-one c = found-from 16 0 c
 pub output-none : (c : IrqController) → outputOf c .valid ≡ false
     → (j : ℕ) → j < 16 → (bit j (c .pending) && bit j (c .enable)) ≡ false
 unfolding outputOf
-output-none c e j = none-from 16 0 c e j (omega arith)
+output-none c e j = none-from 16 0 c e .1 j (omega arith)
 
 -- and its number is 0
 pub output-zero : (c : IrqController) → outputOf c .valid ≡ false → outputOf c ≡ none
 unfolding outputOf
-output-zero c = zero-from 16 0 c
+output-zero c e = none-from 16 0 c e .0

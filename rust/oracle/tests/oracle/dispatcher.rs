@@ -95,13 +95,24 @@ fn the_remembered_source_waits_for_the_sixteenth_turn_where_all_stay() {
 #[test]
 fn the_comparison_has_every_pair_of_bytes_after_every_number() {
     let mut turns = 0;
+    // The turns on every pair of bytes, as the low halves of pending and enable and as the high ones.
+    let mut low = vec![0; 65_536];
+    let mut high = low.clone();
     let count = compare(|words, last| {
         turns += 1;
+        let [pending, enable, _] = words.map(usize::from);
+        if pending < 256 && enable < 256 {
+            low[pending << 8 | enable] += 1;
+        }
+        if pending % 256 == 0 && enable % 256 == 0 {
+            high[pending | enable >> 8] += 1;
+        }
         turn(words, last)
     });
     let comparisons = 2 * 65_536 + 20_000;
     assert_eq!(count, Ok(Count { comparisons, calls: 0 }));
     assert_eq!(turns, comparisons * 256);
+    assert!(low.iter().chain(&high).all(|turns| *turns >= 256));
 }
 
 /// A turn with a fault.
