@@ -64,6 +64,7 @@ pub served-within : (k last : ℕ) (cs : List IrqController) → k < 16 → leng
 served-within k last cs h e s =
     within cs last ((k + 15 - numberRead last) % 16) k (omega (arith, e)) (omega arith) (omega (arith, h)) s
 
+-- a source that stays so at every turn stays so until it is served
 until : (k : ℕ) (cs : List IrqController) (last : ℕ) → stays k cs ≡ true → staysUntilServed k cs last ≡ true
 unfolding stays staysUntilServed
 until k [] last s = refl

@@ -31,9 +31,9 @@ rows : (dispatched (words 0x0201 0x0201) freshNumber ≡ serving 0 (words 0x0200
     × (dispatched (words 0x0200 0x0300) 9 ≡ serving 9 (words 0x0000 0x0300))
     -- a source that is pending and not enabled is passed over
     × (dispatched (words 0x0600 0x0400) 8 ≡ serving 10 (words 0x0200 0x0400))
-    -- a number above 15 is read as 15, and stays so where none is enabled and pending
-    × (dispatched (words 0x8001 0xffff) 16 ≡ serving 0 (words 0x8000 0xffff))
+    -- 15 comes after 14; a number above 15 is read as 15, and stays so where none is enabled and pending
     × (dispatched (words 0x8001 0xffff) 14 ≡ serving 15 (words 0x0001 0xffff))
+    × (dispatched (words 0x8001 0xffff) 16 ≡ serving 0 (words 0x8000 0xffff))
     × (dispatched (words 0x00ff 0xff00) 255 ≡ idle 15 (words 0x00ff 0xff00))
     × (dispatched (words 0x00ff 0xff00) 7 ≡ idle 7 (words 0x00ff 0xff00))
 unfolding dispatched turn nextAfter firstFrom pendingCleared without

@@ -27,11 +27,11 @@ const PARKING: Parking = Parking {
 
 /// A turn of the proved dispatcher on pending, enable and levels, after a remembered number.
 fn proved_turn([pending, enable, levels]: [u16; 3], last: u8) -> Turn {
-    let mut controller = pec::Controller::from_words(pending, enable, levels);
+    let mut irqc = pec::Controller::from_words(pending, enable, levels);
     let mut dispatcher = pec::Dispatcher::from_last(last);
-    let served = dispatcher.next(&mut controller);
+    let served = dispatcher.next(&mut irqc);
     Turn {
-        words: [controller.pending(), controller.enable_mask(), controller.levels()],
+        words: controller::proved_words(&irqc),
         served,
         remembered: dispatcher.last(),
     }

@@ -125,7 +125,8 @@ fn rust_words(irqc: &mut IrqController) -> [u16; 3] {
     [irqc.pending(), irqc.enable_mask(), controller::levels(irqc)]
 }
 
-fn proved_words(irqc: &pec::Controller) -> [u16; 3] {
+/// Pending, enable and levels of a controller of the proved library.
+pub fn proved_words(irqc: &pec::Controller) -> [u16; 3] {
     [irqc.pending(), irqc.enable_mask(), irqc.levels()]
 }
 
