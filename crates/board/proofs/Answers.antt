@@ -4,13 +4,17 @@ use native.Mathlib.Omega.{arith}
 use mathlib.Core.Path.{_≡_, refl, sym, ap, _∙_}
 use mathlib.Core.Bool.{Bool, true, false, cond, false≢true}
 use mathlib.Core.Option.{Option, none, some}
-use mathlib.Core.List.{[]}
+use mathlib.Core.List.{List, [], _∷_}
+use lib.ListN.{length, getD}
 use lib.Dec.{leb, eqb}
 use borrow.Author.Tests.{leb-true, leb-false, lt-ltb, le-ltb, eqb-true, eq-eqb}
 use Rattle.wide.specs.declared.number.Wide.{Wide}
+use Rattle.wide.specs.Bits.{bit}
 use Rattle.wide.specs.Number.{valueOf, wideOf, largest}
 use Rattle.wide.proofs.Choices.{either}
 use Rattle.wide.proofs.Forms.{wide-value, flag-back}
+use Rattle.channel.specs.declared.HardwareTimer.{HardwareTimer}
+use Rattle.channel.specs.Matches.{matchesOf}
 use Rattle.board.specs.declared.Board.{Board}
 use Rattle.board.specs.declared.calls.DeadlineAnswer.{DeadlineAnswer}
 use Rattle.board.specs.declared.calls.DeadlineMembers.{DeadlineMembers}
@@ -34,7 +38,8 @@ use Rattle.board.specs.Calls.{
   skipRefusal,
   skipCall,
 }
-use Rattle.board.specs.CodeCalls.{deadlineGiven, passingNone, passingOf}
+use Rattle.board.specs.Loops.{mapFrom}
+use Rattle.board.specs.CodeCalls.{deadlineGiven, matchesGiven, passingNone, passingOf}
 use Rattle.board.specs.Demand.{Promise}
 use Rattle.board.proofs.Soundness.{wired-sound}
 use Rattle.board.proofs.Steps.{wired-line}
@@ -69,13 +74,40 @@ module _ (call : Board → Call) (b : Board) where
 
 -- ---- the advance
 
+-- refused, all its members are 0
+pub advance-refused : (b : Board) (c n : ℕ) → n ≡ refusalOf b 0 → eqb n 0 ≡ false → (w : Wide) → w ≡ wideOf 0 →
+    record { board = b; refusal = n; line = false; matches = w ∷ w ∷ w ∷ w ∷ [] }
+    ≡ advanceAnswer (answerOf (advanceCall c) b)
+advance-refused b c n e f w q = rw (answer-refused (advanceCall c) b n e f, q)
+
+-- the counts of four channels, one by one
+four-given : (f : ℕ → HardwareTimer → ℕ) (ts : List HardwareTimer) → length ts ≡ 4 →
+    mapFrom (λ k h. wideOf (f k h)) 0 ts
+    ≡ wideOf (getD (mapFrom f 0 ts) 0 0) ∷ wideOf (getD (mapFrom f 0 ts) 1 0) ∷ wideOf (getD (mapFrom f 0 ts) 2 0)
+    ∷ wideOf (getD (mapFrom f 0 ts) 3 0) ∷ []
+unfolding mapFrom
+four-given f (h0 ∷ h1 ∷ h2 ∷ h3 ∷ []) e = refl
+four-given f [] e = absurd (omega arith)
+four-given f (h0 ∷ []) e = absurd (omega arith)
+four-given f (h0 ∷ h1 ∷ []) e = absurd (omega arith)
+four-given f (h0 ∷ h1 ∷ h2 ∷ []) e = absurd (omega arith)
+four-given f (h0 ∷ h1 ∷ h2 ∷ h3 ∷ h4 ∷ hs) e = absurd (omega arith)
+
 module _ (b : Board) (z : refusalOf b 0 ≡ 0) where
-  pub advance-answers : (c : ℕ) (y : Board) (v : Bool) → y ≡ advancedBoard c b → v ≡ line y →
-      record { board = y; refusal = 0; line = v } ≡ advanceAnswer (answerOf (advanceCall c) b)
+  pub advance-answers : (c : ℕ) (y : Board) (v : Bool) (m : List Wide) → length (b .timers) ≡ 4 →
+      y ≡ advancedBoard c b → m ≡ matchesGiven (b .«timer_enable») c (b .timers) → v ≡ line y →
+      record { board = y; refusal = 0; line = v; matches = m } ≡ advanceAnswer (answerOf (advanceCall c) b)
   unfolding advancedBoard
-  advance-answers c y v e f =
+  advance-answers c y v m n e k f =
       let g : v ≡ line (movedBoard c b) = f ∙ ap line e ∙ wired-line (movedBoard c b) in
-      rw (answer-accepted (advanceCall c) b z, flag-back, e, g)
+      rw (
+        answer-accepted (advanceCall c) b z,
+        flag-back,
+        e,
+        g,
+        k,
+        four-given (λ i h. matchesOf (bit i (b .«timer_enable»)) c h) (b .timers) n,
+      )
 
 -- ---- the deadline
 

@@ -7,5 +7,6 @@ pub mod Demand3
 pub mod Answers
 pub mod Kept
 pub mod Corollaries
+pub mod Matches
 pub mod Skips
 pub mod Hypotheses

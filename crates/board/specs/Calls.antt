@@ -20,7 +20,7 @@ use Rattle.board.specs.declared.calls.DeadlineAnswer.{DeadlineAnswer}
 use Rattle.board.specs.declared.calls.SkipAnswer.{SkipAnswer}
 use Rattle.board.specs.declared.calls.ByteAnswer.{ByteAnswer}
 use Rattle.board.specs.declared.calls.OutputAnswer.{OutputAnswer}
-use Rattle.board.specs.Channels.{advancedAll}
+use Rattle.board.specs.Channels.{advancedAll, matchesAll}
 use Rattle.board.specs.Fields.{withTimers, withClock, withController}
 use Rattle.board.specs.Board.{line, exactDeadline, wordDeadline, wired, sound}
 
@@ -73,9 +73,16 @@ emptyAnswer a = record { board = a .board; refusal = a .refusal }
 abbrev pub byteAnswer : DirectAnswer → ByteAnswer
 byteAnswer a = record { board = a .board; refusal = a .refusal; byte = memberAt 0 a }
 
--- '→ line 1'
+-- '→ line 1', and by S-4 'four 16-byte counts, channel 0 first'
 abbrev pub advanceAnswer : DirectAnswer → AdvanceAnswer
-advanceAnswer a = record { board = a .board; refusal = a .refusal; line = flagAt 0 a }
+advanceAnswer a =
+    record {
+      board = a .board;
+      refusal = a .refusal;
+      line = flagAt 0 a;
+      matches =
+          wideOf (memberAt 1 a) ∷ wideOf (memberAt 2 a) ∷ wideOf (memberAt 3 a) ∷ wideOf (memberAt 4 a) ∷ [];
+    }
 
 -- '→ present 1, D 16, 64-bit deadline 8'
 abbrev pub deadlineAnswer : DirectAnswer → DeadlineAnswer
@@ -124,9 +131,14 @@ movedBoard c b =
 unfoldable pub advancedBoard : ℕ → Board → Board
 advancedBoard c b = wired (movedBoard c b)
 
+-- S-4: 'Call 04 answers the line and four 16-byte counts, channel 0 first'
 abbrev pub advanceCall : ℕ → Board → Call
 advanceCall c b =
-    record { refusal = 0; board = movedBoard c b; members = flagOf (line (movedBoard c b)) ∷ [] }
+    record {
+      refusal = 0;
+      board = movedBoard c b;
+      members = flagOf (line (movedBoard c b)) ∷ matchesAll (b .«timer_enable») c (b .timers);
+    }
 
 -- ---- 05 deadline
 

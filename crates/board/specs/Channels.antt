@@ -9,12 +9,17 @@ use Rattle.wide.specs.Deadline.{sooner}
 use Rattle.channel.specs.declared.HardwareTimer.{HardwareTimer}
 use Rattle.channel.specs.Channel.{lineOf, soundTimer}
 use Rattle.channel.specs.Prescaler.{advanced}
+use Rattle.channel.specs.Matches.{matchesOf}
 use Rattle.channel.specs.Deadline.{deadlineOf}
 use Rattle.board.specs.Loops.{mapFrom, foldFrom}
 
 -- c cycles arrive at each channel
 abbrev pub advancedAll : ℕ → ℕ → List HardwareTimer → List HardwareTimer
 advancedAll enable c = mapFrom (λ k h. advanced (bit k enable) c h) 0
+
+-- the compare points that each channel meets in c cycles, channel 0 first
+abbrev pub matchesAll : ℕ → ℕ → List HardwareTimer → List ℕ
+matchesAll enable c = mapFrom (λ k h. matchesOf (bit k enable) c h) 0
 
 -- the smallest of the channels' deadlines, or none
 abbrev pub soonestOf : ℕ → List HardwareTimer → Option ℕ

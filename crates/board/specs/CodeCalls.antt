@@ -1,11 +1,18 @@
--- Not document 01's sentences but what the code computes of them: optional numbers as the structs that hold them.
+-- Not document 01's sentences but what the code computes of them: optional numbers, and the channels' counts, as the
+-- structs that hold them.
 use Prim.Native.Nat.{ℕ}
 use mathlib.Core.Bool.{false, cond}
 use mathlib.Core.Option.{Option}
+use mathlib.Core.List.{List}
 use lib.Dec.{eqb}
+use Rattle.wide.specs.declared.number.Wide.{Wide}
+use Rattle.wide.specs.Bits.{bit}
 use Rattle.wide.specs.Number.{wideOf}
+use Rattle.channel.specs.declared.HardwareTimer.{HardwareTimer}
+use Rattle.channel.specs.Matches.{matchesOf}
 use Rattle.board.specs.declared.calls.DeadlineMembers.{DeadlineMembers}
 use Rattle.board.specs.declared.calls.Passing.{Passing}
+use Rattle.board.specs.Loops.{mapFrom}
 use Rattle.board.specs.Board.{wordDeadline}
 use Rattle.board.specs.Calls.{isPresent, orZero, lengthRefusal}
 
@@ -13,6 +20,10 @@ use Rattle.board.specs.Calls.{isPresent, orZero, lengthRefusal}
 abbrev pub deadlineGiven : Option ℕ → DeadlineMembers
 deadlineGiven d =
     record { present = isPresent d; exact = wideOf (orZero d); word = record { 0 = orZero (wordDeadline d) } }
+
+-- the compare points that each channel meets, as numbers of two words
+abbrev pub matchesGiven : ℕ → ℕ → List HardwareTimer → List Wide
+matchesGiven enable c = mapFrom (λ k h. wideOf (matchesOf (bit k enable) c h)) 0
 
 -- no advance, by a refusal or, where it is 0, because none is to be made
 abbrev pub passingNone : ℕ → Passing

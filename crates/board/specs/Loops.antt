@@ -1,5 +1,5 @@
--- Lists of elements: a property of each, and the two kinds of a loop over them, one that changes each element and one
--- that joins what the elements give.
+-- Lists of elements: a property of each, and the two kinds of a loop over them, one that changes each element or gives
+-- something for it, and one that joins what the elements give.
 use Prim.Native.Nat.{ℕ, suc}
 use mathlib.Core.List.{List, [], _∷_}
 
@@ -9,7 +9,7 @@ All P [] = Unit {0}
 All P (x ∷ xs) = P x × All P xs
 
 -- f of each element and its index, the first index being k
-unfoldable pub mapFrom : {A : Type 0} → (ℕ → A → A) → ℕ → List A → List A
+unfoldable pub mapFrom : {A B : Type 0} → (ℕ → A → B) → ℕ → List A → List B
 mapFrom f k [] = []
 mapFrom f k (x ∷ xs) = f k x ∷ mapFrom f (suc k) xs
 

@@ -9,7 +9,7 @@ ghost use Rattle.board.specs.Calls.{deadlineAnswer, skipAnswer, outputAn
 ghost use Rattle.board.specs.Calls.{advancedBoard, advanceCall, deadlineCall, skipLength, skipCall};
 ghost use Rattle.board.specs.Calls.{sourceRefusal, sourceCall, controllerReadCall, controllerWriteCall};
 ghost use Rattle.board.specs.Calls.{outputCall};
-ghost use Rattle.board.specs.CodeCalls.{deadlineGiven, passingNone, passingOf};
+ghost use Rattle.board.specs.CodeCalls.{deadlineGiven, matchesGiven, passingNone, passingOf};
 ghost use Rattle.board.specs.Demand.{Promise, SkipPromise};
 use crate::Board;
 use crate::channels::advance_all;
@@ -32,10 +32,12 @@ pub struct ByteAnswer {
     pub byte: u8,
 }
 
+// The line, and the compare points that each channel met, channel 0 first.
 pub struct AdvanceAnswer {
     pub board: Board,
     pub refusal: u8,
     pub line: bool,
+    pub matches: [Wide; 4],
 }
 
 // Whether there is a deadline, the exact one, and the smaller of it and the largest word.
@@ -59,6 +61,12 @@ pub struct OutputAnswer {
     pub refusal: u8,
     pub valid: bool,
     pub number: SourceNumber,
+}
+
+// The board after an advance, and the compare points that each channel met.
+struct Moved {
+    board: Board,
+    matches: [Wide; 4],
 }
 
 // The members of the deadline's answer.
@@ -93,19 +101,25 @@ impl Board {
 
     // ---- what a call computes of a sound board
 
-    fn advanced(self, cycles: Cycles) -> Self
+    fn advanced(self, cycles: Cycles) -> Moved
         requires { ⌜ sound self ≡ true ⌝ }
-        ensures { λ r. ⌜ r ≡ advancedBoard (cycles .0) self ⌝ }
+        ensures { λ r. ⌜ (r .board ≡ advancedBoard (cycles .0) self)
+            × (r .matches ≡ matchesGiven (self .«timer_enable») (cycles .0) (self .timers)) ⌝ }
     {
         let mut b = self;
         let timers = b.timers;
         let timer_enable = b.timer_enable;
         let moved = advance_all(timers, timer_enable, cycles);
-        b.timers = moved;
+        let after = moved.timers;
+        b.timers = after;
         let clock = b.clock;
         let later = clock.advance(cycles);
         b.clock = later;
-        b.wired()
+        let matches = moved.matches;
+        Moved {
+            board: b.wired(),
+            matches,
+        }
     }
 
     pub fn deadline_members(self) -> DeadlineMembers
@@ -179,17 +193,22 @@ impl Board {
     {
         let refusal = self.refusal_of(0);
         if refusal != 0 {
+            let none = Wide::from_word(0);
             return AdvanceAnswer {
                 board: self,
                 refusal,
                 line: false,
+                matches: [none; 4],
             };
         }
-        let board = self.advanced(cycles);
+        let moved = self.advanced(cycles);
+        let board = moved.board;
+        let matches = moved.matches;
         AdvanceAnswer {
             board,
             refusal: 0,
             line: board.line(),
+            matches,
         }
     }
 
@@ -244,7 +263,8 @@ impl Board {
         }
         let passed = skip.cycles;
         if skip.made {
-            let board = self.advanced(passed);
+            let moved = self.advanced(passed);
+            let board = moved.board;
             return SkipAnswer {
                 board,
                 refusal: 0,

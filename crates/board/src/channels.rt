@@ -6,11 +6,13 @@ ghost use Rattle.wide.specs.Deadline.{numberOf};
 ghost use Rattle.channel.specs.Channel.{TimerFits};
 ghost use Rattle.board.specs.Loops.{All};
 ghost use Rattle.board.specs.Channels.{advancedAll, soonestOf, anyLine, allSound};
+ghost use Rattle.board.specs.CodeCalls.{matchesGiven};
 use crate::Board;
 use channel::ChannelNumber;
 use channel::Cycles;
 use channel::HardwareTimer;
 use wide::deadline::Deadline;
+use wide::number::Wide;
 
 // The contract also says that there are four, which the check does not know of an array in a field, and that the
 // channels' words are words.
@@ -55,21 +57,33 @@ pub fn soonest(timers: [HardwareTimer; 4], timer_enable: u8) -> Deadline
     soonest
 }
 
-pub fn advance_all(
-    timers: [HardwareTimer; 4],
-    timer_enable: u8,
-    cycles: Cycles,
-) -> [HardwareTimer; 4]
+// The channels after an advance, and the compare points that each met.
+pub struct AdvancedChannels {
+    pub timers: [HardwareTimer; 4],
+    pub matches: [Wide; 4],
+}
+
+pub fn advance_all(timers: [HardwareTimer; 4], timer_enable: u8, cycles: Cycles) -> AdvancedChannels
     requires { ⌜ allSound timers ≡ true ⌝ }
-    ensures { λ r. ⌜ r ≡ advancedAll «timer_enable» (cycles .0) timers ⌝ }
+    ensures { λ r. ⌜ (r .timers ≡ advancedAll «timer_enable» (cycles .0) timers)
+        × (r .matches ≡ matchesGiven «timer_enable» (cycles .0) timers) ⌝ }
 {
     let mut out = timers;
+    let none = Wide::from_word(0);
+    let mut matches = [none; 4];
     let mut i = 0;
     while i < Board::CHANNELS {
         let t = out[i];
         let selected = ChannelNumber(i as u8).selected(timer_enable);
-        out[i] = t.advance_cycles(selected, cycles);
+        let after = t.advance_cycles(selected, cycles);
+        let timer = after.timer;
+        out[i] = timer;
+        let met = after.matches;
+        matches[i] = met;
         i += 1;
     }
-    out
+    AdvancedChannels {
+        timers: out,
+        matches,
+    }
 }

@@ -1,8 +1,10 @@
--- Rows of document 01's settings that are about one channel, computed from the rules. Assumes nothing.
-use Prim.Native.Nat.{ℕ, _+_, _-_, _^_}
+-- Rows of document 01's settings that are about one channel, and of the counts that S-4 adds, computed from the rules.
+-- Assumes nothing.
+use Prim.Native.Nat.{ℕ, _+_, _-_, _*_, _^_}
 use mathlib.Core.Path.{_≡_, refl}
 use mathlib.Core.Bool.{true, false}
 use mathlib.Core.Option.{some}
+use mathlib.Core.List.{[], _∷_}
 use Rattle.wide.specs.Number.{largest}
 use Rattle.channel.specs.declared.HardwareTimer.{HardwareTimer}
 use Rattle.channel.specs.Channel.{
@@ -16,11 +18,14 @@ use Rattle.channel.specs.Channel.{
   withCompare,
   withReload,
   withPrescaler,
+  withPhase,
   withFlags,
 }
 use Rattle.channel.specs.Prescaler.{advanced}
 use Rattle.channel.specs.Modes.{oneShot, reloaded, matched, periodic, distance, freeRunning, tickedIn, ticked}
 use Rattle.channel.specs.Deadline.{ticksToGo, deadlineOf}
+use Rattle.channel.specs.Matches.{pointsMet, matchesIn, matchesOf}
+use Rattle.channel.specs.Splits.{advancedBy, matchesBy}
 
 -- a channel of a mode that runs with interrupts enabled, its other fields the fresh board's
 abbrev inMode : ℕ → HardwareTimer
@@ -29,6 +34,10 @@ inMode mode = withControl (12 + mode) freshTimer
 -- 'A mode 0, compare 10, prescaler 2'
 abbrev settingA : HardwareTimer
 settingA = withCompare 10 (withPrescaler 2 (inMode 0))
+
+-- 'B mode 1, compare 10, reload 4'
+abbrev settingB : HardwareTimer
+settingB = withCompare 10 (withReload 4 (inMode 1))
 
 -- 'C mode 1, counter 2^64 − 3, compare 2^64 − 2'
 abbrev settingC : ℕ → HardwareTimer
@@ -47,7 +56,7 @@ unfolding deadlineOf advanced ticked tickedIn oneShot ticksToGo lineOf enabledOf
 rowA = (refl, refl, refl)
 
 -- 'B mode 1, compare 10, reload 4, 19 ticks: compare 22'
-pub rowB : ticked 19 (withCompare 10 (withReload 4 (inMode 1))) .compare ≡ 22
+pub rowB : ticked 19 settingB .compare ≡ 22
 unfolding ticked tickedIn periodic matched reloaded
 rowB = refl
 
@@ -79,3 +88,89 @@ pub row-resting :
     × (advanced true 7 (withControl 8 settingA) ≡ withControl 8 settingA)
 unfolding advanced enabledOf
 row-resting = (refl, refl)
+
+-- ---- S-4: how many compare points an advance meets. But for A's the divisor is 1, so that each cycle is a tick
+
+-- a point for each tick, from 0 on
+abbrev eachTick : HardwareTimer
+eachTick = withReload 1 (inMode 1)
+
+-- past its first point there is no second in 64 bits
+abbrev onceOnly : HardwareTimer
+onceOnly = withCompare 1 (withReload largest (inMode 1))
+
+-- mode 1: B meets 10, 14 and 18, in one advance or in parts, and has its compare point three periods further
+pub matches-of-B :
+    (matchesOf true 19 settingB ≡ 3)
+    × (matchesBy true (9 ∷ 1 ∷ 0 ∷ 9 ∷ []) settingB ≡ 3)
+    × (advancedBy true (9 ∷ 1 ∷ 0 ∷ 9 ∷ []) settingB .compare ≡ 10 + 3 * 4)
+unfolding matchesIn pointsMet matchesBy advancedBy advanced ticked tickedIn periodic matched reloaded enabledOf
+matches-of-B = (refl, refl, refl)
+
+-- 'A count can reach 2^64', here in one advance that switches the channel off
+pub most-matches :
+    (matchesOf true largest eachTick ≡ 2 ^ 64)
+    × (enabledOf (advanced true largest eachTick .control) ≡ false)
+unfolding matchesIn pointsMet advanced ticked tickedIn periodic matched reloaded enabledOf disabled
+most-matches = (refl, refl)
+
+-- C: the match that clears enable counts too
+pub matches-of-C : (matchesOf true 1 (settingC 1) ≡ 1) × (matchesOf true 1 (settingC 4) ≡ 1)
+unfolding matchesIn pointsMet advanced ticked tickedIn periodic matched reloaded enabledOf disabled
+matches-of-C = (refl, refl)
+
+-- 'or 1 with reload 0'
+pub matches-once :
+    (matchesOf true 9 (withReload 0 settingB) ≡ 0)
+    × (matchesOf true 10 (withReload 0 settingB) ≡ 1)
+    × (matchesOf true 19 (withReload 0 settingB) ≡ 1)
+unfolding matchesIn pointsMet advanced ticked tickedIn periodic matched reloaded enabledOf disabled
+matches-once = (refl, refl, refl)
+
+-- switched off, a channel keeps its compare point, and it is not one period further for each point met
+pub compare-left :
+    (enabledOf (advanced true 1 onceOnly .control) ≡ false)
+    × (advanced true 1 onceOnly .compare ≡ 1)
+    × (1 + matchesOf true 1 onceOnly * largest ≡ 2 ^ 64)
+unfolding matchesIn pointsMet advanced ticked tickedIn periodic matched reloaded enabledOf disabled
+compare-left = (refl, refl, refl)
+
+-- 'overdue ones too': with compare below the counter mode 0 meets one point at its first tick, and mode 1 all up to it
+pub matches-overdue :
+    (matchesOf true 0 (withCounter 5 (inMode 0)) ≡ 0)
+    × (matchesOf true 1 (withCounter 5 (inMode 0)) ≡ 1)
+    × (matchesBy true (1 ∷ 1 ∷ []) (withCounter 5 (inMode 0)) ≡ 1)
+    × (matchesOf true 1 (withCounter 5 (withReload 2 (inMode 1))) ≡ 4)
+unfolding matchesIn pointsMet matchesBy advanced ticked tickedIn oneShot periodic matched reloaded enabledOf disabled
+matches-overdue = (refl, refl, refl, refl)
+
+-- D: none after 2^64 − 1 ticks, one at the next, and none after it
+pub matches-of-D :
+    (matchesOf true largest settingD ≡ 0)
+    × (matchesOf true 1 (advanced true largest settingD) ≡ 1)
+    × (matchesOf true (2 ^ 64) (advanced true (2 ^ 64) settingD) ≡ 0)
+unfolding matchesIn pointsMet advanced ticked tickedIn freeRunning distance enabledOf
+matches-of-D = (refl, refl, refl)
+
+-- 'A match is where document 01's rule sets pending, set before or not'
+pub matches-pending :
+    (matchesOf true 19 (withFlags true false settingB) ≡ 3)
+    × (matchesOf true 29 (withFlags true false settingA) ≡ 0)
+    × (matchesOf true 30 (withFlags true false settingA) ≡ 1)
+unfolding matchesIn pointsMet advanced ticked tickedIn oneShot periodic matched reloaded enabledOf disabled
+matches-pending = (refl, refl, refl)
+
+-- a channel that does not run meets none
+pub matches-resting : (matchesOf false 30 settingA ≡ 0) × (matchesOf true 30 (withControl 8 settingA) ≡ 0)
+unfolding matchesIn advanced enabledOf
+matches-resting = (refl, refl)
+
+-- what the premises of the laws of parts shut out: a channel that is not sound has a tick in an advance of 0 cycles,
+-- and a counter that is no word has another distance after a tick
+pub premises-used :
+    (matchesBy true [] (withPhase 1 (inMode 0)) ≡ 0)
+    × (matchesOf true 0 (withPhase 1 (inMode 0)) ≡ 1)
+    × (matchesBy true (1 ∷ (2 ^ 64 - 2) ∷ []) (withCounter (2 ^ 64 + 1) settingD) ≡ 1)
+    × (matchesOf true largest (withCounter (2 ^ 64 + 1) settingD) ≡ 0)
+unfolding matchesIn pointsMet matchesBy advanced ticked tickedIn oneShot freeRunning distance enabledOf disabled
+premises-used = (refl, refl, refl, refl)

@@ -16,9 +16,13 @@ oneShot t h =
     (clearEnable (setPending (withCounter (h .compare) h)))
     (withCounter (h .counter + t) h))
 
+-- 'floor((counter − compare) / reload) + 1': the points compare, compare + reload, .. up to the counter
+abbrev pub pointsTo : ℕ → ℕ → ℕ → ℕ
+pointsTo counter compare reload = (counter - compare) / reload + 1
+
 -- 'next = compare + (floor((counter − compare) / reload) + 1) × reload'
 abbrev pub nextCompare : HardwareTimer → ℕ
-nextCompare h = h .compare + ((h .counter - h .compare) / h .reload + 1) * h .reload
+nextCompare h = h .compare + pointsTo (h .counter) (h .compare) (h .reload) * h .reload
 
 -- 'set pending, then with reload 0 clear enable, else ..; if next > 2^64 − 1 clear enable and leave compare, else
 -- compare = next.'

@@ -2,6 +2,7 @@
 ghost use mathlib.Core.Path.{_≡_};
 ghost use Rattle.wide.specs.Bits.{bit};
 ghost use Rattle.channel.specs.Channel.{freshTimer, enabledOf, irqEnabledOf, lineOf, soundTimer, TimerFits};
+use wide::number::Wide;
 
 mod deadline;
 mod modes;
@@ -13,6 +14,12 @@ pub struct Cycles(pub u64);
 
 // Ticks of a channel, which its prescaler gives.
 pub struct Ticks(pub u64);
+
+// What an advance leaves of a channel, and the compare points that it met, at most 2^64.
+pub struct Advanced {
+    pub timer: HardwareTimer,
+    pub matches: Wide,
+}
 
 // A channel's number on the board, 0 to 3.
 pub struct ChannelNumber(pub u8);

@@ -2,11 +2,14 @@
 ghost use mathlib.Core.Path.{_≡_};
 ghost use Prim.Native.Nat.{_+_, _≤_, min};
 ghost use lib.Dec.{leb};
-ghost use Rattle.wide.specs.Number.{largest};
-ghost use Rattle.channel.specs.Channel.{setPending, clearEnable};
+ghost use Rattle.wide.specs.Number.{valueOf, largest};
+ghost use Rattle.channel.specs.Channel.{modeOf, setPending, clearEnable};
+ghost use Rattle.channel.specs.Matches.{pointsMet, matchesIn};
 ghost use Rattle.channel.specs.Modes.{oneShot, reloaded, matched, periodic, distance, freeRunning, ticked};
+use crate::Advanced;
 use crate::HardwareTimer;
 use crate::Ticks;
+use wide::number::Wide;
 
 // The sum, or the largest word where it is larger.
 fn saturating_add(a: u64, b: u64) -> u64
@@ -26,58 +29,82 @@ impl HardwareTimer {
         self
     }
 
-    fn advance_one_shot(mut self, ticks: Ticks) -> Self
-        ensures { λ r. ⌜ r ≡ oneShot (ticks .0) self ⌝ }
+    // No compare point is met.
+    pub fn unmet(self) -> Advanced
+        ensures { λ r. ⌜ (r .timer ≡ self) × (valueOf (r .matches) ≡ 0) ⌝ }
+    {
+        Advanced {
+            timer: self,
+            matches: Wide::from_word(0),
+        }
+    }
+
+    // One compare point is met, and another for each of the periods past it.
+    fn met(self, periods: u64) -> Advanced
+        ensures { λ r. ⌜ (r .timer ≡ self) × (valueOf (r .matches) ≡ periods + 1) ⌝ }
+    {
+        Advanced {
+            timer: self,
+            matches: Wide::from_word(periods).sum(Wide::from_word(1)),
+        }
+    }
+
+    fn advance_one_shot(mut self, ticks: Ticks) -> Advanced
+        ensures { λ r. ⌜ (r .timer ≡ oneShot (ticks .0) self)
+            × (valueOf (r .matches) ≡ matchesIn 0 (oneShot (ticks .0)) self) ⌝ }
     {
         let counter = self.counter;
         let compare = self.compare;
         let t = ticks.0;
         if compare <= counter {
-            return self.fired();
+            return self.fired().met(0);
         }
         if compare - counter <= t {
             self.counter = compare;
-            return self.fired();
+            return self.fired().met(0);
         }
         self.counter = counter + t;
-        self
+        self.unmet()
     }
 
     // A periodic channel at its compare point or past it. The next point lies past the counter by what the remainder
-    // leaves of a period.
-    fn reloaded(mut self) -> Self
+    // leaves of a period, and the quotient is the periods that have passed.
+    fn reloaded(mut self) -> Advanced
         requires { ⌜ self .compare ≤ self .counter ⌝ }
-        ensures { λ r. ⌜ r ≡ reloaded self ⌝ }
+        ensures { λ r. ⌜ (r .timer ≡ reloaded self) × (valueOf (r .matches) ≡ pointsMet 1 (self .counter) self) ⌝ }
     {
         let counter = self.counter;
         let compare = self.compare;
         let reload = self.reload;
         if reload == 0 {
-            return self.fired();
+            return self.fired().met(0);
         }
-        let gap = reload - (counter - compare) % reload;
+        let past = counter - compare;
+        let periods = past / reload;
+        let gap = reload - past % reload;
         if u64::MAX - counter < gap {
-            return self.fired();
+            return self.fired().met(periods);
         }
         self.compare = counter + gap;
         self.pending = true;
-        self
+        self.met(periods)
     }
 
-    fn matched(self) -> Self
-        ensures { λ r. ⌜ r ≡ matched self ⌝ }
+    fn matched(self) -> Advanced
+        ensures { λ r. ⌜ (r .timer ≡ matched self) × (valueOf (r .matches) ≡ matchesIn 1 matched self) ⌝ }
     {
         let counter = self.counter;
         let compare = self.compare;
         if compare <= counter {
             self.reloaded()
         } else {
-            self
+            self.unmet()
         }
     }
 
-    fn advance_periodic(mut self, ticks: Ticks) -> Self
-        ensures { λ r. ⌜ r ≡ periodic (ticks .0) self ⌝ }
+    fn advance_periodic(mut self, ticks: Ticks) -> Advanced
+        ensures { λ r. ⌜ (r .timer ≡ periodic (ticks .0) self)
+            × (valueOf (r .matches) ≡ matchesIn 1 (periodic (ticks .0)) self) ⌝ }
     {
         let counter = self.counter;
         self.counter = saturating_add(counter, ticks.0);
@@ -98,8 +125,9 @@ impl HardwareTimer {
         distance <= t
     }
 
-    fn advance_free_running(mut self, ticks: Ticks) -> Self
-        ensures { λ r. ⌜ r ≡ freeRunning (ticks .0) self ⌝ }
+    fn advance_free_running(mut self, ticks: Ticks) -> Advanced
+        ensures { λ r. ⌜ (r .timer ≡ freeRunning (ticks .0) self)
+            × (valueOf (r .matches) ≡ matchesIn 2 (freeRunning (ticks .0)) self) ⌝ }
     {
         let counter = self.counter;
         let hit = self.reaches(ticks);
@@ -108,25 +136,27 @@ impl HardwareTimer {
             if hit {
                 self.pending = true;
                 self.armed = false;
+                return self.met(0);
             }
         }
-        self
+        self.unmet()
     }
 
-    pub fn advance(self, ticks: Ticks) -> Self
-        ensures { λ r. ⌜ r ≡ ticked (ticks .0) self ⌝ }
+    pub fn advance(self, ticks: Ticks) -> Advanced
+        ensures { λ r. ⌜ (r .timer ≡ ticked (ticks .0) self)
+            × (valueOf (r .matches) ≡ matchesIn (modeOf (self .control)) (ticked (ticks .0)) self) ⌝ }
     {
         let control = self.control;
         let t = ticks.0;
         if t == 0 {
-            return self;
+            return self.unmet();
         }
         let mode = control % Self::MODES;
         match mode {
             Self::ONE_SHOT => self.advance_one_shot(ticks),
             Self::PERIODIC => self.advance_periodic(ticks),
             Self::FREE_RUNNING => self.advance_free_running(ticks),
-            _ => self,
+            _ => self.unmet(),
         }
     }
 }

@@ -1,7 +1,10 @@
 // The prescaler: the only place where cycles become ticks.
 ghost use mathlib.Core.Path.{_≡_};
 ghost use Prim.Native.Nat.{_≤_};
+ghost use Rattle.wide.specs.Number.{valueOf};
 ghost use Rattle.channel.specs.Prescaler.{ticksOf, phaseAfter, runs, advanced};
+ghost use Rattle.channel.specs.Matches.{matchesOf};
+use crate::Advanced;
 use crate::Cycles;
 use crate::HardwareTimer;
 use crate::Ticks;
@@ -52,12 +55,13 @@ impl HardwareTimer {
     }
 
     // The channel after the cycles, as its mode leaves it; `advance_cycles` makes it anew of its fields.
-    fn advanced(self, selected: bool, cycles: Cycles) -> Self
+    fn advanced(self, selected: bool, cycles: Cycles) -> Advanced
         requires { ⌜ self .phase ≤ self .prescaler ⌝ }
-        ensures { λ r. ⌜ r ≡ advanced selected (cycles .0) self ⌝ }
+        ensures { λ r. ⌜ (r .timer ≡ advanced selected (cycles .0) self)
+            × (valueOf (r .matches) ≡ matchesOf selected (cycles .0) self) ⌝ }
     {
         if !self.runs(selected) {
-            return self;
+            return self.unmet();
         }
         let s = self.scale(cycles);
         let mut h = self;
@@ -66,10 +70,17 @@ impl HardwareTimer {
     }
 
     // Cycles arrive at the channel, whose bit in timer enable is `selected`.
-    pub fn advance_cycles(self, selected: bool, cycles: Cycles) -> Self
+    pub fn advance_cycles(self, selected: bool, cycles: Cycles) -> Advanced
         requires { ⌜ self .phase ≤ self .prescaler ⌝ }
-        ensures { λ r. ⌜ r ≡ advanced selected (cycles .0) self ⌝ }
+        ensures { λ r. ⌜ (r .timer ≡ advanced selected (cycles .0) self)
+            × (valueOf (r .matches) ≡ matchesOf selected (cycles .0) self) ⌝ }
     {
-        self.advanced(selected, cycles).rebuilt()
+        let a = self.advanced(selected, cycles);
+        let timer = a.timer;
+        let matches = a.matches;
+        Advanced {
+            timer: timer.rebuilt(),
+            matches,
+        }
     }
 }

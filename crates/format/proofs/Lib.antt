@@ -1,1 +1,2 @@
 pub mod Frames
+pub mod Stores

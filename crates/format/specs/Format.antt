@@ -49,8 +49,8 @@ table =
     ∷ row (2 ∷ []) (1 ∷ [])
     -- '03 write: address 2, byte → none'
     ∷ row (2 ∷ 1 ∷ []) []
-    -- '04 advance: 8 → line 1'
-    ∷ row (8 ∷ []) (1 ∷ [])
+    -- '04 advance: 8 → line 1', and by S-4 'four 16-byte counts, channel 0 first'
+    ∷ row (8 ∷ []) (1 ∷ 16 ∷ 16 ∷ 16 ∷ 16 ∷ [])
     -- '05 deadline: none → present 1, D 16, 64-bit deadline 8'
     ∷ row [] (1 ∷ 16 ∷ 8 ∷ [])
     -- '06 skip: none → passed 8, line 1'

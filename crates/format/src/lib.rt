@@ -1,9 +1,12 @@
 // The bytes of the call list: the call at the front of a list, and the record of an answer, big-endian.
 ghost use mathlib.Core.Path.{_≡_};
 ghost use mathlib.Core.Bool.{true};
+ghost use mathlib.Core.List.{[], _∷_};
 ghost use Prim.Native.Nat.{_+_, _≤_};
 ghost use lib.ListN.{length};
 ghost use lib.Seq.{sets};
+ghost use Rattle.wide.specs.Number.{valueOf};
+ghost use Rattle.wide.specs.Fields.{be};
 ghost use Rattle.format.specs.Format.{
   valueLength,
   answerLength,
@@ -11,8 +14,8 @@ ghost use Rattle.format.specs.Format.{
   tagAt,
   frameRefusal,
   valueBytes,
-  recordOf,
 };
+ghost use Rattle.format.specs.CodeAnswers.{startOf, wides};
 ghost use Rattle.format.specs.declared.Answer.the-variants.{Byte, Deadline, Skip, Pair};
 use wide::fields;
 use wide::number::Wide;
@@ -30,6 +33,9 @@ pub const ANSWER_TOO_LONG: u8 = 11;
 
 // Bytes of a tag and a length.
 pub const HEADER_LENGTH: usize = 3;
+
+// Bytes of a count.
+pub const COUNT_LENGTH: usize = 16;
 
 // The members of an answer.
 pub enum Answer {
@@ -65,7 +71,7 @@ pub fn lengths_of(tag: u8) -> Lengths
         1 => row(12, 0),
         2 => row(2, 1),
         3 => row(3, 0),
-        4 => row(8, 1),
+        4 => row(8, 65),
         5 => row(0, 25),
         6 => row(0, 9),
         7 => row(2, 0),
@@ -155,6 +161,29 @@ fn put_pair(buf: &mut [u8], at: usize, a: u8, b: u8)
     fields::put(buf, at + 1, b as u64, 1);
 }
 
+// Writes four counts of 0 from index at on.
+pub fn put_no_counts(buf: &mut [u8], at: usize)
+    requires { ⌜ at + 64 ≤ length (now buf) ⌝ }
+    ensures { λ _. ⌜ now (buf .exit) ≡ sets (now (buf .entry)) at (wides (0 ∷ 0 ∷ 0 ∷ 0 ∷ [])) ⌝ }
+{
+    let none = Wide::from_word(0);
+    fields::put_wide(buf, at, none);
+    fields::put_wide(buf, at + COUNT_LENGTH, none);
+    fields::put_wide(buf, at + 2 * COUNT_LENGTH, none);
+    fields::put_wide(buf, at + 3 * COUNT_LENGTH, none);
+}
+
+// Writes a count over one of 0. Its high word is 0 but where the count is 2^64, and is only then written.
+pub fn put_count(buf: &mut [u8], at: usize, count: Wide)
+    requires { ⌜ (at + 16 ≤ length (now buf)) × (sets (now buf) at (be 16 0) ≡ now buf) ⌝ }
+    ensures { λ _. ⌜ now (buf .exit) ≡ sets (now (buf .entry)) at (be 16 (valueOf count)) ⌝ }
+{
+    fields::put(buf, at + 8, count.low, 8);
+    if count.high != 0 {
+        fields::put(buf, at, count.high, 8);
+    }
+}
+
 // Writes an answer's members from index at on.
 fn put_value(buf: &mut [u8], at: usize, answer: Answer)
     requires { ⌜ at + length (valueBytes answer) ≤ length (now buf) ⌝ }
@@ -169,10 +198,11 @@ fn put_value(buf: &mut [u8], at: usize, answer: Answer)
     }
 }
 
-// Writes an answer's record from index at on: tag, length and members, of which there are `size` bytes.
+// Writes an answer's record from index at on: tag, the length of its members, which is `size`, and the members that are
+// given, which may be fewer.
 pub fn put_record(buf: &mut [u8], at: usize, tag: u8, size: usize, answer: Answer)
-    requires { ⌜ (size ≡ length (valueBytes answer)) × (at + 3 + size ≤ length (now buf)) ⌝ }
-    ensures { λ _. ⌜ now (buf .exit) ≡ sets (now (buf .entry)) at (recordOf tag (valueBytes answer)) ⌝ }
+    requires { ⌜ at + 3 + length (valueBytes answer) ≤ length (now buf) ⌝ }
+    ensures { λ _. ⌜ now (buf .exit) ≡ sets (now (buf .entry)) at (startOf tag size (valueBytes answer)) ⌝ }
 {
     fields::put(buf, at, tag as u64, 1);
     fields::put(buf, at + 1, size as u64, 2);

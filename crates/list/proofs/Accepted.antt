@@ -1,10 +1,11 @@
 -- An accepted call of a run: the board and the answer that the code's ways store, and how the run goes on behind it.
 -- Assumes nothing.
 use Prim.Native.Nat.{ℕ, _+_, _-_, _≤_, _<_}
+use native.Mathlib.Nat.{le-of-eq}
 use native.Mathlib.Omega.{arith}
 use mathlib.Core.Path.{_≡_, refl, sym, ap, _∙_}
 use mathlib.Core.Bool.{Bool, true, false, true≢false}
-use mathlib.Core.List.{List}
+use mathlib.Core.List.{List, []}
 use mathlib.Core.Logic.{_⊎_, inl, inr}
 use lib.ListN.{length, drop, getD, length-drop}
 use lib.Seq.{sets}
@@ -21,6 +22,7 @@ use Rattle.board.specs.declared.calls.Passing.{Passing}
 use Rattle.board.specs.Fields.{withController, channelAt, withChannel}
 use Rattle.board.specs.Board.{line, wired, sound}
 use Rattle.board.specs.Calls.{boardAfter, movedBoard, deadlineCall}
+use Rattle.board.specs.Channels.{matchesAll}
 use Rattle.board.specs.CodeCalls.{passingOf}
 use Rattle.board.proofs.Soundness.{facts-sound}
 use Rattle.board.proofs.Steps.{good}
@@ -49,12 +51,33 @@ use Rattle.format.specs.Format.{
   valueBytes,
   recordOf,
 }
-use Rattle.format.proofs.Frames.{framed}
+use Rattle.format.specs.CodeAnswers.{startOf}
+use Rattle.format.proofs.Frames.{framed, answer-length}
 use Rattle.perform.specs.declared.Effect.{Effect}
 use Rattle.perform.specs.declared.Front.{Front}
 use Rattle.perform.specs.Calls.{callAt, refusalAt}
-use Rattle.perform.specs.CodeCalls.{FrontFound, skipAt, passingAt, answeredBytes, Lesser, withEffect, EffectIs}
-use Rattle.perform.proofs.Calls.{read-is, write-is, deadline-is, Passes, passes, stays, other-bytes}
+use Rattle.perform.specs.CodeCalls.{
+  FrontFound,
+  skipAt,
+  passingAt,
+  answeredBytes,
+  countsPut,
+  Lesser,
+  withEffect,
+  EffectIs,
+}
+use Rattle.perform.proofs.Calls.{
+  read-is,
+  write-is,
+  deadline-is,
+  Passes,
+  passes,
+  stays,
+  no-advance,
+  passed-fits,
+  other-bytes,
+}
+use Rattle.perform.proofs.Counts.{counts-none, counts-length, record-start}
 use Rattle.list.specs.declared.Outcome.{Outcome}
 use Rattle.list.specs.Run.{Turn, done, refused, turnOf, stepped}
 use Rattle.perform.proofs.Refusals.{Clear, clear}
@@ -67,21 +90,41 @@ value-in l tag z e = rw e at (framed l z .0)
 
 -- ---- the ways of the code
 
-module _ (l : List ℕ) (b : Board) where
+-- at is the index of the record, and buf the buffer before the call
+module _ (l : List ℕ) (b : Board) (at : ℕ) (buf : List ℕ) where
   -- what a way leaves: y is the board before source 3 is set, c the cycles that have passed, moved whether the line can
-  -- have moved, a the answer but for that of 04 and 06
-  pub record Carried (y : Board) (c : ℕ) (moved : Bool) (a : Answer) : Type 0 where
+  -- have moved, a the answer but for that of 04 and 06, and buf′ the buffer, with the counts of 04
+  pub record Carried (y : Board) (c : ℕ) (moved : Bool) (a : Answer) (buf′ : List ℕ) : Type 0 where
     pub board : y ≡ callAt l b .board
     pub still : moved ≡ false → wired y ≡ y
-    pub bytes : (v : Bool) → (moved ≡ true → v ≡ line y) →
-        answeredBytes (tagAt l) c v (valueBytes a) ≡ answerBytes (tagAt l) (callAt l b .members)
+    pub same : length buf′ ≡ length buf
+    pub fits : (v : Bool) → length (answeredBytes (tagAt l) c v (valueBytes a)) ≤ answerLength (tagAt l)
+    pub record-is : (v : Bool) → (moved ≡ true → v ≡ line y) →
+        sets buf′ at (startOf (tagAt l) (answerLength (tagAt l)) (answeredBytes (tagAt l) c v (valueBytes a)))
+        ≡ sets buf at (recordOf (tagAt l) (answerBytes (tagAt l) (callAt l b .members)))
 
   -- a call with an answer of its own
-  by-answer : (y : Board) (c : ℕ) (moved : Bool) (a : Answer) → y ≡ callAt l b .board →
+  by-answer : (y : Board) (c : ℕ) (moved : Bool) (a : Answer) (buf′ : List ℕ) → buf′ ≡ buf → y ≡ callAt l b .board →
       (moved ≡ false → wired y ≡ y) → eqb (tagAt l) 4 ≡ false → eqb (tagAt l) 6 ≡ false →
-      valueBytes a ≡ answerBytes (tagAt l) (callAt l b .members) → Carried y c moved a
-  by-answer y c moved a e s n4 n6 h =
-      record { board = e; still = s; bytes = λ v _. other-bytes (tagAt l) c v (valueBytes a) n4 n6 ∙ h }
+      valueBytes a ≡ answerBytes (tagAt l) (callAt l b .members) → Carried y c moved a buf′
+  by-answer y c moved a buf′ d e s n4 n6 h =
+      record {
+        board = e;
+        still = s;
+        same = ap length d;
+        fits = λ v. le-of-eq (ap length (given v) ∙ answer-length (tagAt l) (callAt l b .members));
+        record-is =
+            λ v _. ap
+            (λ (x : List ℕ).
+            sets x at (startOf (tagAt l) (answerLength (tagAt l)) (answeredBytes (tagAt l) c v (valueBytes a))))
+            d
+            ∙ ap (λ (x : List ℕ). sets buf at (startOf (tagAt l) (answerLength (tagAt l)) x)) (given v)
+            ∙ ap (sets buf at) (record-start (tagAt l) (callAt l b .members));
+      }
+    where
+      given : (v : Bool) →
+          answeredBytes (tagAt l) c v (valueBytes a) ≡ answerBytes (tagAt l) (callAt l b .members)
+      given v = other-bytes (tagAt l) c v (valueBytes a) n4 n6 ∙ h
 
   -- a write leaves the controller
   controller-kept : (part : WritePart) (offset value : ℕ) → writtenBy part offset value b .controller ≡ b .controller
@@ -101,7 +144,7 @@ module _ (l : List ℕ) (b : Board) where
   moves : (moved : Bool) {P : Type 0} → moved ≡ true → moved ≡ false → P
   moves moved t f = absurd (true≢false (sym t ∙ f))
 
-  module _ (s : sound b ≡ true) (y : Board) (c : ℕ) (moved : Bool) (a : Answer) where
+  module _ (s : sound b ≡ true) (y : Board) (c : ℕ) (moved : Bool) (a : Answer) (buf′ : List ℕ) where
     module _ (offset : ℕ) (p : offset ≡ beAt l 3 2 + base) where
       read-at : tagAt l ≡ 2 → (callAt l b .board ≡ afterReading (offsetReading offset b) b)
           × (answerBytes (tagAt l) (callAt l b .members) ≡ valueBytes (Byte (offsetReading offset b .byte)))
@@ -113,11 +156,11 @@ module _ (l : List ℕ) (b : Board) where
           )
 
       pub read-carried : tagAt l ≡ 2 → (r : Reading) → r ≡ offsetReading offset b → y ≡ afterReading r b →
-          a ≡ Byte (r .byte) → moved ≡ r .rose → Carried y c moved a
-      read-carried t r e f g h =
+          a ≡ Byte (r .byte) → moved ≡ r .rose → buf′ ≡ buf → Carried y c moved a buf′
+      read-carried t r e f g h d =
           let k = read-at t in
           let y′ : y ≡ afterReading (offsetReading offset b) b = rw e at f in
-          by-answer y c moved a (y′ ∙ sym (k .0))
+          by-answer y c moved a buf′ d (y′ ∙ sym (k .0))
           (λ n. still-wired b y s
           (ap line y′ ∙ read-still offset b (sym (ap (λ (q : Reading). q .rose) e) ∙ sym h ∙ n))
           (ap (λ (x : Board). x .controller) y′))
@@ -153,17 +196,18 @@ module _ (l : List ℕ) (b : Board) where
           y
           ≡ afterReading
           (record { latches = b .latches; byte = r .byte; pending = r .pending; armed = r .armed; rose = r .rose }) b →
-          a ≡ Byte (r .byte) → moved ≡ r .rose → Carried y c moved a
-      plain-carried t q r e f g h =
+          a ≡ Byte (r .byte) → moved ≡ r .rose → buf′ ≡ buf → Carried y c moved a buf′
+      plain-carried t q r e f g h d =
           read-carried t
           (record { latches = b .latches; byte = r .byte; pending = r .pending; armed = r .armed; rose = r .rose })
-          (plain-whole r e q) f g h
+          (plain-whole r e q) f g h d
 
       pub write-carried : tagAt l ≡ 3 → (value : ℕ) → value ≡ beAt l 5 1 → (part : WritePart) → part ≡ partOf offset →
-          y ≡ writtenBy part offset value b → moved ≡ movesLine part offset → a ≡ Empty → Carried y c moved a
+          y ≡ writtenBy part offset value b → moved ≡ movesLine part offset → a ≡ Empty → buf′ ≡ buf →
+          Carried y c moved a buf′
       unfolding membersAt membersBytes valueBytes
-      write-carried t value q part e f h g =
-          by-answer y c moved a
+      write-carried t value q part e f h g d =
+          by-answer y c moved a buf′ d
           (f ∙ ap (λ (x : WritePart). writtenBy x offset value b) e ∙ sym (written-is offset value b)
           ∙ rw (write-is (tagAt l) (argumentsOf (tagAt l) l) b t, t, p, q))
           (λ n. still-wired b y s (ap line f ∙ write-still part offset value b (sym h ∙ n))
@@ -174,32 +218,45 @@ module _ (l : List ℕ) (b : Board) where
     module _ (z : callAt l b .refusal ≡ 0) (skip : Passing) (k : skip ≡ passingOf (skipAt (tagAt l) b))
         (t : (tagAt l ≡ 4) ⊎ (tagAt l ≡ 6)) (p : Passing) (e : p ≡ passingAt (tagAt l) (argumentsOf (tagAt l) l) skip)
         (g : c ≡ p .cycles .0) (m : moved ≡ true) where
-      passed : Passes (tagAt l) (argumentsOf (tagAt l) l) b z skip k p e y → Carried y c moved a
-      passed h =
+      -- the board, and the record, where the counts of 04 are ns
+      passed : (ns : List ℕ) → buf′ ≡ countsPut (tagAt l) at ns buf →
+          Passes (tagAt l) (argumentsOf (tagAt l) l) b z skip k p e y ns → Carried y c moved a buf′
+      passed ns d h =
           record {
             board = h .0;
             still = moves moved m;
-            bytes = λ v n. rw g (h .1 v (valueBytes a) (n m));
+            same = ap length d ∙ counts-length (tagAt l) at buf ns;
+            fits = λ v. passed-fits (tagAt l) c v (valueBytes a) t;
+            record-is = λ v n. rw (d, g) (h .1 v (valueBytes a) buf at (n m));
           }
 
-      pub advance-carried : p .made ≡ true → y ≡ movedBoard (p .cycles .0) b → Carried y c moved a
-      advance-carried f h = passed (passes (tagAt l) (argumentsOf (tagAt l) l) b z skip k p e t f y h)
+      pub advance-carried : p .made ≡ true → length (b .timers) ≡ 4 → y ≡ movedBoard (p .cycles .0) b →
+          buf′ ≡ countsPut (tagAt l) at (matchesAll (b .«timer_enable») (p .cycles .0) (b .timers)) buf →
+          Carried y c moved a buf′
+      advance-carried f n h d =
+          passed (matchesAll (b .«timer_enable») (p .cycles .0) (b .timers)) d
+          (passes (tagAt l) (argumentsOf (tagAt l) l) b z skip k p e t f n y h)
 
-      pub skip-carried : p .made ≡ false → y ≡ b → Carried y c moved a
-      skip-carried f h = passed (stays (tagAt l) (argumentsOf (tagAt l) l) b z skip k p e t f y h)
+      pub skip-carried : p .made ≡ false → y ≡ b → buf′ ≡ buf → Carried y c moved a buf′
+      skip-carried f h d =
+          passed [] (d ∙ sym (skip-counts f))
+          (stays (tagAt l) (argumentsOf (tagAt l) l) b z skip k p e t f y h [])
+        where
+          skip-counts : p .made ≡ false → countsPut (tagAt l) at [] buf ≡ buf
+          skip-counts f = counts-none (tagAt l) at buf [] (no-advance (tagAt l) (argumentsOf (tagAt l) l) b z skip k p e t f)
 
     pub deadline-carried : tagAt l ≡ 5 → y ≡ b → valueBytes a ≡ answerBytes 5 (deadlineCall b .members) → moved ≡ true →
-        Carried y c moved a
-    deadline-carried t e h m =
-        by-answer y c moved a (rw (deadline-is (tagAt l) (argumentsOf (tagAt l) l) b t) e) (moves moved m)
+        buf′ ≡ buf → Carried y c moved a buf′
+    deadline-carried t e h m d =
+        by-answer y c moved a buf′ d (rw (deadline-is (tagAt l) (argumentsOf (tagAt l) l) b t) e) (moves moved m)
         (ap (λ (n : ℕ). eqb n 4) t) (ap (λ (n : ℕ). eqb n 6) t)
         (rw (deadline-is (tagAt l) (argumentsOf (tagAt l) l) b t, t) h)
 
     pub effect-carried : ((tagAt l ≡ 4) ⊎ (tagAt l ≡ 6) → ⊥) → (e : Effect) →
         EffectIs (tagAt l) (argumentsOf (tagAt l) l) b e → y ≡ withEffect (e .host) (e .controller) b →
-        a ≡ e .answer → moved ≡ true → Carried y c moved a
-    effect-carried n e h f g m =
-        by-answer y c moved a (f ∙ h .0) (moves moved m) (ne-eqb (tagAt l) 4 (λ q. n (inl q)))
+        a ≡ e .answer → moved ≡ true → buf′ ≡ buf → Carried y c moved a buf′
+    effect-carried n e h f g m d =
+        by-answer y c moved a buf′ d (f ∙ h .0) (moves moved m) (ne-eqb (tagAt l) 4 (λ q. n (inl q)))
         (ne-eqb (tagAt l) 6 (λ q. n (inr q))) (ap valueBytes g ∙ h .1)
 
 -- the tags that no way of its own has
@@ -216,9 +273,20 @@ lesser tag low high n2 n3 n46 n5 =
         (t ≡ 4 → ⊥) → (t ≡ 5 → ⊥) → (t ≡ 6 → ⊥) → 6 < t
     above t l a1 a2 a3 a4 a5 a6 = omega arith
 
+-- the record that a way leads to, where n is the length of its value
+module _ (l : List ℕ) (b : Board) (at : ℕ) (buf : List ℕ) (y : Board) (c : ℕ) (moved : Bool) (a : Answer)
+    (buf′ : List ℕ) (k : Carried l b at buf y c moved a buf′) where
+  pub record-written : (n : ℕ) → n ≡ answerLength (tagAt l) → (v : Bool) → (moved ≡ true → v ≡ line y) →
+      sets buf′ at (startOf (tagAt l) n (answeredBytes (tagAt l) c v (valueBytes a)))
+      ≡ sets buf at (recordOf (tagAt l) (answerBytes (tagAt l) (callAt l b .members)))
+  record-written n e v h =
+      ap (λ (m : ℕ). sets buf′ at (startOf (tagAt l) m (answeredBytes (tagAt l) c v (valueBytes a)))) e
+      ∙ k .record-is v h
+
 -- ---- source 3 is set where the line can have moved
 
-module _ (l : List ℕ) (b y : Board) (c : ℕ) (moved : Bool) (a : Answer) (k : Carried l b y c moved a) where
+module _ (l : List ℕ) (b : Board) (at : ℕ) (buf : List ℕ) (y : Board) (c : ℕ) (moved : Bool) (a : Answer) (buf′ : List ℕ)
+    (k : Carried l b at buf y c moved a buf′) where
   pub wired-after : moved ≡ true → (v : Bool) → v ≡ line y → (q : IrqController) → q ≡ sourceSet (y .controller) 3 v →
       (z : Board) → z ≡ withController q y → z ≡ boardAfter (callAt l b)
   unfolding wired
@@ -255,11 +323,11 @@ module _ (list buf₀ : List ℕ) (s₀ : Outcome) (buf : List ℕ) (b : Board) 
 
   -- behind a call that is accepted
   pub goes-on : ((i : ℕ) → getD l i 0 < 256) → (f : Front) → Found b l (length buf - written) f → (b′ : Board) →
-      b′ ≡ boardAfter (callAt l b) → (value : List ℕ) → value ≡ answerBytes (tagAt l) (callAt l b .members) →
-      (buf′ : List ℕ) → buf′ ≡ sets buf written (recordOf (tagAt l) value) →
+      b′ ≡ boardAfter (callAt l b) → (buf′ x : List ℕ) → buf′ ≡ x →
+      x ≡ sets buf written (recordOf (tagAt l) (answerBytes (tagAt l) (callAt l b .members))) →
       Running list buf₀ s₀ buf′ (stateOf b′ (calls + 1) (used + f .length) (written + (3 + f .size)))
   unfolding stepped bytesOf
-  goes-on bytes f k b′ e value q buf′ w =
+  goes-on bytes f k b′ e buf′ x p w =
       let room = length buf - written in
       let g = call-good l bytes b (good b (r .fits) (r .sound)) (k .clear .own) in
       let m = record-size b l room in
@@ -267,7 +335,7 @@ module _ (list buf₀ : List ℕ) (s₀ : Outcome) (buf : List ℕ) (b : Board) 
       (recordOf (tagAt l) (answerBytes (tagAt l) (callAt l b .members))) in
       rw (k .length, k .size, e, ← m)
       (more list buf₀ s₀ buf (stateOf b calls used written) r inside buf′ t (at-front t (turn-done b l room (k .none)))
-      (rw (← q) w) refl (facts-sound (boardAfter (callAt l b)) (g .facts)) (g .fits) .0)
+      (p ∙ w) refl (facts-sound (boardAfter (callAt l b)) (g .facts)) (g .fits) .0)
 
   -- at a call that is refused
   pub ends : (n : ℕ) → n ≡ refusalAt b l (length buf - written) → eqb n 0 ≡ false →

@@ -1,25 +1,43 @@
--- The loop that advances a board's channels where they lie, and the board after it. Assumes nothing.
-use Prim.Native.Nat.{ℕ, _+_, _≤_, _<_}
+-- The loop that advances a board's channels where they lie, the board after it, and the counts that it writes. Assumes
+-- nothing.
+use Prim.Native.Nat.{ℕ, _+_, _*_, _≤_, _<_}
 use native.Mathlib.Omega.{arith}
 use mathlib.Core.Path.{_≡_, refl, sym, ap, _∙_, subst}
 use mathlib.Core.Bool.{Bool, true, false}
-use mathlib.Core.List.{List}
-use lib.ListN.{length, getD}
-use lib.Seq.{set-getD}
+use mathlib.Core.List.{List, [], _∷_}
+use lib.ListN.{length, getD, set}
+use lib.Seq.{sets, set-getD}
 use Rattle.wide.specs.Bits.{bit}
+use Rattle.wide.specs.Fields.{be}
 use Rattle.channel.specs.declared.HardwareTimer.{HardwareTimer}
 use Rattle.channel.specs.Channel.{freshTimer}
 use Rattle.channel.specs.Prescaler.{runs, advanced}
+use Rattle.channel.specs.Matches.{matchesOf}
 use Rattle.clock.specs.declared.Clock.{Clock}
 use Rattle.clock.specs.Clock.{rateOf, advanceClock}
 use Rattle.clock.specs.Sound.{Timed}
 use Rattle.board.specs.declared.Board.{Board}
 use Rattle.board.specs.Fields.{withTimers, withClock, withChannel}
 use Rattle.board.specs.Calls.{movedBoard}
-use Rattle.board.specs.Channels.{allSound, advancedAll}
+use Rattle.board.specs.Channels.{allSound, advancedAll, matchesAll}
 use Rattle.channel.proofs.Law.{advanced-still}
-use Rattle.board.proofs.Loops.{mapTo, map-goes, map-ends}
+use Rattle.channel.proofs.Counting.{still-matches}
+use Rattle.board.proofs.Loops.{
+  mapTo,
+  next-is,
+  map-goes,
+  map-ends,
+  map-length,
+  givenTo,
+  given-length,
+  given-next,
+  given-starts,
+  given-goes,
+  given-ends,
+}
 use Rattle.board.proofs.Phases.{phase-next}
+use Rattle.perform.specs.CodeCalls.{countsAt, countsPut, countPut}
+use Rattle.perform.proofs.Counts.{counts-length, counts-goes, counts-zero, counts-over}
 
 -- the channels below i are advanced
 pub record Advancing (enable c i : ℕ) (b₀ b : Board) : Type 0 where
@@ -84,3 +102,88 @@ module _ (enable c i : ℕ) (b₀ b : Board) (a : Advancing enable c i b₀ b) w
       ap (λ (x : Clock). withClock x b) s
       ∙ ap (λ (x : Board). withClock (advanceClock (rateOf (b₀ .clock)) c (b₀ .clock)) x)
       (a .now ∙ ap (λ (ts : List HardwareTimer). withTimers ts b₀) (sym timers-now ∙ t ∙ rw e refl))
+
+-- ---- the counts in the buffer
+
+-- the counts of the channels below i, and 0 for the others
+abbrev pub countsTo : (enable c i : ℕ) → Board → List ℕ
+countsTo enable c i b = givenTo (λ k h. matchesOf (bit k enable) c h) 0 i 0 (b .timers)
+
+-- the buffer has them, in the record of a call of this tag from index at on
+abbrev pub Counted : (enable c i tag at : ℕ) → Board → List ℕ → List ℕ → Type 0
+Counted enable c i tag at b₀ buf₀ buf = buf ≡ countsPut tag at (countsTo enable c i b₀) buf₀
+
+abbrev noCounts : List ℕ
+noCounts = 0 ∷ 0 ∷ 0 ∷ 0 ∷ []
+
+pub counts-begin : (enable c tag at : ℕ) (b : Board) → length (b .timers) ≡ 4 → (l buf : List ℕ) →
+    buf ≡ countsPut tag at noCounts l → Counted enable c 0 tag at b buf buf
+counts-begin enable c tag at b n l buf e =
+    rw (← given-starts (λ k h. matchesOf (bit k enable) c h) 0 0 (b .timers) n, e)
+    (sym (counts-over tag at l noCounts noCounts refl))
+
+module _ (enable c i tag at : ℕ) (b₀ b : Board) (a : Advancing enable c i b₀ b) (buf₀ buf : List ℕ)
+    (k : Counted enable c i tag at b₀ buf₀ buf) where
+  abbrev counted : ℕ → HardwareTimer → ℕ
+  counted j h = matchesOf (bit j enable) c h
+
+  below-four : i < 4 → i < length (countsTo enable c i b₀)
+  below-four h = omega (arith, h, given-length counted 0 i 0 (b₀ .timers), a .four)
+
+  -- the next count is 0 so far
+  pub next-zero : i < 4 → tag ≡ 4 → sets buf (countsAt at + 16 * i) (be 16 0) ≡ buf
+  next-zero h e =
+      rw k
+      (counts-zero tag at buf₀ (countsTo enable c i b₀) i (below-four h) (given-next counted 0 i 0 (b₀ .timers)) e)
+
+  -- the next channel has not been advanced
+  same-next : getD (b .timers) i freshTimer ≡ getD (b₀ .timers) i freshTimer
+  same-next =
+      ap (λ (ts : List HardwareTimer). getD ts i freshTimer) (timers-now enable c i b₀ b a)
+      ∙ next-is (λ j h. advanced (bit j enable) c h) freshTimer i 0 (b₀ .timers)
+
+  -- the next channel's count, where its bit in timer enable is v
+  count-next : i < 4 → (v : Bool) → v ≡ bit i enable → (n : ℕ) → n ≡ matchesOf v c (getD (b .timers) i freshTimer) →
+      set (countsTo enable c i b₀) i n ≡ countsTo enable c (i + 1) b₀
+  count-next h v e n q =
+      given-goes counted 0 freshTimer i (b₀ .timers) (countsTo enable c i b₀) n (omega (arith, h, a .four)) refl
+      (q ∙ ap (λ (s : Bool). matchesOf s c (getD (b .timers) i freshTimer)) e ∙ ap (counted i) same-next)
+
+  -- one turn: n is the next channel's count
+  pub counts-turn : i < 4 → (v : Bool) → v ≡ bit i enable → (n : ℕ) →
+      n ≡ matchesOf v c (getD (b .timers) i freshTimer) → (x buf′ : List ℕ) → x ≡ countPut tag at i n buf → buf′ ≡ x →
+      Counted enable c (i + 1) tag at b₀ buf₀ buf′
+  counts-turn h v e n q x buf′ f g =
+      g ∙ f ∙ ap (countPut tag at i n) k
+      ∙ counts-goes tag at buf₀ (countsTo enable c i b₀) i n (below-four h)
+      ∙ ap (λ (ns : List ℕ). countsPut tag at ns buf₀) (count-next h v e n q)
+
+  -- one turn at a channel that does not run: its count is 0
+  pub counts-passed : i < 4 → (v : Bool) → v ≡ bit i enable → runs v (getD (b .timers) i freshTimer) ≡ false →
+      Counted enable c (i + 1) tag at b₀ buf₀ buf
+  counts-passed h v e r =
+      let z = still-matches v c (getD (b .timers) i freshTimer) r in
+      let same : set (countsTo enable c i b₀) i 0 ≡ countsTo enable c i b₀ =
+      ap (set (countsTo enable c i b₀) i) (sym (given-next counted 0 i 0 (b₀ .timers)))
+      ∙ set-getD (countsTo enable c i b₀) i 0 in
+      k ∙ ap (λ (ns : List ℕ). countsPut tag at ns buf₀) (sym same ∙ count-next h v e 0 (sym z))
+
+  -- the buffer keeps its length
+  pub counts-same : (l : List ℕ) → buf₀ ≡ countsPut tag at noCounts l → length buf ≡ length l
+  counts-same l e =
+      ap length k
+      ∙ counts-length tag at buf₀ (countsTo enable c i b₀)
+      ∙ ap length e
+      ∙ counts-length tag at l noCounts
+
+  -- after the last turn
+  pub counts-end : 4 ≤ i → (l : List ℕ) → buf₀ ≡ countsPut tag at noCounts l →
+      buf ≡ countsPut tag at (matchesAll enable c (b₀ .timers)) l
+  counts-end h l e =
+      let n : i ≡ 4 = omega (arith, h, a .below) in
+      let all : countsTo enable c i b₀ ≡ matchesAll enable c (b₀ .timers) =
+      rw n (given-ends counted 0 4 0 (b₀ .timers) (a .four)) in
+      k ∙ ap (λ (ns : List ℕ). countsPut tag at ns buf₀) all
+      ∙ ap (countsPut tag at (matchesAll enable c (b₀ .timers))) e
+      ∙ counts-over tag at l noCounts (matchesAll enable c (b₀ .timers))
+      (sym (map-length counted 0 (b₀ .timers) ∙ a .four))

@@ -13,6 +13,7 @@ use Rattle.wide.specs.Bits.{flagOf}
 use Rattle.wide.specs.Fields.{beAt, be}
 use Rattle.clock.specs.Clock.{fromHost}
 use Rattle.board.specs.declared.Board.{Board}
+use Rattle.board.specs.Channels.{matchesAll}
 use Rattle.board.specs.Board.{BoardFits, line, exactDeadline, wordDeadline, sound}
 use Rattle.board.specs.Calls.{
   Call,
@@ -99,24 +100,25 @@ module _ (l : List ℕ) (b : Board) (room : ℕ) where
   done-length : (b′ : Board) (n : ℕ) (x : List ℕ) → turnOf b l room ≡ done b′ n x → n ≡ 3 + valueLength (tagAt l)
   done-length b′ n x e = done-placed b l room b′ n x e .1 .0
 
--- the answer of an advance
-advance-record : (tag : ℕ) (ms : List ℕ) (v : Bool) → tag ≡ 4 → ms ≡ flagOf v ∷ [] →
-    recordOf tag (answerBytes tag ms) ≡ 4 ∷ 0 ∷ 1 ∷ flagOf v ∷ []
+-- the answer of an advance: the line, behind tag and length
+advance-line : (tag : ℕ) (ms ns : List ℕ) (v : Bool) → tag ≡ 4 → ms ≡ flagOf v ∷ ns →
+    take 4 (recordOf tag (answerBytes tag ms)) ≡ 4 ∷ 0 ∷ 65 ∷ flagOf v ∷ []
 unfolding recordOf membersBytes be
-advance-record tag ms true e h = rw (e, h)
-advance-record tag ms false e h = rw (e, h)
+advance-line tag ms ns true e h = rw (e, h)
+advance-line tag ms ns false e h = rw (e, h)
 
 -- an advance that is done answers the line of the board that it leaves
 pub line-answered : (l : List ℕ) (b : Board) (room c : ℕ) → FrontIs l (advance c) → (b′ : Board) (n : ℕ) (x : List ℕ) →
-    turnOf b l room ≡ done b′ n x → x ≡ 4 ∷ 0 ∷ 1 ∷ flagOf (line b′) ∷ []
+    turnOf b l room ≡ done b′ n x → take 4 x ≡ 4 ∷ 0 ∷ 65 ∷ flagOf (line b′) ∷ []
 line-answered l b room c f b′ n x e =
     let call = advance-at (tagAt l) l b (f .1 .0) in
     let left = done-placed b l room b′ n x e .1 .1 .1 ∙ ap (λ (y : Call). boardAfter y) call in
     let moved : line b′ ≡ line (movedBoard (beAt l 3 8) b) =
     ap line left ∙ wired-line (movedBoard (beAt l 3 8) b) in
-    done-answer b l room b′ n x e
-    ∙ advance-record (tagAt l) (callAt l b .members) (line b′) (f .1 .0)
-    (ap (λ (y : Call). y .members) call ∙ ap (λ (v : Bool). flagOf v ∷ []) (sym moved))
+    let ns = matchesAll (b .«timer_enable») (beAt l 3 8) (b .timers) in
+    ap (take 4) (done-answer b l room b′ n x e)
+    ∙ advance-line (tagAt l) (callAt l b .members) ns (line b′) (f .1 .0)
+    (ap (λ (y : Call). y .members) call ∙ ap (λ (v : Bool). flagOf v ∷ ns) (sym moved))
 
 -- ---- the run
 

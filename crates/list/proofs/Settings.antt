@@ -3,9 +3,9 @@
 use Prim.Native.Nat.{ℕ, _+_, _-_, _^_}
 use mathlib.Core.Path.{_≡_, refl}
 use mathlib.Core.Bool.{Bool, true, false, cond, not, _&&_}
-use mathlib.Core.List.{List, [], _∷_}
+use mathlib.Core.List.{List, [], _∷_, _++_}
 use mathlib.Core.Option.{Option, none, some}
-use lib.ListN.{getD}
+use lib.ListN.{getD, replicate}
 use lib.Dec.{leb, eqb}
 use Rattle.wide.specs.Fields.{beAt, be, withByte}
 use Rattle.channel.specs.declared.HardwareTimer.{HardwareTimer}
@@ -24,6 +24,7 @@ use Rattle.channel.specs.Channel.{
   withFlags,
 }
 use Rattle.channel.specs.Prescaler.{advanced}
+use Rattle.channel.specs.Matches.{pointsMet, matchesIn}
 use Rattle.channel.specs.Modes.{oneShot, reloaded, matched, periodic, distance, freeRunning, tickedIn, ticked}
 use Rattle.channel.specs.Deadline.{ticksToGo, deadlineOf}
 use Rattle.channel.specs.Registers.{wordOf, controlWritten, byteWritten as channelWritten}
@@ -62,7 +63,15 @@ use Rattle.board.specs.declared.Board.{Board}
 use Rattle.board.specs.Loops.{mapFrom, foldFrom}
 use Rattle.board.specs.Fields.{freshBoard, withTimers, withTimerEnable, withClock}
 use Rattle.board.specs.Board.{line, exactDeadline, wired, soundParts, sound}
-use Rattle.board.specs.Calls.{boardAfter, answerOf, movedBoard, advancedBoard, skipCall, controllerWriteCall}
+use Rattle.board.specs.Calls.{
+  boardAfter,
+  answerOf,
+  movedBoard,
+  advancedBoard,
+  advanceCall,
+  skipCall,
+  controllerWriteCall,
+}
 use Rattle.board.specs.Demand.{source3}
 use Rattle.offsets.specs.Words.{timerWord, clockWord, liveWord}
 use Rattle.registers.specs.Reads.{readLive, readCountHigh, readChannel, secondsLatched, readLow, readHigh, readAt}
@@ -90,6 +99,9 @@ clocked k = withClock k freshBoard
 abbrev settingA : Board
 settingA = running (withCompare 10 (withPrescaler 2 (inMode 0)))
 
+abbrev settingB : Board
+settingB = running (withCompare 10 (withReload 4 (inMode 1)))
+
 abbrev settingC : ℕ → Board
 settingC reload = running (withReload reload (withCounter (2 ^ 64 - 3) (withCompare (2 ^ 64 - 2) (inMode 1))))
 
@@ -103,6 +115,10 @@ away compare = running (withCompare compare timerD)
 -- a skip alone, with so much room for its answer
 skipped : ℕ → ℕ → Run
 skipped compare room = runOf (away compare) (0x06 ∷ 0x00 ∷ 0x00 ∷ []) room
+
+-- a channel's control is past its four bits
+abbrev unsound : Board
+unsound = running (timerControl 16 freshTimer)
 
 abbrev settingF : Board
 settingF = clocked (withAlarm (record { enable = 1; seconds = 2; pending = false; armed = true }) freshClock)
@@ -172,7 +188,7 @@ settings =
     && not (line (advancedBoard 29 settingA))
     && line (advancedBoard 30 settingA)
     -- B mode 1, compare 10, reload 4, 19 ticks: compare 22
-    && eqb (channel0 (advancedBoard 19 (running (withCompare 10 (withReload 4 (inMode 1))))) .compare) 22
+    && eqb (channel0 (advancedBoard 19 settingB) .compare) 22
     -- C mode 1, counter 2^64 − 3, compare 2^64 − 2, 1 tick: reload 1 gives compare 2^64 − 1, reload 4 clears enable
     && eqb (channel0 (advancedBoard 1 (settingC 1)) .compare) (2 ^ 64 - 1)
     && enabledOf (channel0 (advancedBoard 1 (settingC 1)) .control)
@@ -198,6 +214,16 @@ settings =
     && eqb (skipped 0 11 .outcome .refusal) 13
     && eqb (skipped 0 12 .outcome .calls) 0
     && eqb (channel0 (skipped 0 12 .outcome .board) .counter) 0
+    -- S-4: the advance of setting B meets 3 compare points, the line being high after it; in parts of 9, 1 and 9 ticks
+    -- they are 0, 1 and 2. A jump over 2^64 points counts 2^64. Refused, the line and the counts are 0
+    && same (answerOf (advanceCall 19) settingB .members) (1 ∷ 3 ∷ 0 ∷ 0 ∷ 0 ∷ [])
+    && same (answerOf (advanceCall 9) settingB .members) (0 ∷ 0 ∷ 0 ∷ 0 ∷ 0 ∷ [])
+    && same (answerOf (advanceCall 1) (advancedBoard 9 settingB) .members) (1 ∷ 1 ∷ 0 ∷ 0 ∷ 0 ∷ [])
+    && same (answerOf (advanceCall 9) (advancedBoard 1 (advancedBoard 9 settingB)) .members)
+    (1 ∷ 2 ∷ 0 ∷ 0 ∷ 0 ∷ [])
+    && same (answerOf (advanceCall (2 ^ 64 - 1)) (running (withReload 1 (inMode 1))) .members)
+    (1 ∷ 2 ^ 64 ∷ 0 ∷ 0 ∷ 0 ∷ [])
+    && same (answerOf (advanceCall 1) unsound .members) []
     -- F alarm 2, armed, alarm enable 1: D 96,000,000
     && gives (exactDeadline settingF) 96_000_000
     -- G seconds 2^64 − 1: 47,999,999 cycles leave that subsecond, 48,000,000 leave 0
@@ -231,12 +257,12 @@ settings =
     && eqb (worked .outcome .calls) 3
     && eqb (worked .outcome .refusal) 2
     && eqb (worked .outcome .used) 19
-    && same (worked .answers) (2 ∷ 0 ∷ 1 ∷ 1 ∷ 4 ∷ 0 ∷ 1 ∷ 0 ∷ 10 ∷ 0 ∷ 2 ∷ 0 ∷ 0 ∷ [])
+    && same (worked .answers) (2 ∷ 0 ∷ 1 ∷ 1 ∷ 4 ∷ 0 ∷ 65 ∷ replicate 65 0 ++ 10 ∷ 0 ∷ 2 ∷ 0 ∷ 0 ∷ [])
 
 pub settings-hold : settings ≡ true
 unfolding
     skipped seconds settingI settingJ lowCount steady worked gives same settings beAt be withByte enabledOf irqEnabledOf
-    disabled soundTimer lineOf advanced oneShot reloaded matched periodic distance freeRunning tickedIn ticked
+    disabled soundTimer lineOf advanced pointsMet matchesIn oneShot reloaded matched periodic distance freeRunning tickedIn ticked
     ticksToGo deadlineOf wordOf controlWritten channelWritten shifted ownNanoseconds timeOf timeSeconds alarmReached
     checkAlarm movedTime endAdvance advanceClock soundOffset soundAlarm clockParts alarmAhead soundClock
     clockDeadline signedDifference setTime timeKept changeControl writeControl marked shadowByte offsetFor

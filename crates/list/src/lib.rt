@@ -117,13 +117,17 @@ pub fn run(board: Board, list: &[u8], answers: &mut [u8]) -> Outcome
                 cycles = p.cycles;
                 if p.made {
                     let enable = b.timer_enable;
+                    perform::put_unmet(answers, written, tag);
                     let mut i = 0;
                     while i < Board::CHANNELS {
                         let timer = b.timers[i];
                         let selected = ChannelNumber(i as u8).selected(enable);
                         if timer.runs(selected) {
                             let after = timer.advance_cycles(selected, cycles);
-                            b.timers[i] = after;
+                            let timer_after = after.timer;
+                            b.timers[i] = timer_after;
+                            let matches = after.matches;
+                            perform::put_met(answers, written, tag, i, matches);
                         }
                         i += 1;
                     }

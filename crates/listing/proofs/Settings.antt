@@ -1,7 +1,8 @@
 -- Document 01's listing, and small ones, each by one computation. Assumes nothing.
 use Prim.Native.Nat.{_-_, _^_}
 use mathlib.Core.Path.{_≡_, refl}
-use mathlib.Core.List.{[], _∷_}
+use mathlib.Core.List.{[], _∷_, _++_}
+use lib.ListN.{replicate}
 use Rattle.wide.specs.Fields.{beAt}
 use Rattle.listing.specs.Listing.{
   ascii,
@@ -15,11 +16,12 @@ use Rattle.listing.specs.Listing.{
   listingOf,
 }
 
--- document 01's example: its answers, with 3 calls done, refusal 2 and 19 list bytes used
+-- document 01's example: its answers, with 3 calls done, refusal 2 and 19 list bytes used. S-4: 'document 01's listing
+-- gains 128 zeros on its second line'; 48 is the code of '0'
 pub example-listed :
     listingOf
-    (0x02 ∷ 0x00 ∷ 0x01 ∷ 0x01 ∷ 0x04 ∷ 0x00 ∷ 0x01 ∷ 0x00 ∷ 0x0A ∷ 0x00 ∷ 0x02 ∷ 0x00 ∷ 0x00 ∷ []) 3 2 19
-    ≡ ascii "02 01\n04 00\n0a 0000\nend 3 2 19\n"
+    (0x02 ∷ 0x00 ∷ 0x01 ∷ 0x01 ∷ 0x04 ∷ 0x00 ∷ 0x41 ∷ replicate 65 0 ++ 0x0A ∷ 0x00 ∷ 0x02 ∷ 0x00 ∷ 0x00 ∷ []) 3 2 19
+    ≡ ascii "02 01\n04 00" ++ replicate 128 48 ++ ascii "\n0a 0000\nend 3 2 19\n"
 unfolding ascii placesOf decimalText bytesText valueText answerLine beAt linesOn endLine listingOf
 example-listed = refl
 

@@ -1,9 +1,11 @@
 -- Document 01's example, from the bytes of the list to the text, by one computation. Assumes nothing.
 use mathlib.Core.Path.{_≡_, refl}
-use mathlib.Core.List.{[], _∷_}
+use mathlib.Core.List.{[], _∷_, _++_}
+use lib.ListN.{replicate}
 use Rattle.wide.specs.Fields.{beAt, be}
 use Rattle.channel.specs.Channel.{enabledOf, soundTimer, lineOf}
 use Rattle.channel.specs.Prescaler.{advanced}
+use Rattle.channel.specs.Matches.{matchesIn}
 use Rattle.clock.specs.Clock.{alarmReached, checkAlarm, movedTime, endAdvance, advanceClock}
 use Rattle.clock.specs.Sound.{soundOffset, soundAlarm, soundParts as clockParts, alarmAhead, soundClock}
 use Rattle.controller.specs.Bits.{withBit}
@@ -30,13 +32,14 @@ use Rattle.listing.specs.Listing.{
 }
 use Rattle.listrun.specs.Printed.{listed, printedOf}
 
+-- S-4: 'document 01's listing gains 128 zeros on its second line'; 48 is the code of '0'
 pub example-printed :
     printedOf
     (0x02 ∷ 0x00 ∷ 0x02 ∷ 0x00 ∷ 0x83 ∷ 0x04 ∷ 0x00 ∷ 0x08 ∷ 0x00 ∷ 0x00 ∷ 0x00 ∷ 0x00 ∷ 0x00 ∷ 0x00 ∷ 0x00 ∷ 0x01
     ∷ 0x0A ∷ 0x00 ∷ 0x00 ∷ 0xFF ∷ [])
-    ≡ ascii "02 01\n04 00\n0a 0000\nend 3 2 19\n"
+    ≡ ascii "02 01\n04 00" ++ replicate 128 48 ++ ascii "\n0a 0000\nend 3 2 19\n"
 unfolding
-    beAt be enabledOf soundTimer lineOf advanced alarmReached checkAlarm movedTime endAdvance advanceClock
+    beAt be enabledOf soundTimer lineOf advanced matchesIn alarmReached checkAlarm movedTime endAdvance advanceClock
     soundOffset soundAlarm clockParts alarmAhead soundClock withBit sourceSet outputOf lowestFrom mapFrom
     foldFrom line exactDeadline wired soundParts sound movedBoard advancedBoard clockWord liveWord readLive
     readAt addressRefusal membersAt frameRefusal membersBytes recordOf callOf refusalAt turnOf stepped runOn

@@ -1,5 +1,5 @@
 -- What the code computes of a call is the call. Assumes nothing.
-use Prim.Native.Nat.{ℕ}
+use Prim.Native.Nat.{ℕ, _≤_}
 use native.Mathlib.Omega.{arith}
 use mathlib.Core.Path.{_≡_, refl, sym, ap, _∙_}
 use mathlib.Core.Bool.{Bool, true, false, true≢false}
@@ -7,8 +7,12 @@ use mathlib.Core.Option.{Option, none, some}
 use mathlib.Core.List.{List}
 use mathlib.Core.Logic.{_⊎_, inl, inr}
 use lib.Dec.{eqb}
+use lib.ListN.{length}
+use lib.Seq.{sets}
 use borrow.Author.Tests.{eqb-true, eqb-false, eq-eqb}
+use Rattle.wide.specs.Bits.{bit, flagOf}
 use Rattle.wide.proofs.Choices.{choose, either}
+use Rattle.channel.specs.Matches.{matchesOf}
 use Rattle.board.specs.declared.Board.{Board}
 use Rattle.board.specs.declared.calls.Passing.{Passing}
 use Rattle.board.specs.Board.{line}
@@ -22,12 +26,17 @@ use Rattle.board.specs.Calls.{
   deadlineCall,
   skipCall,
 }
+use Rattle.board.specs.Channels.{matchesAll}
 use Rattle.board.specs.CodeCalls.{passingOf}
 use Rattle.board.proofs.Answers.{passing-refusal, passing-some, passing-none}
+use Rattle.board.proofs.Loops.{map-length}
 use Rattle.registers.specs.Calls.{readCall, writeCall}
-use Rattle.format.specs.Format.{answerBytes}
+use Rattle.format.specs.Format.{answerLength, answerBytes, recordOf}
+use Rattle.format.specs.CodeAnswers.{startOf}
+use Rattle.format.proofs.Frames.{members-length, answer-length}
 use Rattle.perform.specs.Calls.{argument, callOf}
-use Rattle.perform.specs.CodeCalls.{ValueRefuses, skipAt, passingAt, answeredBytes, Lesser}
+use Rattle.perform.specs.CodeCalls.{ValueRefuses, skipAt, passingAt, answeredBytes, countsPut, Lesser}
+use Rattle.perform.proofs.Counts.{counts-none, record-start, advance-record}
 
 -- ---- the own refusal
 
@@ -96,12 +105,13 @@ module _ (tag : ℕ) (m : List ℕ) (b : Board) (n : ℕ) (r : ValueRefuses tag 
 
 module _ (tag : ℕ) (m : List ℕ) (b : Board) (z : callOf tag m b .refusal ≡ 0) (skip : Passing)
     (k : skip ≡ passingOf (skipAt tag b)) (p : Passing) (e : p ≡ passingAt tag m skip) where
-  -- its board and its answer, where y is the board after it
-  abbrev pub Passes : Board → Type 0
-  Passes y =
+  -- its board and its record, where y is the board after it, and the counts of its channels are ns
+  abbrev pub Passes : Board → List ℕ → Type 0
+  Passes y ns =
       (y ≡ callOf tag m b .board)
-      × ((v : Bool) (other : List ℕ) → v ≡ line y →
-      answeredBytes tag (p .cycles .0) v other ≡ answerBytes tag (callOf tag m b .members))
+      × ((v : Bool) (other l : List ℕ) (at : ℕ) → v ≡ line y →
+      sets (countsPut tag at ns l) at (startOf tag (answerLength tag) (answeredBytes tag (p .cycles .0) v other))
+      ≡ sets l at (recordOf tag (answerBytes tag (callOf tag m b .members))))
 
   four : tag ≡ 4 → p ≡ record { refusal = 0; made = true; cycles = record { 0 = argument 0 m } }
   unfolding passingAt
@@ -118,26 +128,59 @@ module _ (tag : ℕ) (m : List ℕ) (b : Board) (z : callOf tag m b .refusal ≡
 
   -- a skip, by its cycles
   by-length : tag ≡ 6 → (o : Option ℕ) → skipLength b ≡ o → p .cycles .0 ≡ orZero o → (y : Board) → y ≡ movedBy o b →
-      Passes y
+      (ns : List ℕ) → Passes y ns
   unfolding callOf answeredBytes
-  by-length q o f h y g = (rw (q, f) g, λ v other i. rw (q, f, i, h, g))
+  by-length q o f h y g ns = (
+    rw (q, f) g,
+    λ v other l at i. let same : answeredBytes tag (p .cycles .0) v other ≡ answerBytes tag (callOf tag m b .members) =
+        rw (q, f, i, h, g) in
+        ap (λ (x : List ℕ). sets x at (startOf tag (answerLength tag) (answeredBytes tag (p .cycles .0) v other)))
+        (counts-none tag at l ns (ap (λ (n : ℕ). eqb n 4) q))
+        ∙ ap (λ (x : List ℕ). sets l at (startOf tag (answerLength tag) x)) same
+        ∙ ap (sets l at) (record-start tag (callOf tag m b .members)),
+  )
 
-  pub passes : (tag ≡ 4) ⊎ (tag ≡ 6) → p .made ≡ true → (y : Board) → y ≡ movedBoard (p .cycles .0) b → Passes y
-  unfolding callOf answeredBytes
-  passes (inl q) f y g =
+  -- the counts of the channels of b
+  abbrev counts : List ℕ
+  counts = matchesAll (b .«timer_enable») (p .cycles .0) (b .timers)
+
+  pub passes : (tag ≡ 4) ⊎ (tag ≡ 6) → p .made ≡ true → length (b .timers) ≡ 4 → (y : Board) →
+      y ≡ movedBoard (p .cycles .0) b → Passes y counts
+  unfolding callOf answeredBytes countsPut
+  passes (inl q) f n y g =
       let h = ap (λ (x : Passing). x .cycles .0) (four q) in
-      let j : y ≡ movedBoard (argument 0 m) b = g ∙ ap (λ (n : ℕ). movedBoard n b) h in
-      (rw q j, λ v other i. rw (q, i, j))
-  passes (inr q) f y g =
-      by-length q (some (p .cycles .0)) (passing-some p (skipLength b) (six q) f) refl y g
+      let j : y ≡ movedBoard (argument 0 m) b = g ∙ ap (λ (n : ℕ). movedBoard n b) h in (
+        rw q j,
+        λ v other l at i. let w = flagOf (line (movedBoard (argument 0 m) b)) in
+            let ns = matchesAll (b .«timer_enable») (argument 0 m) (b .timers) in
+            rw (q, i, j, h)
+            (advance-record w ns
+            (map-length (λ k t. matchesOf (bit k (b .«timer_enable»)) (argument 0 m) t) 0 (b .timers) ∙ n) l at),
+      )
+  passes (inr q) f n y g =
+      by-length q (some (p .cycles .0)) (passing-some p (skipLength b) (six q) f) refl y g counts
 
-  pub stays : (tag ≡ 4) ⊎ (tag ≡ 6) → p .made ≡ false → (y : Board) → y ≡ b → Passes y
-  stays (inl q) f y g = absurd (true≢false (sym (ap (λ (x : Passing). x .made) (four q)) ∙ f))
-  stays (inr q) f y g =
+  pub stays : (tag ≡ 4) ⊎ (tag ≡ 6) → p .made ≡ false → (y : Board) → y ≡ b → (ns : List ℕ) → Passes y ns
+  stays (inl q) f y g ns = absurd (true≢false (sym (ap (λ (x : Passing). x .made) (four q)) ∙ f))
+  stays (inr q) f y g ns =
       let o = passing-none p (skipLength b) (six q) (six-accepted q) f in
-      by-length q none (o .0) (ap (λ (x : Passing). x .cycles .0) (o .1)) y g
+      by-length q none (o .0) (ap (λ (x : Passing). x .cycles .0) (o .1)) y g ns
 
--- ---- the bytes of an answer that has neither cycles nor the line
+  -- where none is made the call is a skip
+  pub no-advance : (tag ≡ 4) ⊎ (tag ≡ 6) → p .made ≡ false → eqb tag 4 ≡ false
+  no-advance (inl q) f = absurd (true≢false (sym (ap (λ (x : Passing). x .made) (four q)) ∙ f))
+  no-advance (inr q) f = ap (λ (n : ℕ). eqb n 4) q
+
+-- ---- the bytes of an answer
+
+-- those that are written behind the advance are no more than the answer's
+pub passed-fits : (tag c : ℕ) (v : Bool) (other : List ℕ) → (tag ≡ 4) ⊎ (tag ≡ 6) →
+    length (answeredBytes tag c v other) ≤ answerLength tag
+unfolding answeredBytes
+passed-fits tag c v other (inl q) = rw (q, members-length) (omega arith)
+passed-fits tag c v other (inr q) = rw (q, answer-length) (omega arith)
+
+-- one that has neither cycles nor the line
 
 pub other-bytes : (tag c : ℕ) (v : Bool) (other : List ℕ) → eqb tag 4 ≡ false → eqb tag 6 ≡ false →
     answeredBytes tag c v other ≡ other

@@ -1,13 +1,15 @@
 -- Not document 01's sentences: what the code computes of one call of a list. The rule is `callOf` of Calls, and
 -- proofs/Calls.antt shows that these are it.
-use Prim.Native.Nat.{ℕ, _+_, _<_}
+use Prim.Native.Nat.{ℕ, _+_, _*_, _<_}
 use mathlib.Core.Path.{_≡_}
 use mathlib.Core.Logic.{_⊎_}
 use mathlib.Core.List.{List, [], _∷_}
 use mathlib.Core.Bool.{Bool, true, cond}
 use mathlib.Core.Option.{Option, none}
 use lib.Dec.{eqb}
+use lib.Seq.{sets}
 use Rattle.wide.specs.Bits.{flagOf}
+use Rattle.wide.specs.Fields.{be}
 use Rattle.clock.specs.declared.HostTime.{HostTime}
 use Rattle.clock.specs.Fields.{withHost}
 use Rattle.controller.specs.declared.IrqController.{IrqController}
@@ -16,7 +18,8 @@ use Rattle.board.specs.declared.calls.Passing.{Passing}
 use Rattle.board.specs.Fields.{withClock, withController}
 use Rattle.board.specs.Calls.{skipLength}
 use Rattle.board.specs.CodeCalls.{passingOf}
-use Rattle.format.specs.Format.{headerLength, valueLength, answerLength, tagAt, answerBytes, valueBytes}
+use Rattle.format.specs.Format.{headerLength, valueLength, answerLength, tagAt, membersBytes, answerBytes, valueBytes}
+use Rattle.format.specs.CodeAnswers.{wides}
 use Rattle.perform.specs.declared.Effect.{Effect}
 use Rattle.perform.specs.declared.Front.{Front}
 use Rattle.perform.specs.Calls.{argument, callOf, refusalAt}
@@ -44,12 +47,24 @@ passingAt tag m skip =
     cond (eqb tag 4) (record { refusal = 0; made = true; cycles = record { 0 = argument 0 m } }) skip
 
 -- the bytes of an answer, by the cycles that have passed and the line after the call, which 04 and 06 answer, and the
--- bytes of another call's answer
+-- bytes of another call's answer. Of 04 it is the line alone: its counts are written with the advance
 unfoldable pub answeredBytes : ℕ → ℕ → Bool → List ℕ → List ℕ
 answeredBytes tag c v other =
-    cond (eqb tag 4) (answerBytes 4 (flagOf v ∷ []))
+    cond (eqb tag 4) (membersBytes (1 ∷ []) (flagOf v ∷ []))
     (cond (eqb tag 6) (answerBytes 6 (c ∷ flagOf v ∷ []))
     other)
+
+-- where the counts of 04 go in a record from index at on: behind tag, length and line
+abbrev pub countsAt : ℕ → ℕ
+countsAt at = at + 4
+
+-- a buffer with the counts of 04 in its record; another call has none
+unfoldable pub countsPut : ℕ → ℕ → List ℕ → List ℕ → List ℕ
+countsPut tag at counts buf = cond (eqb tag 4) (sets buf (countsAt at) (wides counts)) buf
+
+-- a buffer with the count n of channel i in the record of 04
+unfoldable pub countPut : ℕ → ℕ → ℕ → ℕ → List ℕ → List ℕ
+countPut tag at i n buf = cond (eqb tag 4) (sets buf (countsAt at + 16 * i) (be 16 n)) buf
 
 -- the tags of the calls that change host time or the controller at most: 01 and 07 to 0A
 abbrev pub Lesser : ℕ → Type 0

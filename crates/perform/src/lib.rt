@@ -2,21 +2,27 @@
 // and changes it where it lies.
 ghost use mathlib.Core.Path.{_≡_};
 ghost use mathlib.Core.Bool.{true};
-ghost use Prim.Native.Nat.{_+_, _≤_};
+ghost use mathlib.Core.List.{[], _∷_};
+ghost use Prim.Native.Nat.{_+_, _*_, _≤_, _<_};
 ghost use lib.ListN.{length};
 ghost use lib.Seq.{sets};
-ghost use Rattle.wide.specs.Fields.{beAt};
+ghost use Rattle.wide.specs.Number.{valueOf};
+ghost use Rattle.wide.specs.Fields.{beAt, be};
 ghost use Rattle.board.specs.Board.{sound};
 ghost use Rattle.board.specs.Calls.{deadlineCall};
 ghost use Rattle.board.specs.CodeCalls.{passingOf};
 ghost use Rattle.offsets.specs.Registers.{base};
-ghost use Rattle.format.specs.Format.{valueLength, argumentsOf, answerBytes, valueBytes, recordOf};
+ghost use Rattle.format.specs.Format.{valueLength, argumentsOf, answerBytes, valueBytes};
+ghost use Rattle.format.specs.CodeAnswers.{startOf};
 ghost use Rattle.perform.specs.CodeCalls.{
   FrontFound,
   ValueRefuses,
   skipAt,
   passingAt,
   answeredBytes,
+  countsAt,
+  countsPut,
+  countPut,
   Lesser,
   EffectIs,
 };
@@ -33,6 +39,7 @@ use format::Answer;
 use offsets::Registers;
 use wide::fields;
 use wide::flags::flag;
+use wide::number::Wide;
 
 // What a call changes that changes host time or the controller at most, and its answer.
 pub struct Effect {
@@ -49,6 +56,9 @@ pub struct Front {
     pub size: usize,
     pub skip: Passing,
 }
+
+// Where the counts begin in the record of an advance.
+const COUNTS: usize = 4;
 
 // ---- the fields of a call
 
@@ -198,7 +208,29 @@ fn answered(tag: u8, cycles: Cycles, line: bool, answer: Answer) -> Answer
     }
 }
 
-// Writes the answer's record from index at on; `size` is the bytes of its members.
+// Writes counts of 0 where an advance's counts go, in the record from index at on; another call has none.
+pub fn put_unmet(buf: &mut [u8], at: usize, tag: u8)
+    requires { ⌜ (tag ≡ 4 → countsAt at + 64 ≤ length (now buf)) ⌝ }
+    ensures { λ _. ⌜ now (buf .exit) ≡ countsPut tag at (0 ∷ 0 ∷ 0 ∷ 0 ∷ []) (now (buf .entry)) ⌝ }
+{
+    if tag == 4 {
+        format::put_no_counts(buf, at + COUNTS);
+    }
+}
+
+// Writes the compare points that channel i met in an advance over its count of 0; another call has none.
+pub fn put_met(buf: &mut [u8], at: usize, tag: u8, i: usize, matches: Wide)
+    requires { ⌜ (i < 4) × (tag ≡ 4 → (countsAt at + 64 ≤ length (now buf))
+        × (sets (now buf) (countsAt at + 16 * i) (be 16 0) ≡ now buf)) ⌝ }
+    ensures { λ _. ⌜ now (buf .exit) ≡ countPut tag at i (valueOf matches) (now (buf .entry)) ⌝ }
+{
+    if tag == 4 {
+        format::put_count(buf, at + COUNTS + format::COUNT_LENGTH * i, matches);
+    }
+}
+
+// Writes the answer's record from index at on; `size` is the bytes of its members. Of an advance it writes the line, and
+// its counts have been written with the advance.
 pub fn put_answer(
     buf: &mut [u8],
     at: usize,
@@ -208,10 +240,9 @@ pub fn put_answer(
     line: bool,
     answer: Answer,
 )
-    requires { ⌜ (size ≡ length (answeredBytes tag (cycles .0) line (valueBytes answer)))
-        × (at + 3 + size ≤ length (now buf)) ⌝ }
+    requires { ⌜ at + 3 + length (answeredBytes tag (cycles .0) line (valueBytes answer)) ≤ length (now buf) ⌝ }
     ensures { λ _. ⌜ now (buf .exit)
-        ≡ sets (now (buf .entry)) at (recordOf tag (answeredBytes tag (cycles .0) line (valueBytes answer))) ⌝ }
+        ≡ sets (now (buf .entry)) at (startOf tag size (answeredBytes tag (cycles .0) line (valueBytes answer))) ⌝ }
 {
     format::put_record(buf, at, tag, size, answered(tag, cycles, line, answer));
 }

@@ -1,12 +1,9 @@
 -- `put_record` meets its contract. Assumes nothing.
-use mathlib.Core.Path.{ap, _∙_}
-use Prim.Native.Nat.{ℕ}
 use mathlib.Core.List.{_++_}
 use lib.ListN.{length-append}
-use lib.Seq.{sets}
 use Rattle.wide.specs.Fields.{be}
 use Rattle.wide.proofs.BigEndian.{length-be}
-use Rattle.format.specs.Format.{valueBytes, recordOf}
+use Rattle.format.specs.Format.{valueBytes}
 use Rattle.format.proofs.Frames.{sets-then}
 use borrow.Author.Needs.{needs}
 use Rattle.format.proofs.put_record.Statement.{statement}
@@ -31,7 +28,6 @@ same-length : tie.Need-same-length
 same-length c = search needs
 
 returns : tie.Need-returns
-unfolding recordOf
 returns c =
     let q = c .before .before .before .before .before .before in
     let p = q .before .before .before .before .before .before .before in
@@ -43,9 +39,7 @@ returns c =
       c .before .before .before .before .before .before .before .before .before .before .put .ensures,
       sets-then (a .buf .now) (a .at) 1 (be 1 (a .tag)) (be 2 (a .size)) (length-be 1 (a .tag)),
     )
-    (sets-then (a .buf .now) (a .at) 3 (be 1 (a .tag) ++ be 2 (a .size)) v (simp (length-append, length-be))
-    ∙ ap (λ (n : ℕ). sets (a .buf .now) (a .at) (be 1 (a .tag) ++ be 2 n ++ v))
-    (p .pre .0))
+    (sets-then (a .buf .now) (a .at) 3 (be 1 (a .tag) ++ be 2 (a .size)) v (simp (length-append, length-be)))
 
 pub put-record-spec : {M : Type 1} → statement M
 put-record-spec =

@@ -6,6 +6,7 @@ use mathlib.Core.List.{List}
 use Prim.Native.Nat.{ℕ, _+_, _-_, _≤_}
 use native.Mathlib.Omega.{arith}
 use lib.ListN.{length, take, drop}
+use lib.Seq.{sets}
 use borrow.Author.Tests.{not-true, not-false, ne-eqb}
 use Rattle.channel.specs.declared.Cycles.{Cycles}
 use Rattle.board.specs.declared.Board.{Board}
@@ -22,13 +23,29 @@ use Rattle.registers.specs.declared.writes.WritePart.the-variants.{
 }
 use Rattle.registers.proofs.Timing.{sound-times}
 use Rattle.registers.proofs.CodeWrites.{channel-range}
-use Rattle.format.specs.Format.{tagAt, answerBytes, valueBytes}
-use Rattle.format.proofs.Frames.{framed, part-rest, answer-length}
+use Rattle.format.specs.Format.{answerLength, tagAt, answerBytes, valueBytes, recordOf}
+use Rattle.format.specs.CodeAnswers.{startOf}
+use Rattle.format.proofs.Frames.{framed, part-rest}
 use Rattle.perform.specs.Calls.{callAt}
 use Rattle.perform.specs.declared.Front.{Front}
 use Rattle.perform.specs.CodeCalls.{answeredBytes}
 use Rattle.list.specs.Run.{runOf, over}
-use Rattle.list.proofs.Advances.{Advancing, begins, next-phase, turns, passed-over, still-timed, all-advanced}
+use Rattle.list.proofs.Advances.{
+  Advancing,
+  begins,
+  next-phase,
+  turns,
+  passed-over,
+  still-timed,
+  all-advanced,
+  Counted,
+  counts-begin,
+  counts-same,
+  next-zero,
+  counts-turn,
+  counts-passed,
+  counts-end,
+}
 use Rattle.list.proofs.Runs.{Running, Ran, stateOf, begun, ended}
 use Rattle.list.proofs.Accepted.{
   value-in,
@@ -42,6 +59,7 @@ use Rattle.list.proofs.Accepted.{
   deadline-carried,
   effect-carried,
   lesser,
+  record-written,
   wired-after,
   still-after,
   Found,
@@ -65,6 +83,8 @@ use Rattle.channel.proofs.HardwareTimer.advance_cycles.Reads as advance-cycles-
 use Rattle.channel.proofs.HardwareTimer.runs.Reads as runs-reads
 use Rattle.clock.proofs.Clock.advance.Reads as advance-reads
 use Rattle.perform.proofs.put_answer.Reads as put-answer-reads
+use Rattle.perform.proofs.put_met.Reads as put-met-reads
+use Rattle.perform.proofs.put_unmet.Reads as put-unmet-reads
 use Rattle.perform.proofs.front_of.Reads as front-of-reads
 use Rattle.offsets.proofs.writes.acknowledged.Reads as acknowledged-reads
 use Rattle.perform.proofs.byte_at.Reads as byte-at-reads
@@ -83,11 +103,11 @@ use Rattle.registers.proofs.writes.part_at.Reads as part-at-reads
 use Rattle.registers.proofs.writes.timer_after.Reads as timer-after-reads
 
 abbrev Inv-loop2 : tie.InvT-loop2
-Inv-loop2 list answers b₀ calls used written front tag answer cycles line moved enable i₀ b i =
-    Advancing enable (cycles .0) i b₀ b
+Inv-loop2 list answers₀ b₀ calls used written front tag answer cycles line moved enable i₀ answers b i =
+    Advancing enable (cycles .0) i b₀ b × Counted enable (cycles .0) i tag written b₀ answers₀ answers
 
 abbrev μ-loop2 : tie.MeasureT-loop2
-μ-loop2 list answers b₀ calls used written front tag answer cycles line moved enable i₀ b i = 4 - i
+μ-loop2 list answers₀ b₀ calls used written front tag answer cycles line moved enable i₀ answers b i = 4 - i
 
 abbrev Inv-loop : tie.InvT-loop
 Inv-loop list answers₀ b₀ calls₀ used₀ written₀ answers b calls used written =
@@ -129,12 +149,16 @@ claims = (
   at-control-reads.Learnt,
   passing-reads.Asked,
   passing-reads.Learnt,
+  put-unmet-reads.Asked,
+  put-unmet-reads.Learnt,
   selected-reads.Asked,
   selected-reads.Learnt,
   runs-reads.Asked,
   runs-reads.Learnt,
   advance-cycles-reads.Asked,
   advance-cycles-reads.Learnt,
+  put-met-reads.Asked,
+  put-met-reads.Learnt,
   advance-reads.Asked,
   advance-reads.Learnt,
   deadline-reads.Asked,
@@ -203,55 +227,65 @@ answer-inside u =
     written-inside _ _ _ _ _ _ _ _ (u .before .before .before .before .before .loop .inv)
     (u .before .before .before .before .loop-test .taken) _ (rest-is u) _ (found-at u)
 
--- the board and the answer are those of the call
+-- the buffer where the arms meet has the length that it had, and the board, the answer and the buffer are those of the
+-- call
 carried : (c : Met) →
-    Carried (restOf (c .before .before)) (boardOf (c .before .before)) (c .match .b) (c .match .cycles .0)
-    (c .match .moved) (c .match .answer)
+    Carried (restOf (c .before .before)) (boardOf (c .before .before)) (writtenOf (c .before .before))
+    (answersOf (c .before .before)) (c .match .b) (c .match .cycles .0) (c .match .moved) (c .match .answer)
+    (c .match .answers)
 carried c =
-    let l = restOf (c .before .before) in
-    let b = boardOf (c .before .before) in
-    let s = c .before .before .before .before .before .before .before .loop .inv .sound in
+    let u = c .before .before in
+    let l = restOf u in
+    let b = boardOf u in
+    let w = writtenOf u in
+    let o = answersOf u in
+    let inv = u .before .before .before .before .before .loop .inv in
+    let s = inv .sound in
     let y = c .match .b in
     let n = c .match .cycles .0 in
     let m = c .match .moved in
     let a = c .match .answer in
-    let front = frontOf (c .before .before) in
-    let k = found-at (c .before .before) in
+    let d = c .match .answers in
+    let front = frontOf u in
+    let k = found-at u in
     elim (c .match .came) [
       -- a read, without the latches and with them
-      | inl w ↦ plain-carried l b s y n m a (w .1 .result) (w .1 .ensures) (w .0 .keys1)
-          (sym (w .4 .ensures) ∙ w .5 .taken) (w .6 .result) (w .6 .ensures) (w .9) (w .10) (w .12)
-      | inr (inl w) ↦ read-carried l b s y n m a (w .1 .result) (w .1 .ensures) (w .0 .keys1) (w .6 .result)
-          (w .6 .ensures) (w .10) (w .11) (w .13)
+      | inl w′ ↦ plain-carried l b w o s y n m a d (w′ .1 .result) (w′ .1 .ensures) (w′ .0 .keys1)
+          (sym (w′ .4 .ensures) ∙ w′ .5 .taken) (w′ .6 .result) (w′ .6 .ensures) (w′ .10) (w′ .11) (w′ .13) (w′ .9)
+      | inr (inl w′) ↦ read-carried l b w o s y n m a d (w′ .1 .result) (w′ .1 .ensures) (w′ .0 .keys1) (w′ .6 .result)
+          (w′ .6 .ensures) (w′ .11) (w′ .12) (w′ .14) (w′ .10)
       -- a write, by the part of the board
-      | inr (inr (inl w)) ↦ write-carried l b s y n m a (w .1 .result) (w .1 .ensures) (w .0 .keys2) (w .2 .result)
-          (w .2 .ensures) Nothing (sym (w .5 .given .1) ∙ w .3 .ensures) (w .6) (w .9) (w .7)
-      | inr (inr (inr (inl w))) ↦ write-carried l b s y n m a (w .1 .result) (w .1 .ensures) (w .0 .keys2)
-          (w .2 .result) (w .2 .ensures) Enable (sym (w .5 .given .1) ∙ w .3 .ensures)
-          (w .7 ∙ ap (λ (x : ℕ). withTimerEnable x b) (w .6 .ensures)) (w .10) (w .8)
-      | inr (inr (inr (inr (inl w)))) ↦ write-carried l b s y n m a (w .1 .result) (w .1 .ensures) (w .0 .keys2)
-          (w .2 .result) (w .2 .ensures) Acknowledge (sym (w .5 .given .1) ∙ w .3 .ensures)
-          (w .8 ∙ ap (λ ts. withTimers ts b) (w .7 .ensures)) (w .11) (w .9)
-      | inr (inr (inr (inr (inr (inl w))))) ↦ write-carried l b s y n m a (w .1 .result) (w .1 .ensures) (w .0 .keys2)
-          (w .2 .result) (w .2 .ensures) OfClock (sym (w .5 .given .1) ∙ w .3 .ensures)
-          (w .8 ∙ ap (λ x. withClock x b) (w .7 .ensures)) (w .11) (w .9)
-      | inr (inr (inr (inr (inr (inr (inl w)))))) ↦ write-carried l b s y n m a (w .1 .result) (w .1 .ensures)
-          (w .0 .keys2) (w .2 .result) (w .2 .ensures) Channel (sym (w .5 .given .1) ∙ w .3 .ensures)
-          (w .10 ∙ ap (λ x. withChannel (w .6 .result) x b) (w .8 .ensures)
-          ∙ channel-written l b (w .1 .result) (w .2 .result) (w .6 .result) (w .6 .ensures .0))
-          (w .13 ∙ w .9 .ensures) (w .11)
+      | inr (inr (inl w′)) ↦ write-carried l b w o s y n m a d (w′ .1 .result) (w′ .1 .ensures) (w′ .0 .keys2)
+          (w′ .2 .result) (w′ .2 .ensures) Nothing (sym (w′ .5 .given .1) ∙ w′ .3 .ensures) (w′ .7) (w′ .10) (w′ .8)
+          (w′ .6)
+      | inr (inr (inr (inl w′))) ↦ write-carried l b w o s y n m a d (w′ .1 .result) (w′ .1 .ensures) (w′ .0 .keys2)
+          (w′ .2 .result) (w′ .2 .ensures) Enable (sym (w′ .5 .given .1) ∙ w′ .3 .ensures)
+          (w′ .8 ∙ ap (λ (x : ℕ). withTimerEnable x b) (w′ .6 .ensures)) (w′ .11) (w′ .9) (w′ .7)
+      | inr (inr (inr (inr (inl w′)))) ↦ write-carried l b w o s y n m a d (w′ .1 .result) (w′ .1 .ensures)
+          (w′ .0 .keys2) (w′ .2 .result) (w′ .2 .ensures) Acknowledge (sym (w′ .5 .given .1) ∙ w′ .3 .ensures)
+          (w′ .9 ∙ ap (λ ts. withTimers ts b) (w′ .7 .ensures)) (w′ .12) (w′ .10) (w′ .8)
+      | inr (inr (inr (inr (inr (inl w′))))) ↦ write-carried l b w o s y n m a d (w′ .1 .result) (w′ .1 .ensures)
+          (w′ .0 .keys2) (w′ .2 .result) (w′ .2 .ensures) OfClock (sym (w′ .5 .given .1) ∙ w′ .3 .ensures)
+          (w′ .9 ∙ ap (λ x. withClock x b) (w′ .7 .ensures)) (w′ .12) (w′ .10) (w′ .8)
+      | inr (inr (inr (inr (inr (inr (inl w′)))))) ↦ write-carried l b w o s y n m a d (w′ .1 .result) (w′ .1 .ensures)
+          (w′ .0 .keys2) (w′ .2 .result) (w′ .2 .ensures) Channel (sym (w′ .5 .given .1) ∙ w′ .3 .ensures)
+          (w′ .11 ∙ ap (λ x. withChannel (w′ .6 .result) x b) (w′ .8 .ensures)
+          ∙ channel-written l b w o (w′ .1 .result) (w′ .2 .result) (w′ .6 .result) (w′ .6 .ensures .0))
+          (w′ .14 ∙ w′ .9 .ensures) (w′ .12) (w′ .10)
       -- an advance is made, or none
-      | inr (inr (inr (inr (inr (inr (inr (inl w))))))) ↦ advance-carried l b s y n m a (k .clear .own)
-          (front .skip) (k .skip) (w .0 .keys3) (w .1 .result) (w .1 .ensures) (ap (λ (x : Cycles). x .0) (w .10)) (w .11) (w .3 .taken)
-          (w .8 ∙ all-advanced _ _ _ _ _ (w .4 .inv) (w .5 .left) refl (w .7 .result) (w .7 .ensures))
-      | inr (inr (inr (inr (inr (inr (inr (inr (inl w)))))))) ↦ skip-carried l b s y n m a (k .clear .own)
-          (front .skip) (k .skip) (w .0 .keys3) (w .1 .result) (w .1 .ensures) (ap (λ (x : Cycles). x .0) (w .6)) (w .7) (w .3 .left) (w .4)
+      | inr (inr (inr (inr (inr (inr (inr (inl w′))))))) ↦ advance-carried l b w o s y n m a d (k .clear .own)
+          (front .skip) (k .skip) (w′ .0 .keys3) (w′ .1 .result) (w′ .1 .ensures)
+          (ap (λ (x : Cycles). x .0) (w′ .15)) (w′ .16) (w′ .3 .taken) (inv .fits .four)
+          (w′ .13 ∙ all-advanced _ _ _ _ _ (w′ .8 .inv .0) (w′ .9 .left) refl (w′ .11 .result) (w′ .11 .ensures))
+          (w′ .12 ∙ counts-end _ _ _ _ _ _ _ (w′ .8 .inv .0) _ _ (w′ .8 .inv .1) (w′ .9 .left) o (w′ .5 .ensures))
+      | inr (inr (inr (inr (inr (inr (inr (inr (inl w′)))))))) ↦ skip-carried l b w o s y n m a d (k .clear .own)
+          (front .skip) (k .skip) (w′ .0 .keys3) (w′ .1 .result) (w′ .1 .ensures)
+          (ap (λ (x : Cycles). x .0) (w′ .7)) (w′ .8) (w′ .3 .left) (w′ .5) (w′ .4)
       -- the deadline, and the calls that change host time or the controller at most
-      | inr (inr (inr (inr (inr (inr (inr (inr (inr (inl w))))))))) ↦ deadline-carried l b s y n m a (w .0 .keys4)
-          (w .2)
-          (ap valueBytes (w .3) ∙ w .1 .ensures) (w .5)
-      | inr (inr (inr (inr (inr (inr (inr (inr (inr (inr w))))))))) ↦ effect-carried l b s y n m a
-          (w .0 .rest .0 .1) (w .1 .result) (w .1 .ensures) (w .5) (w .6) (w .8)
+      | inr (inr (inr (inr (inr (inr (inr (inr (inr (inl w′))))))))) ↦ deadline-carried l b w o s y n m a d
+          (w′ .0 .keys4) (w′ .3) (ap valueBytes (w′ .4) ∙ w′ .1 .ensures) (w′ .6) (w′ .2)
+      | inr (inr (inr (inr (inr (inr (inr (inr (inr (inr w′))))))))) ↦ effect-carried l b w o s y n m a d
+          (w′ .0 .rest .0 .1) (w′ .1 .result) (w′ .1 .ensures) (w′ .6) (w′ .7) (w′ .9) (w′ .5)
     ]
 
 -- the line, where it can have moved
@@ -267,18 +301,24 @@ board-set : (j : Set) →
 board-set j =
     let k = carried (j .before) in
     elim (j .if6 .came) [
-      | inl u ↦ wired-after _ _ _ _ _ _ k (u .0 .taken) (u .1 .result) (u .1 .ensures) (u .2 .result) (u .2 .ensures) _
+      | inl u ↦ wired-after _ _ _ _ _ _ _ _ _ k (u .0 .taken) (u .1 .result) (u .1 .ensures) (u .2 .result) (u .2 .ensures) _
           (u .3)
-      | inr u ↦ still-after _ _ _ _ _ _ k (u .0 .left) _ (u .1)
+      | inr u ↦ still-after _ _ _ _ _ _ _ _ _ k (u .0 .left) _ (u .1)
     ]
 
--- the answer is that of the call
-value-set : (j : Set) →
-    answeredBytes (tagAt (restOf (j .before .before .before))) (j .before .match .cycles .0) (j .if6 .line)
-    (valueBytes (j .before .match .answer))
-    ≡ answerBytes (tagAt (restOf (j .before .before .before)))
-    (callAt (restOf (j .before .before .before)) (boardOf (j .before .before .before)) .members)
-value-set j = carried (j .before) .bytes (j .if6 .line) (line-set j)
+-- the record that is then written is that of the call
+record-set : (j : Set) →
+    sets (j .before .match .answers) (writtenOf (j .before .before .before))
+    (startOf (tagAt (restOf (j .before .before .before))) (frontOf (j .before .before .before) .size)
+    (answeredBytes (tagAt (restOf (j .before .before .before))) (j .before .match .cycles .0) (j .if6 .line)
+    (valueBytes (j .before .match .answer))))
+    ≡ sets (answersOf (j .before .before .before)) (writtenOf (j .before .before .before))
+    (recordOf (tagAt (restOf (j .before .before .before)))
+    (answerBytes (tagAt (restOf (j .before .before .before)))
+    (callAt (restOf (j .before .before .before)) (boardOf (j .before .before .before)) .members)))
+record-set j =
+    record-written _ _ _ _ _ _ _ _ _ (carried (j .before)) _ (found-at (j .before .before .before) .size) (j .if6 .line)
+    (line-set j)
 
 sound-requires : tie.Need-sound-requires Inv-loop2 μ-loop2 Inv-loop μ-loop
 sound-requires c κs = tt
@@ -430,10 +470,20 @@ at-control-requires c κs = channel-range _ (sym (c .before .before .before .bef
 passing-requires : tie.Need-passing-requires Inv-loop2 μ-loop2 Inv-loop μ-loop
 passing-requires c κs = framed _ (found-at (c .before .before) .clear .frame) .0
 
+-- where an advance is made, its record is inside the buffer
+counts-inside : (u : NotRefused) → tagAt (restOf u) ≡ 4 → writtenOf u + 4 + 64 ≤ length (answersOf u)
+counts-inside u e =
+    omega (arith, answer-inside u, found-at u .size ∙ ap answerLength e)
+
+put-unmet-requires : tie.Need-put-unmet-requires Inv-loop2 μ-loop2 Inv-loop μ-loop
+put-unmet-requires c κs e = counts-inside (c .before .before .before .before .before .before) e
+
 loop2-holds : tie.Need-loop2-holds Inv-loop2 μ-loop2 Inv-loop μ-loop
 loop2-holds c =
-    let i = c .before .before .before .before .before .before .before .before .before .before .loop .inv in
-    begins _ _ _ (i .fits .four) (sound-facts _ (i .sound) .timers)
+    let i = c .before .before .before .before .before .before .before .before .before .before .before .before .before .before .loop .inv in (
+      begins _ _ _ (i .fits .four) (sound-facts _ (i .sound) .timers),
+      counts-begin _ _ _ _ (boardOf (c .before .before .before .before .before .before .before .before .before)) (i .fits .four) _ _ (c .before .before .put-unmet .ensures),
+    )
 
 mul-timer-2 : tie.Need-mul-timer-2 Inv-loop2 μ-loop2 Inv-loop μ-loop
 mul-timer-2 c = omega (arith, c .loop2-test .taken)
@@ -441,8 +491,8 @@ mul-timer-2 c = omega (arith, c .loop2-test .taken)
 element-copy-out-timer-2 : tie.Need-element-copy-out-timer-2 Inv-loop2 μ-loop2 Inv-loop μ-loop
 element-copy-out-timer-2 c = c .loop2-test .taken
 
-cast-t72 : tie.Need-cast-t72 Inv-loop2 μ-loop2 Inv-loop μ-loop
-cast-t72 c = omega (arith, c .before .loop2-test .taken)
+cast-t77 : tie.Need-cast-t77 Inv-loop2 μ-loop2 Inv-loop μ-loop
+cast-t77 c = omega (arith, c .before .loop2-test .taken)
 
 selected-requires : tie.Need-selected-requires Inv-loop2 μ-loop2 Inv-loop μ-loop
 selected-requires c κs = tt
@@ -451,14 +501,26 @@ runs-requires : tie.Need-runs-requires Inv-loop2 μ-loop2 Inv-loop μ-loop
 runs-requires c κs = tt
 
 advance-cycles-requires : tie.Need-advance-cycles-requires Inv-loop2 μ-loop2 Inv-loop μ-loop
-advance-cycles-requires c κs = next-phase _ _ _ _ _ (c .before .before .before .before .before .loop2 .inv)
-    (c .before .before .before .before .loop2-test .taken)
+advance-cycles-requires c κs = next-phase _ _ _ _ _ (c .before .before .before .before .before .loop2 .inv .0) (c .before .before .before .before .loop2-test .taken)
 
-mul-after-2 : tie.Need-mul-after-2 Inv-loop2 μ-loop2 Inv-loop μ-loop
-mul-after-2 c = omega (arith, c .before .before .before .before .before .loop2-test .taken)
+mul-timer-after-2 : tie.Need-mul-timer-after-2 Inv-loop2 μ-loop2 Inv-loop μ-loop
+mul-timer-after-2 c = omega (arith, c .before .before .before .before .before .before .loop2-test .taken)
 
-element-set-from-after-2 : tie.Need-element-set-from-after-2 Inv-loop2 μ-loop2 Inv-loop μ-loop
-element-set-from-after-2 c = c .before .before .before .before .before .loop2-test .taken
+element-set-from-timer-after : tie.Need-element-set-from-timer-after Inv-loop2 μ-loop2 Inv-loop μ-loop
+element-set-from-timer-after c = c .before .before .before .before .before .before .loop2-test .taken
+
+put-met-requires : tie.Need-put-met-requires Inv-loop2 μ-loop2 Inv-loop μ-loop
+put-met-requires c κs =
+    let l = c .before .before .before .before .before .before .before .before .before .loop2 in
+    let h = c .before .before .before .before .before .before .before .before .loop2-test .taken in
+    let u = c .before .before .before .before .before .before .before .before .before .before .before .before .before .before .before .before .before .before .before in
+    let n = counts-same _ _ _ _ _ _ _ (l .inv .0) _ _ (l .inv .1) _ (c .before .before .before .before .before .before .before .before .before .before .before .before .put-unmet .ensures) in (
+      h,
+      λ e. (
+        omega (arith, counts-inside u e, n),
+        next-zero _ _ _ _ _ _ _ (l .inv .0) _ _ (l .inv .1) h e,
+      ),
+    )
 
 add-i : tie.Need-add-i Inv-loop2 μ-loop2 Inv-loop μ-loop
 add-i c = omega (arith, c .before .before .before .before .loop2-test .taken)
@@ -472,15 +534,21 @@ loop2-again c =
     let h = c .before .before .before .before .loop2-test .taken in
     let e = c .before .before .selected .ensures in
     elim (c .if5 .came) [
-      | inl u ↦ rw (u .2) (turns _ _ _ _ _ (l .inv) h _ e _ (u .1 .ensures))
-      | inr u ↦ rw (u .1) (passed-over _ _ _ _ _ (l .inv) h _ e (sym (c .before .runs .ensures) ∙ u .0 .left))
+      | inl u ↦ (
+        rw (u .9) (turns _ _ _ _ _ (l .inv .0) h _ e _ (u .1 .ensures .0)),
+        counts-turn _ _ _ _ _ _ _ (l .inv .0) _ _ (l .inv .1) h _ e _ (u .1 .ensures .1) _ _ (u .5 .ensures) (u .8),
+      )
+      | inr u ↦
+          let r = sym (c .before .runs .ensures) ∙ u .0 .left in (
+            rw (u .2) (passed-over _ _ _ _ _ (l .inv .0) h _ e r),
+            u .1 ∙ counts-passed _ _ _ _ _ _ _ (l .inv .0) _ _ (l .inv .1) h _ e r,
+          )
     ]
 
 advance-requires : tie.Need-advance-requires Inv-loop2 μ-loop2 Inv-loop μ-loop
 advance-requires c κs =
-    let i = c .before .before .before .before .before .before .before .before .before .before .before .before .before
-    .loop .inv in
-    still-timed _ _ _ _ _ (c .before .before .loop2 .inv) (sound-times _ (i .fits .clock) (i .sound))
+    let i = c .before .before .before .before .before .before .before .before .before .before .before .before .before .before .before .before .before .loop .inv in
+    still-timed _ _ _ _ _ (c .before .before .loop2 .inv .0) (sound-times _ (i .fits .clock) (i .sound))
 
 deadline-requires : tie.Need-deadline-requires Inv-loop2 μ-loop2 Inv-loop μ-loop
 deadline-requires c κs = c .before .before .before .before .before .before .before .loop .inv .sound
@@ -500,11 +568,8 @@ controller-wired-requires c κs = tt
 put-answer-requires : tie.Need-put-answer-requires Inv-loop2 μ-loop2 Inv-loop μ-loop
 put-answer-requires c κs =
     let u = c .before .before .before .before in
-    let l = restOf u in (
-      found-at u .size
-          ∙ sym (ap length (value-set (c .before)) ∙ answer-length (tagAt l) (callAt l (boardOf u) .members)),
-      omega (arith, answer-inside u),
-    )
+    let k = carried (c .before .before) in
+    omega (arith, answer-inside u, found-at u .size, k .same, k .fits (c .before .if6 .line))
 
 add-calls : tie.Need-add-calls Inv-loop2 μ-loop2 Inv-loop μ-loop
 add-calls c =
@@ -544,8 +609,8 @@ loop-again c =
     let u = known .before in
     let inside = u .before .before .before .before in
     goes-on _ _ _ _ _ _ _ _ (inside .before .loop .inv) (inside .loop-test .taken) (restOf u) (rest-is u)
-    (λ i. omega (arith, known .shared-slice-known2 .given i)) _ (found-at u) _ (board-set joined) _ (value-set joined)
-    (put .put-answer .last .0) (put .put-answer .ensures)
+    (λ i. omega (arith, known .shared-slice-known2 .given i)) _ (found-at u) _ (board-set joined)
+    (put .put-answer .last .0) _ (put .put-answer .ensures) (record-set joined)
 
 same-length-2 : tie.Need-same-length-2 Inv-loop2 μ-loop2 Inv-loop μ-loop
 same-length-2 c = omega (arith, c .before .loop .inv .same)
@@ -603,15 +668,17 @@ run-spec =
     element-set-from-after
     at-control-requires
     passing-requires
+    put-unmet-requires
     loop2-holds
     mul-timer-2
     element-copy-out-timer-2
-    cast-t72
+    cast-t77
     selected-requires
     runs-requires
     advance-cycles-requires
-    mul-after-2
-    element-set-from-after-2
+    mul-timer-after-2
+    element-set-from-timer-after
+    put-met-requires
     add-i
     loop2-less
     loop2-again

@@ -13,7 +13,7 @@ advance-all-requires c κs = sound-facts (c .before .args .self) (c .before .pre
 
 advance-requires : tie.Need-advance-requires
 advance-requires c κs =
-    let s = c .before .before .before in
+    let s = c .before .before .before .before in
     sound-timed (rateOf (s .args .self .clock)) (s .args .self .clock)
     (clock-facts (s .args .self)
     (record {
@@ -30,11 +30,8 @@ wired-requires c κs = search needs
 returns : tie.Need-returns
 unfolding advancedBoard movedBoard
 returns c =
-    rw (
-      c .wired .ensures,
-      c .before .advance .ensures,
-      c .before .before .before .advance-all .ensures,
-    )
+    let all = c .before .before .before .before .before .advance-all in
+    (rw (c .wired .ensures, c .before .before .advance .ensures, all .ensures .0), all .ensures .1)
 
 pub advanced-spec : {M : Type 1} → statement M
 advanced-spec = tie.close (tie.spec advance-all-requires advance-requires wired-requires returns)

@@ -37,15 +37,15 @@ line-requires : tie.Need-line-requires
 line-requires c κs = search needs
 
 returns-3 : tie.Need-returns-3
-returns-3 c = let tested = c .before .before .before .before in
+returns-3 c = let tested = c .before .before .before .before .before in
     let found = tested .before .before .skip-length in
     let at-if = tested .before .before .before in
     let b = at-if .before .before .args .self in
     let sound = at-if .before .sound .ensures in
     let e =
     skip-moves b (sym (sound .0) ∙ not-false _ (at-if .if1 .left)) (found .result) (found .ensures)
-    (tested .if2 .left) (c .before .before .if3 .taken) (c .before .advanced .result) (c .line .result)
-    (c .before .advanced .ensures) (c .line .ensures) in
+    (tested .if2 .left) (c .before .before .before .if3 .taken) (c .before .before .advanced .result .board)
+    (c .line .result) (c .before .before .advanced .ensures .0) (c .line .ensures) in
     (e, skip-reaches b (sound .1) _ e)
 
 line-requires-2 : tie.Need-line-requires-2

@@ -11,7 +11,9 @@ rebuilt-requires : tie.Need-rebuilt-requires
 rebuilt-requires c κs = search needs
 
 returns : tie.Need-returns
-returns c = c .rebuilt .ensures ∙ c .before .advanced .ensures
+returns c =
+    let a = c .before .before .before .advanced in
+    (c .rebuilt .ensures ∙ a .ensures .0, a .ensures .1)
 
 pub advance-cycles-spec : {M : Type 1} → statement M
 advance-cycles-spec = tie.close (tie.spec advanced-requires rebuilt-requires returns)

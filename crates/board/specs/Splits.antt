@@ -1,0 +1,22 @@
+-- S-4, an advance in parts on a board: a list of cycles, one advance after the other, each on the board that the one
+-- before left.
+use Prim.Native.Nat.{ℕ, _+_}
+use mathlib.Core.List.{List, [], _∷_}
+use lib.ListN.{getD}
+use Rattle.board.specs.declared.Board.{Board}
+use Rattle.board.specs.Calls.{advancedBoard, advanceCall}
+
+-- 'Call 04 answers the line and four 16-byte counts, channel 0 first': the count of channel i that an accepted advance
+-- of c cycles answers
+abbrev pub countAt : ℕ → ℕ → Board → ℕ
+countAt i c b = getD (advanceCall c b .members) (i + 1) 0
+
+-- the board after all parts
+unfoldable pub boardBy : List ℕ → Board → Board
+boardBy [] b = b
+boardBy (c ∷ cs) b = boardBy cs (advancedBoard c b)
+
+-- the counts of channel i that the parts' advances answer, added
+unfoldable pub countsBy : ℕ → List ℕ → Board → ℕ
+countsBy i [] b = 0
+countsBy i (c ∷ cs) b = countAt i c b + countsBy i cs (advancedBoard c b)
