@@ -19,7 +19,7 @@ pub enum Call {
     Read { address: u16 },
     /// Writes a register byte.
     Write { address: u16, byte: u8 },
-    /// Advances the board; answers [`Answer::Line`].
+    /// Advances the board; answers [`Answer::Advance`].
     Advance { cycles: u64 },
     /// Asks for the cycles until the next interrupt; answers [`Answer::Deadline`].
     Deadline,
@@ -43,8 +43,10 @@ pub enum Answer {
     Empty,
     /// Of a read and a controller read.
     Byte(u8),
-    /// Of an advance: whether the line is high.
-    Line(bool),
+    /// Of an advance: whether the line is high, and how many compare points each channel met, overdue ones too, channel
+    /// 0 first. A match counts 1; in mode 1 with a reload other than 0 it counts floor((counter - compare) / reload) + 1
+    /// with the old compare and the new counter, which can be 2^64. Without a match the count is 0.
+    Advance { line: bool, matches: [u128; 4] },
     /// Whether there is a deadline, D, and the smaller of D and 2^64 - 1; zeros if there is none.
     Deadline { present: bool, exact: u128, capped: u64 },
     /// The cycles that a skip passed, and whether the line is high. They are D, and it is high, where the line was low
@@ -65,18 +67,18 @@ struct Form {
     answer_length: usize,
 }
 
-/// Document 01's table of calls, in the order of the tags.
+/// Document 01's table of calls, with the counts that S-4 adds to an advance's answer, in the order of the tags.
 const FORMS: [Form; 10] = [
-    form(0x01, &[8, 4], &[]),     // host time: seconds, nanoseconds
-    form(0x02, &[2], &[1]),       // read: address; the byte
-    form(0x03, &[2, 1], &[]),     // write: address, byte
-    form(0x04, &[8], &[1]),       // advance: cycles; the line
-    form(0x05, &[], &[1, 16, 8]), // deadline; whether there is one, D, the 64-bit deadline
-    form(0x06, &[], &[8, 1]),     // skip; the cycles passed, the line
-    form(0x07, &[1, 1], &[]),     // source: number, level
-    form(0x08, &[4], &[1]),       // controller read: address; the byte
-    form(0x09, &[4, 1], &[]),     // controller write: address, byte
-    form(0x0A, &[], &[1, 1]),     // output; whether it is valid, the number
+    form(0x01, &[8, 4], &[]),               // host time: seconds, nanoseconds
+    form(0x02, &[2], &[1]),                 // read: address; the byte
+    form(0x03, &[2, 1], &[]),               // write: address, byte
+    form(0x04, &[8], &[1, 16, 16, 16, 16]), // advance: cycles; the line, the channels' counts of matches
+    form(0x05, &[], &[1, 16, 8]),           // deadline; whether there is one, D, the 64-bit deadline
+    form(0x06, &[], &[8, 1]),               // skip; the cycles passed, the line
+    form(0x07, &[1, 1], &[]),               // source: number, level
+    form(0x08, &[4], &[1]),                 // controller read: address; the byte
+    form(0x09, &[4, 1], &[]),               // controller write: address, byte
+    form(0x0A, &[], &[1, 1]),               // output; whether it is valid, the number
 ];
 
 const fn form(tag: u8, value: &'static [usize], answer: &'static [usize]) -> Form {
@@ -94,6 +96,11 @@ const fn sum(widths: &[usize]) -> usize {
         [] => 0,
         [first, rest @ ..] => *first + sum(rest),
     }
+}
+
+/// The widths of the answer to a call of a known tag.
+const fn answer_widths(tag: u8) -> &'static [usize] {
+    FORMS[tag as usize - 1].answer
 }
 
 /// The value of an expression over a tag's form, or none for an unknown tag. In the expression the form is a constant,
@@ -134,6 +141,10 @@ pub const HEADER_LENGTH: usize = 3;
 /// The bytes of the widest member.
 const WIDEST: usize = size_of::<u128>();
 
+/// The most members of an answer, and the bytes of the longest: an advance's.
+const ANSWER_MEMBERS: usize = answer_widths(0x04).len();
+const LONGEST: usize = HEADER_LENGTH + sum(answer_widths(0x04));
+
 /// The members with these widths, from the bytes of a value; 0 in the places of members that there are not.
 #[inline(always)]
 fn read<const MEMBERS: usize>(widths: &[usize], value: &[u8]) -> [u128; MEMBERS] {
@@ -152,6 +163,7 @@ fn read<const MEMBERS: usize>(widths: &[usize], value: &[u8]) -> [u128; MEMBERS]
 /// widths.
 #[inline(always)]
 fn write<const MEMBERS: usize>(tag: u8, widths: &[usize], members: [u128; MEMBERS], record: &mut [u8]) {
+    debug_assert_eq!(record.len(), HEADER_LENGTH + sum(widths));
     let (header, value) = record.split_at_mut(HEADER_LENGTH);
     header.copy_from_slice(&[tag, 0, value.len() as u8]);
     let mut from = 0;
@@ -303,17 +315,20 @@ impl Call {
 
     /// The call's answer with every member 0, which a refused direct call gives.
     pub fn zero_answer(&self) -> Answer {
-        Answer::of(self.tag(), [0; 3])
+        Answer::of(self.tag(), [0; ANSWER_MEMBERS])
     }
 }
 
 impl Answer {
     /// The answer of a known tag's call with these members.
-    fn of(tag: u8, [first, second, third]: [u128; 3]) -> Self {
+    fn of(tag: u8, [first, second, third, fourth, fifth]: [u128; ANSWER_MEMBERS]) -> Self {
         match tag {
             0x01 | 0x03 | 0x07 | 0x09 => Self::Empty,
             0x02 | 0x08 => Self::Byte(first as u8),
-            0x04 => Self::Line(first != 0),
+            0x04 => Self::Advance {
+                line: first != 0,
+                matches: [second, third, fourth, fifth],
+            },
             0x05 => Self::Deadline {
                 present: first != 0,
                 exact: second,
@@ -331,19 +346,6 @@ impl Answer {
         }
     }
 
-    /// The members; 0 in the places of those that the answer has not.
-    #[inline(always)]
-    fn members(&self) -> [u128; 3] {
-        match *self {
-            Self::Empty => [0, 0, 0],
-            Self::Byte(byte) => [byte.into(), 0, 0],
-            Self::Line(line) => [line.into(), 0, 0],
-            Self::Deadline { present, exact, capped } => [present.into(), exact, capped.into()],
-            Self::Skip { passed, line } => [passed.into(), line.into(), 0],
-            Self::Output { valid, number } => [valid.into(), number.into(), 0],
-        }
-    }
-
     /// The first answer of a buffer: its call's tag, the answer, and its bytes.
     pub fn decode(buffer: &[u8]) -> Result<(u8, Self, usize), Fault> {
         let (tag, said, rest) = header(buffer).map_err(Fault::Form)?;
@@ -354,7 +356,9 @@ impl Answer {
         let (members, used) = read.ok_or(Fault::Form(Refusal::UnknownTag))?;
         let answer = Self::of(tag, members);
         // Any number but 0 makes a flag true, and only 1 is its byte.
-        if answer.members() != members {
+        let mut own = [0; LONGEST];
+        answer.store(tag, &mut own[..used]);
+        if own[..used] != buffer[..used] {
             return Err(Fault::InvalidFlag);
         }
         Ok((tag, answer, used))
@@ -367,8 +371,27 @@ impl Answer {
         record
     }
 
-    /// Writes the answer to a call of a known tag over bytes of the record's length.
+    /// Writes the answer to a call of a known tag over bytes of the record's length. The answer's kind decides its
+    /// widths, so that where it is known there is direct code for it.
+    #[inline(always)]
     pub fn store(&self, tag: u8, record: &mut [u8]) {
-        by_form!(tag, FORM => write(tag, FORM.answer, self.members(), record)).expect("the tag is known");
+        match *self {
+            Self::Empty => write(tag, answer_widths(0x01), [], record),
+            Self::Byte(byte) => write(tag, answer_widths(0x02), [byte.into()], record),
+            Self::Advance {
+                line,
+                matches: [first, second, third, fourth],
+            } => {
+                let members = [line.into(), first, second, third, fourth];
+                write(tag, answer_widths(0x04), members, record);
+            }
+            Self::Deadline { present, exact, capped } => {
+                write(tag, answer_widths(0x05), [present.into(), exact, capped.into()], record);
+            }
+            Self::Skip { passed, line } => write(tag, answer_widths(0x06), [passed.into(), line.into()], record),
+            Self::Output { valid, number } => {
+                write(tag, answer_widths(0x0A), [valid.into(), number.into()], record);
+            }
+        }
     }
 }

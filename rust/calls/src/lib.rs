@@ -52,4 +52,15 @@ impl Outcome {
     pub fn refusal_number(&self) -> u8 {
         self.refusal.map_or(0, Refusal::number)
     }
+
+    /// The outcome of a list of which this part was run first, without a refusal, and then the rest into the rest of the
+    /// buffer.
+    pub fn then(self, rest: Self) -> Self {
+        Self {
+            calls: self.calls + rest.calls,
+            list_bytes: self.list_bytes + rest.list_bytes,
+            answer_bytes: self.answer_bytes + rest.answer_bytes,
+            refusal: rest.refusal,
+        }
+    }
 }

@@ -18,6 +18,24 @@ fn examples() -> Vec<(Call, Vec<u8>, Answer, Vec<u8>)> {
     };
     let mut deadline_bytes = vec![5, 0, 25];
     deadline_bytes.extend(1..=25);
+    // The largest count, 2^64, and three that stand in their lower eight bytes.
+    let advance = Answer::Advance {
+        line: true,
+        matches: [
+            1 << 64,
+            0x0203_0405_0607_0809,
+            0x0A0B_0C0D_0E0F_1011,
+            0x1213_1415_1617_1819,
+        ],
+    };
+    let advance_bytes = [
+        &[4, 0, 65, 1][..],
+        &[0, 0, 0, 0, 0, 0, 0, 1, 0, 0, 0, 0, 0, 0, 0, 0],
+        &[0, 0, 0, 0, 0, 0, 0, 0, 2, 3, 4, 5, 6, 7, 8, 9],
+        &[0, 0, 0, 0, 0, 0, 0, 0, 10, 11, 12, 13, 14, 15, 16, 17],
+        &[0, 0, 0, 0, 0, 0, 0, 0, 18, 19, 20, 21, 22, 23, 24, 25],
+    ]
+    .concat();
     vec![
         (
             Call::HostTime {
@@ -48,8 +66,8 @@ fn examples() -> Vec<(Call, Vec<u8>, Answer, Vec<u8>)> {
                 cycles: 0x0102_0304_0506_0708,
             },
             vec![4, 0, 8, 1, 2, 3, 4, 5, 6, 7, 8],
-            Answer::Line(true),
-            vec![4, 0, 1, 1],
+            advance,
+            advance_bytes,
         ),
         (Call::Deadline, vec![5, 0, 0], deadline, deadline_bytes),
         (
@@ -188,12 +206,22 @@ fn a_damaged_buffer_gives_its_whole_answers_and_then_an_error() {
         ),
         (&[0x0B, 0, 0], Fault::Form(Refusal::UnknownTag), "the tag is unknown"),
         (
-            &[0x04, 0, 2, 0, 0],
+            // An advance's line without its counts.
+            &[0x04, 0, 1, 0],
             Fault::Form(Refusal::WrongLength),
             "the length is not that of the tag",
         ),
-        (&[0x04, 0, 1], Fault::Form(Refusal::TruncatedValue), "the value is cut"),
-        (&[0x04, 0, 1, 2], Fault::InvalidFlag, "a flag is neither 0 nor 1"),
+        (&[0x02, 0, 1], Fault::Form(Refusal::TruncatedValue), "the value is cut"),
+        (
+            &[&[0x04, 0, 65][..], &[0; 64]].concat(),
+            Fault::Form(Refusal::TruncatedValue),
+            "the value is cut",
+        ),
+        (
+            &[&[0x04, 0, 65, 2][..], &[0; 64]].concat(),
+            Fault::InvalidFlag,
+            "a flag is neither 0 nor 1",
+        ),
     ] {
         let buffer = [&whole[..], end].concat();
         let mut records = answers(&buffer);
@@ -237,7 +265,13 @@ fn document_01s_example_is_read() {
     assert_eq!(Call::decode(&list[used..]), Err(Refusal::TruncatedHeader));
     let expected = [
         (0x02, Answer::Byte(1)),
-        (0x04, Answer::Line(false)),
+        (
+            0x04,
+            Answer::Advance {
+                line: false,
+                matches: [0; 4],
+            },
+        ),
         (
             0x0A,
             Answer::Output {
@@ -246,10 +280,9 @@ fn document_01s_example_is_read() {
             },
         ),
     ];
-    assert_eq!(
-        decoded(&[2, 0, 1, 1, 4, 0, 1, 0, 0x0A, 0, 2, 0, 0]),
-        Ok(expected.to_vec())
-    );
+    // An advance's answer is its line and four counts of 16 bytes.
+    let buffer = [&[2, 0, 1, 1, 4, 0, 65, 0][..], &[0; 64], &[0x0A, 0, 2, 0, 0]].concat();
+    assert_eq!(decoded(&buffer), Ok(expected.to_vec()));
 }
 
 #[test]
@@ -283,4 +316,28 @@ fn refusals_have_their_numbers_and_words() {
         .chain([0])
         .all(|number| Refusal::from_number(number).is_none()));
     assert_eq!(Outcome::default().refusal_number(), 0);
+}
+
+#[test]
+fn outcomes_of_parts_are_added_up() {
+    let first = Outcome {
+        calls: 2,
+        list_bytes: 14,
+        answer_bytes: 73,
+        refusal: None,
+    };
+    let rest = Outcome {
+        calls: 1,
+        list_bytes: 5,
+        answer_bytes: 4,
+        refusal: Some(Refusal::TruncatedHeader),
+    };
+    let whole = Outcome {
+        calls: 3,
+        list_bytes: 19,
+        answer_bytes: 77,
+        refusal: Some(Refusal::TruncatedHeader),
+    };
+    assert_eq!(first.then(rest), whole);
+    assert_eq!(first.then(Outcome::default()), first);
 }

@@ -10,6 +10,8 @@ use crate::deadline;
 use crate::fields::Fields;
 use crate::host_time;
 use crate::irqc::IrqController;
+use crate::matches;
+use crate::registers::CHANNELS;
 use crate::timing::access::Timing;
 
 /// A board. One that is not sound stays as its fields: every call refuses it, and the Rust cannot hold all
@@ -77,14 +79,17 @@ impl Board {
 
     /// A direct call. A refused one leaves the board as it was and answers with zeros.
     pub fn call(&mut self, call: Call) -> Reply {
-        let sound = self.sound();
+        let before = self.fields();
         let answer = match self {
-            Self::Sound(devices) if sound => devices.accept(call).map(|accepted| devices.carry_out(accepted)),
+            Self::Sound(devices) if before.sound() => {
+                devices.accept(call).map(|accepted| devices.carry_out(accepted))
+            }
             _ => Err(Refusal::UnsoundBoard),
         };
+        let counted = |answer| matches::counted(answer, &before.channels, &self.fields().channels);
         Reply {
             refusal: answer.err(),
-            answer: answer.unwrap_or(call.zero_answer()),
+            answer: answer.map_or(call.zero_answer(), counted),
         }
     }
 
@@ -149,7 +154,8 @@ impl Devices {
         }
     }
 
-    /// Carries out an accepted call, and then sets source 3 to the line.
+    /// Carries out an accepted call, and then sets source 3 to the line. The counts in an advance's answer stay 0: the
+    /// Rust has none.
     pub(crate) fn carry_out(&mut self, accepted: Accepted) -> Answer {
         host_time::set(self.host_seconds, self.host_nanoseconds);
         let answer = self.perform(accepted);
@@ -173,7 +179,10 @@ impl Devices {
             }
             Call::Advance { cycles } => {
                 self.timing.advance(cycles);
-                Answer::Line(self.timing.irq_asserted())
+                Answer::Advance {
+                    line: self.timing.irq_asserted(),
+                    matches: [0; CHANNELS],
+                }
             }
             Call::Deadline => self.deadline(),
             Call::Skip => self.skip(passed),

@@ -4,6 +4,7 @@
 #[cfg(feature = "proved")]
 pub mod controller;
 pub mod dispatcher;
+pub mod matches;
 pub mod parked;
 pub mod passes;
 pub mod skips;

@@ -58,6 +58,13 @@ impl Random {
         choices[self.below(choices.len() as u64) as usize]
     }
 
+    /// Puts the members of a slice into some order.
+    pub fn shuffle<T>(&mut self, members: &mut [T]) {
+        for last in (1..members.len()).rev() {
+            members.swap(last, self.below(last as u64 + 1) as usize);
+        }
+    }
+
     /// A number within two of `value`, modulo 2^64.
     fn near(&mut self, value: u64) -> u64 {
         value.wrapping_add(self.below(5)).wrapping_sub(2)
@@ -265,7 +272,7 @@ impl Generator {
             self.write(registers::ACKNOWLEDGE + 3, 15);
             self.write(registers::ALARM_ACKNOWLEDGE + 3, 1);
         }
-        match self.random.below(20) {
+        match self.random.below(22) {
             0..=3 => self.program_channel(),
             4 => self.set_clock(),
             5 => self.set_alarm(),
@@ -279,7 +286,8 @@ impl Generator {
             16 => self.drive_controller(),
             17 => self.read_latched(),
             18 => self.acknowledge_or_enable(),
-            _ => self.write_part_of_shadow(),
+            19 => self.write_part_of_shadow(),
+            _ => self.pass_periods(),
         }
     }
 
@@ -336,13 +344,48 @@ impl Generator {
         }
     }
 
+    /// Makes some channels periodic, from 0 or from where they stand, and passes over many of their points in one
+    /// advance.
+    fn pass_periods(&mut self) {
+        for _ in 0..1 + self.random.below(3) {
+            let number = self.random.below(CHANNELS as u64) as usize;
+            let control = self.random.pick(&[5, 13]);
+            let reset = self.random.pick(&[0, 16, 16]);
+            let counter = self.board.fields().channels[number].counter;
+            let compare = self.random.compare(if reset == 0 { counter } else { 0 });
+            let [few, any] = [1 + self.random.below(20), self.random.number()];
+            let reload = self.random.pick(&[1, few, few, any]);
+            let prescaler = self.random.below(10) as u32;
+            let prescaler = self.random.pick(&[0, 0, prescaler]);
+            self.calls(writes::program(number, control | reset, prescaler, compare, reload));
+        }
+        self.write(registers::ENABLE + 3, 15);
+        let cycles = self.cycles_over_periods();
+        self.call(Call::Advance { cycles });
+    }
+
+    /// Cycles after which a channel, if it is periodic and runs, has met so many points; else any number.
+    fn cycles_over_periods(&mut self) -> u64 {
+        let fields = self.board.fields();
+        let periods = self.random.number();
+        let running = (0..CHANNELS).filter(|&number| fields.runs(number) && fields.channels[number].mode() == 1);
+        let running: Vec<_> = running.map(|number| fields.channels[number]).collect();
+        if running.is_empty() {
+            return periods;
+        }
+        let channel = self.random.pick(&running);
+        let divisor = u128::from(channel.prescaler) + 1;
+        let point = u128::from(channel.compare) + u128::from(periods) * u128::from(channel.reload);
+        let ticks = point.saturating_sub(channel.counter.into());
+        let cycles = ticks.saturating_mul(divisor).saturating_sub(channel.phase.into());
+        let about = u64::try_from(cycles).unwrap_or(u64::MAX);
+        about.saturating_add(self.random.below(3)).saturating_sub(1)
+    }
+
     /// Writes eight bytes in some order, the first once more at times.
     fn write_shuffled(&mut self, low: u16, high: u16, value: u64) {
         let mut bytes: Vec<(u16, u8)> = (high..high + 4).chain(low..low + 4).zip(value.to_be_bytes()).collect();
-        for last in (1..bytes.len()).rev() {
-            let other = self.random.below(last as u64 + 1) as usize;
-            bytes.swap(last, other);
-        }
+        self.random.shuffle(&mut bytes);
         if self.random.once_in(4) {
             bytes.insert(1, bytes[0]);
         }
@@ -399,13 +442,15 @@ impl Generator {
         });
     }
 
-    /// An advance by any number, or about the deadline, the end of the second or the poll.
+    /// An advance by any number, or about the deadline, the end of the second, the poll or a channel's later point.
     fn advance(&mut self) {
         let fields = self.board.fields();
         let deadline = deadline::exact(&fields).and_then(|cycles| u64::try_from(cycles).ok());
         let any = self.random.number();
+        let later = self.cycles_over_periods();
         let about = self.random.pick(&[
             deadline.unwrap_or(any),
+            later,
             u64::from(MASTER_CLOCK - fields.subsecond),
             u64::from(POLL_LIMIT - fields.poll),
         ]);

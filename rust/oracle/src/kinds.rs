@@ -14,8 +14,8 @@ use crate::writes::{alarm, byte, program, RUNNING};
 pub const CALLS: usize = 4_000;
 /// The calls that one repeat of a benchmark carries out, about.
 const WORK: usize = 4_000_000;
-/// Room for the answers of a list.
-pub const BUFFER: usize = 32 * CALLS;
+/// Room for the answers of a list; the longest, an advance's, has 68 bytes.
+pub const BUFFER: usize = 72 * CALLS;
 
 /// A kind of list: what prepares the board, the list that is measured, and how often a benchmark runs it.
 pub struct Kind {

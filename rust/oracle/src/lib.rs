@@ -25,6 +25,7 @@ mod host_time;
 pub mod image;
 pub mod kinds;
 pub mod list;
+pub mod matches;
 pub mod record;
 pub mod writes;
 

@@ -1,11 +1,54 @@
 //! The call list of document 01: runs a list on a board into an answer buffer.
 
-use calls::{Call, Outcome, Refusal};
+use calls::{Answer, Call, Outcome, Refusal, HEADER_LENGTH};
 
 use crate::board::Board;
+use crate::matches;
 
-/// Runs the list. The buffer then holds the answers from its first byte, then its old bytes.
+/// The tag of an advance.
+const ADVANCE: u8 = 0x04;
+
+/// Runs the list. The buffer then holds the answers from its first byte, then its old bytes. Each advance is run by
+/// itself, and its counts are found from the channels before and after it.
 pub fn run(board: &mut Board, list: &[u8], answers: &mut [u8]) -> Outcome {
+    let mut total = Outcome::default();
+    loop {
+        let rest = &list[total.list_bytes..];
+        let room = &mut answers[total.answer_bytes..];
+        let part = &rest[..part_length(rest)];
+        let before = board.fields().channels;
+        let outcome = run_uncounted(board, part, room);
+        if part.first() == Some(&ADVANCE) && outcome.calls == 1 {
+            let (tag, answer, used) = Answer::decode(room).expect("a run writes whole answers");
+            matches::counted(answer, &before, &board.fields().channels).store(tag, &mut room[..used]);
+        }
+        total = total.then(outcome);
+        if total.refusal.is_some() || total.list_bytes == list.len() {
+            return total;
+        }
+    }
+}
+
+/// The length of a list's first part: an advance, or the calls up to one. The calls are found by the lengths that they
+/// say; a run of the part ends at one whose length is wrong. What is no whole call belongs to the last part.
+fn part_length(list: &[u8]) -> usize {
+    let mut end = 0;
+    while let Some(&[tag, high, low, ..]) = list.get(end..) {
+        if tag == ADVANCE && end > 0 {
+            return end;
+        }
+        end += HEADER_LENGTH + usize::from(u16::from_be_bytes([high, low]));
+        if tag == ADVANCE && end <= list.len() {
+            return end;
+        }
+    }
+    list.len()
+}
+
+/// Runs the list with zeros in the place of an advance's counts. The Rust has no counts, so this is the run whose time
+/// and instructions are measured. It is the only loop over calls: beside a second one the compiler would not inline the
+/// Rust into either, and the Rust would be measured at half its speed.
+fn run_uncounted(board: &mut Board, list: &[u8], answers: &mut [u8]) -> Outcome {
     let mut outcome = Outcome::default();
     let sound = board.sound();
     let Board::Sound(devices) = board else {
@@ -40,6 +83,21 @@ pub fn run(board: &mut Board, list: &[u8], answers: &mut [u8]) -> Outcome {
 /// Runs `first` over a fresh board, and then `list` so many times, each time over the board that the run before it
 /// left. The outcome is the last run's.
 pub fn run_repeated(first: &[u8], list: &[u8], times: u64, answers: &mut [u8]) -> Outcome {
+    repeat(run, first, list, times, answers)
+}
+
+/// The same with zeros in the place of an advance's counts: what is measured.
+pub fn run_repeated_uncounted(first: &[u8], list: &[u8], times: u64, answers: &mut [u8]) -> Outcome {
+    repeat(run_uncounted, first, list, times, answers)
+}
+
+fn repeat(
+    run: impl Fn(&mut Board, &[u8], &mut [u8]) -> Outcome,
+    first: &[u8],
+    list: &[u8],
+    times: u64,
+    answers: &mut [u8],
+) -> Outcome {
     let mut board = Board::fresh();
     let mut outcome = run(&mut board, first, answers);
     for _ in 0..times {

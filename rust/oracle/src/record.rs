@@ -61,9 +61,9 @@ pub fn recordings() -> Vec<Recording> {
         records: starts.into_iter().map(Start::run).collect(),
     };
     vec![
-        recording("mixed-1", (1..=30).map(mixed).collect()),
-        recording("mixed-2", (31..=60).map(mixed).collect()),
-        recording("mixed-3", (61..=90).map(mixed).collect()),
+        recording("mixed-1", (1..=15).map(mixed).collect()),
+        recording("mixed-2", (16..=30).map(mixed).collect()),
+        recording("mixed-3", (31..=45).map(mixed).collect()),
         recording("registers-read", registers_read(&mut Random::new(91))),
         recording("registers-written", registers_written(&mut Random::new(92))),
         recording("refusals", refusals(&mut Random::new(93))),
@@ -228,11 +228,7 @@ fn addresses(random: &mut Random, order: Order) -> Vec<u16> {
     match order {
         Order::Upwards => {}
         Order::Downwards => addresses.reverse(),
-        Order::Shuffled => {
-            for last in (1..addresses.len()).rev() {
-                addresses.swap(last, random.below(last as u64 + 1) as usize);
-            }
-        }
+        Order::Shuffled => random.shuffle(&mut addresses),
     }
     addresses
 }
@@ -244,7 +240,8 @@ enum Order {
     Shuffled,
 }
 
-/// Every address read, on boards that are moved on between the reads, so that latched words differ from live ones.
+/// Every address read, on boards that are moved on between the reads: often after one that fills a latch, so that the
+/// latched word differs from the live one.
 fn registers_read(random: &mut Random) -> Vec<Start> {
     let mut starts = Vec::new();
     for (order, realtime) in [
@@ -257,7 +254,7 @@ fn registers_read(random: &mut Random) -> Vec<Start> {
         let mut calls = prepared(random, realtime);
         for address in addresses(random, order) {
             calls.push(Call::Read { address });
-            if random.once_in(6) {
+            if random.once_in(if fills_a_latch(address) { 2 } else { 40 }) {
                 let small = random.below(100);
                 let large = random.below(1 << 36);
                 let cycles = random.pick(&[small, large]);
@@ -268,6 +265,11 @@ fn registers_read(random: &mut Random) -> Vec<Start> {
         starts.push(whole(random, &calls));
     }
     starts
+}
+
+/// Whether a read of an address fills a latch: byte 0 of a count's low word, or of the clock's low seconds.
+fn fills_a_latch(address: u16) -> bool {
+    address == registers::SECONDS_LOW || (0..CHANNELS).any(|number| address == of_channel(number, channel::COUNT_LOW))
 }
 
 /// Every address written and read back, with the deadline at times.
@@ -441,10 +443,11 @@ fn refused_skips() -> Vec<Vec<Call>> {
 }
 
 /// Refusal 11 at every place: lists with every tag, into buffers of every length up to one byte more than needed. And a
-/// skip of 2^64 - 1 cycles, and one of 2^64, which is refused with 13, into buffers from the start of its record on.
+/// skip of 2^64 - 1 cycles, and one of 2^64, which is refused with 13, into buffers from the start of its record on; and
+/// an advance with the largest counts, into buffers without room for its record, a byte short, and with room.
 fn short_buffers(random: &mut Random) -> Vec<Start> {
     let mut starts = Vec::new();
-    for _ in 0..4 {
+    for _ in 0..3 {
         let mut calls = Vec::new();
         for tag in tags() {
             let call = loop {
@@ -473,6 +476,22 @@ fn short_buffers(random: &mut Random) -> Vec<Start> {
                 buffer,
             });
         }
+    }
+    // Periodic with reload 1 and with reload 2, and one-shot: 2^64, 2^63 and 1 points from 0 on. Channel 3 is off.
+    let mut calls = Vec::new();
+    for (number, control, reload) in [(0, 5, 1), (1, 5, 2), (2, 4, 0)] {
+        calls.push(byte(of_channel(number, channel::RELOAD_LOW) + 3, reload));
+        calls.push(byte(of_channel(number, channel::CONTROL) + 3, control));
+    }
+    let before = answer_bytes(&calls);
+    calls.push(Call::Advance { cycles: u64::MAX });
+    let room = answer_bytes(&calls);
+    for buffer in [before, room - 1, room, room + 1] {
+        starts.push(Start {
+            timer_enable: 15,
+            list: list_of(&calls),
+            buffer,
+        });
     }
     starts
 }

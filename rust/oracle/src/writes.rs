@@ -1,8 +1,9 @@
-//! Register writes as calls: a byte, a word of four bytes, two words; a channel, an alarm; and both with a given
-//! deadline.
+//! Register writes as calls: a byte, a word of four bytes, two words; a channel, an alarm; both with a given deadline;
+//! and a channel with given fields.
 
 use calls::Call;
 
+use crate::fields::Channel;
 use crate::registers::{self, channel, of_channel};
 use crate::sys::MASTER_CLOCK;
 
@@ -65,6 +66,36 @@ pub fn channel_due(number: usize, mode: u8, prescaler: u32, deadline: u128) -> O
         cycles: (ticks * divisor - deadline) as u64,
     });
     Some(calls)
+}
+
+/// Sets a channel of a fresh board to these fields. It makes the channel the only one that is selected, and advances it:
+/// a free-running match makes it pending and disarms it, and cycles before its first tick make its phase.
+pub fn set_channel(number: usize, wanted: &Channel) -> Vec<Call> {
+    let register = |register| of_channel(number, register);
+    let two = |low, high, value| two_words(register(low), register(high), value);
+    let counter = |value| two(channel::COUNT_LOW, channel::COUNT_HIGH, value);
+    let control = |value| byte(register(channel::CONTROL) + 3, value);
+    let advance = |cycles| Call::Advance { cycles };
+    let mut calls = two(channel::RELOAD_LOW, channel::RELOAD_HIGH, wanted.reload);
+    calls.extend(two(channel::COMPARE_LOW, channel::COMPARE_HIGH, wanted.compare));
+    calls.push(byte(registers::ENABLE + 3, 1 << number));
+    if wanted.pending || !wanted.armed {
+        calls.extend(counter(wanted.compare.wrapping_sub(1)));
+        calls.extend([control(4 + 2), advance(1)]);
+        if !wanted.pending {
+            calls.push(byte(registers::ACKNOWLEDGE + 3, 1 << number));
+        }
+        if wanted.armed {
+            calls.push(byte(register(channel::COMPARE_LOW) + 3, wanted.compare as u8));
+        }
+    }
+    calls.extend(word(register(channel::PRESCALER), wanted.prescaler));
+    calls.extend(counter(wanted.counter));
+    if wanted.phase > 0 {
+        calls.extend([control(4 | wanted.mode()), advance(wanted.phase.into())]);
+    }
+    calls.push(control(wanted.control));
+    calls
 }
 
 /// Sets the alarm of a clock that stands at 0 and does not run from host time, due after exactly `deadline` cycles. It

@@ -1,8 +1,8 @@
 //! What a simulator's author would write: program a channel, ask for the deadline, skip to the interrupt, acknowledge;
-//! park the board on Friday, take it up on Monday, and keep one record of both days.
+//! park the board on Friday, take it up on Monday, jump over many periods, and keep one record of both days.
 //!
-//! `cargo run --example deadline -- IMAGE` parks the board in the file IMAGE. It prints each day's deadline and the
-//! cycles that each skip passed. What it cannot do it tells, and ends with status 1.
+//! `cargo run --example deadline -- IMAGE` parks the board in the file IMAGE. It prints each day's deadline, the cycles
+//! that each skip passed and the matches of each advance. What it cannot do it tells, and ends with status 1.
 
 use std::env;
 use std::error::Error;
@@ -42,7 +42,7 @@ fn friday() -> Vec<Call> {
     ]
 }
 
-/// Monday's calls: what is left to the second interrupt, and the third.
+/// Monday's calls: what is left to the second interrupt, and the third; then one long advance over many periods.
 fn monday() -> Vec<Call> {
     vec![
         Call::Deadline,
@@ -50,6 +50,7 @@ fn monday() -> Vec<Call> {
         write(TIMER_ACK, 1),
         Call::Skip,
         write(TIMER_ACK, 1),
+        Call::Advance { cycles: 1_000_000 },
     ]
 }
 
@@ -65,7 +66,9 @@ fn run(board: &mut Board, calls: &[Call], record: &mut Vec<u8>) -> Result<(), Bo
             (_, Answer::Skip { passed, line }) => {
                 println!("interrupt after {passed} cycles, line {}", u8::from(line))
             }
-            (_, Answer::Line(line)) => println!("advanced, line {}", u8::from(line)),
+            (_, Answer::Advance { line, matches }) => {
+                println!("advanced, line {}, {} matches of channel 0", u8::from(line), matches[0])
+            }
             _ => {}
         }
     }

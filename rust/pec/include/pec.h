@@ -17,7 +17,11 @@ extern "C" {
 /* Runs a list over a fresh board. Gives the calls done, the list bytes they used and the answer bytes; the result is
    the refusal, 0 for none. The first call that is refused stops the run and changes nothing; the calls before it stand.
    A skip with the line low is refused with 13 where the deadline is above 2^64 - 1; else, where there is a deadline, it
-   ends with the line high. */
+   ends with the line high.
+
+   The value of an advance's answer has 65 bytes: the line, and, channel 0 first, how many compare points each channel
+   met, overdue ones too, in 16 bytes each, big-endian. A match counts 1; in mode 1 with a reload other than 0 it counts
+   floor((counter - compare) / reload) + 1 with the old compare and the new counter, which can be 2^64. */
 uint8_t pec_run(const uint8_t *list, size_t list_length, uint8_t *answers, size_t answers_length, size_t *calls,
                 size_t *used, size_t *written);
 

@@ -13,19 +13,19 @@ use crate::{Outcome, Refusal};
 ///
 /// // One-shot channel 0 with compare 3 counts cycles.
 /// let mut board = Board::fresh();
-/// let mut answers = [0; 32];
+/// let mut answers = [0; 68];
 /// let program = [(0x293, 3), (0x283, 12), (0x007, 1)].map(|(address, byte)| Call::Write { address, byte });
 /// assert_eq!(board.run(&list_of(&program), &mut answers).refusal, None);
 /// let two = list_of(&[Call::Advance { cycles: 2 }]);
 /// board.run(&two, &mut answers);
-/// assert_eq!(answers[..4], [4, 0, 1, 0]);
+/// assert_eq!(answers[..4], [4, 0, 65, 0]);
 ///
 /// // Parked, and taken up again: two cycles more raise the line.
 /// let image = board.image().to_vec();
 /// let mut resumed = Board::from_image(&image)?;
 /// assert_eq!(resumed, board);
 /// resumed.run(&two, &mut answers);
-/// assert_eq!(answers[..4], [4, 0, 1, 1]);
+/// assert_eq!(answers[..4], [4, 0, 65, 1]);
 ///
 /// assert_eq!(Board::from_image(&image[1..]), Err(Refusal::MalformedImage));
 /// # Ok::<(), Refusal>(())
@@ -77,7 +77,7 @@ impl Board {
     ///
     /// // Channel 0 free-running with its interrupt enabled: control 0x1E starts it from 0, and it goes round in 2^64.
     /// let mut board = Board::fresh();
-    /// let mut buffer = [0; 32];
+    /// let mut buffer = [0; 128];
     /// let start = [(0x283, 0x1E), (0x007, 1)].map(|(address, byte)| Call::Write { address, byte });
     /// board.run(&list_of(&start), &mut buffer);
     /// let outcome = board.run(&list_of(&[Call::Skip]), &mut buffer);

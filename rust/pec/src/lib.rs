@@ -13,13 +13,14 @@
 //! // The register byte at address 0x83, an advance of one cycle, the controller's output, and a cut call.
 //! let mut list = list_of(&[Call::Read { address: 0x83 }, Call::Advance { cycles: 1 }, Call::Output]);
 //! list.push(0xFF);
-//! let mut buffer = [0; 64];
+//! let mut buffer = [0; 128];
 //! let outcome = pec::run(&list, &mut buffer);
 //! assert_eq!((outcome.calls, outcome.list_bytes), (3, 19));
 //! assert_eq!(outcome.refusal, Some(Refusal::TruncatedHeader));
 //! let given = answers(&buffer[..outcome.answer_bytes]).collect::<Result<Vec<_>, _>>()?;
+//! let advance = Answer::Advance { line: false, matches: [0; 4] };
 //! let output = Answer::Output { valid: false, number: 0 };
-//! assert_eq!(given, [(0x02, Answer::Byte(1)), (0x04, Answer::Line(false)), (0x0A, output)]);
+//! assert_eq!(given, [(0x02, Answer::Byte(1)), (0x04, advance), (0x0A, output)]);
 //! # Ok::<(), pec::DamagedAnswers>(())
 //! ```
 
@@ -121,10 +122,10 @@ pub fn run_repeated(first: &[u8], list: &[u8], times: u64, answers: &mut [u8]) -
 /// the buffer up to the outcome's `answer_bytes`. Bytes at its end that are no whole answer are not listed.
 ///
 /// ```
-/// let list = pec::list_of(&[pec::Call::Advance { cycles: 1 }, pec::Call::Source { number: 3, level: 0 }]);
+/// let list = pec::list_of(&[pec::Call::Skip, pec::Call::Source { number: 3, level: 0 }]);
 /// let mut buffer = [0; 64];
 /// let outcome = pec::run(&list, &mut buffer);
-/// assert_eq!(pec::listing(&buffer[..outcome.answer_bytes], &outcome), "04 00\nend 1 9 11\n");
+/// assert_eq!(pec::listing(&buffer[..outcome.answer_bytes], &outcome), "06 000000000000000000\nend 1 9 3\n");
 /// ```
 pub fn listing(answers: &[u8], outcome: &Outcome) -> String {
     // By the library's contract a listing is no longer.

@@ -1,11 +1,19 @@
 //! The functions of the crate pass slices, results, repeats and images as they say.
 
 use pec::{
-    image_refusal, list_of, park_fresh, run, run_parked, run_repeated, Board, Call, Controller, Outcome, Refusal,
-    IMAGE_SIZE,
+    answers, image_refusal, list_of, park_fresh, run, run_parked, run_repeated, Answer, Board, Call, Controller,
+    Outcome, Refusal, IMAGE_SIZE,
 };
 
 const OUTPUT: [u8; 3] = [0x0A, 0, 0];
+
+/// The record of an advance: tag, length, the line and four counts of 16 bytes, of which channel 0's here is short.
+fn advance_record(line: u8, count: u8) -> [u8; 68] {
+    let mut record = [0; 68];
+    record[..4].copy_from_slice(&[4, 0, 65, line]);
+    record[19] = count;
+    record
+}
 
 #[test]
 fn an_empty_list_changes_nothing() {
@@ -32,18 +40,54 @@ fn repeats_go_on_from_the_board_that_is_left() {
     let configure = [(0x293, 3), (0x283, 12), (0x007, 1)].map(|(address, byte)| Call::Write { address, byte });
     let configure = list_of(&configure);
     let step = list_of(&[Call::Advance { cycles: 1 }, Call::Read { address: 0x28B }]);
-    let mut answers = [0; 16];
-    for (times, line, count) in [(1, 0, 1), (2, 0, 2), (3, 1, 3), (4, 1, 3)] {
+    let mut answers = [0; 72];
+    // The third cycle meets the compare; after it the channel is off.
+    for (times, line, counter, count) in [(1, 0, 1, 0), (2, 0, 2, 0), (3, 1, 3, 1), (4, 1, 3, 0)] {
         let outcome = run_repeated(&configure, &step, times, &mut answers);
         assert_eq!((outcome.calls, outcome.refusal), (2, None));
-        assert_eq!(answers[..8], [4, 0, 1, line, 2, 0, 1, count], "{times}");
+        assert_eq!(answers[..68], advance_record(line, count), "{times}");
+        assert_eq!(answers[68..], [2, 0, 1, counter], "{times}");
     }
     // None at all: the results are the first list's.
     assert_eq!(run_repeated(&configure, &step, 0, &mut answers).calls, 3);
     // A first list that is refused leaves its board all the same.
     let cut = [&configure[..], &[9]].concat();
     run_repeated(&cut, &step, 3, &mut answers);
-    assert_eq!(answers[..4], [4, 0, 1, 1]);
+    assert_eq!(answers[..68], advance_record(1, 1));
+}
+
+#[test]
+fn an_advance_tells_the_points_that_each_channel_met() {
+    // From 0: periodic at 10, 14 and so on, and at every number; one-shot at 5; and periodic at 1, 3 and so on. A channel
+    // has 0x40 addresses, and its compare, reload and control end at 0x293, 0x29B and 0x283.
+    let mut start = Vec::new();
+    for (channel, compare, reload, control) in [(0, 10, 4, 5), (1, 0, 1, 5), (2, 5, 0, 4), (3, 1, 2, 5)] {
+        for (address, byte) in [(0x293, compare), (0x29B, reload), (0x283, control)] {
+            let address = address + 0x40 * channel;
+            start.push(Call::Write { address, byte });
+        }
+    }
+    start.push(Call::Write {
+        address: 0x007,
+        byte: 15,
+    });
+    let advance = |calls: &[Call]| {
+        let mut buffer = [0; 256];
+        let outcome = run(&list_of(&[&start, calls].concat()), &mut buffer);
+        assert_eq!(outcome.refusal, None);
+        let last = answers(&buffer[..outcome.answer_bytes]).last();
+        match last.expect("there are answers").expect("they are whole") {
+            (0x04, Answer::Advance { line: false, matches }) => matches,
+            other => panic!("{other:?}"),
+        }
+    };
+    let by = |cycles| Call::Advance { cycles };
+    assert_eq!(advance(&[by(0)]), [0, 0, 0, 0]);
+    assert_eq!(advance(&[by(19)]), [3, 20, 1, 10]);
+    // The points that were met are not met again: 22; 20 to 22; none; 21.
+    assert_eq!(advance(&[by(19), by(3)]), [1, 3, 0, 1]);
+    // Up to 2^64 - 1: 10 to 2^64 - 2 in steps of 4; every number from 0 on; every odd one.
+    assert_eq!(advance(&[by(u64::MAX)]), [(1 << 62) - 2, 1 << 64, 1, 1 << 63]);
 }
 
 /// Where the timer enable stands in an image: four channels of 38 bytes, and a tag and a length.
@@ -57,23 +101,23 @@ fn a_board_goes_on_where_a_run_left_it() {
         .to_vec();
     calls.extend([Call::Advance { cycles: 1 }; 3]);
     let list = list_of(&calls);
-    let mut whole = [7; 32];
+    let mut whole = [7; 256];
     let outcome = run(&list, &mut whole);
-    assert_eq!((outcome.calls, outcome.answer_bytes, whole[20]), (6, 21, 1));
+    // Three answers of 3 bytes and three of 68.
+    assert_eq!((outcome.calls, outcome.answer_bytes), (6, 213));
+    assert_eq!(whole[145..213], advance_record(1, 1));
     // One call at a time, by way of the image.
     let mut board = Board::default();
     assert_eq!(board, Board::fresh());
-    let mut answers = [7; 32];
+    let mut answers = [7; 256];
     let mut total = Outcome::default();
     for call in &calls {
         board = Board::from_image(board.image()).expect("a board's own image is accepted");
         let before = board.clone();
         let one = board.run(&call.encode(), &mut answers[total.answer_bytes..]);
         assert_ne!(board, before, "{call:?}");
-        total.calls += one.calls;
-        total.list_bytes += one.list_bytes;
-        total.answer_bytes += one.answer_bytes;
         assert_eq!(one.refusal, None);
+        total = total.then(one);
     }
     assert_eq!((total, answers), (outcome, whole));
     // A refused call stops a run, and the board stays.
@@ -129,7 +173,7 @@ fn a_skip_that_is_too_large_is_refused_and_changes_nothing() {
     assert_eq!(outcome.refusal, Some(Refusal::UnsoundBoard));
     // One cycle nearer, the skip passes 2^64 - 1 cycles and raises the line; without room for its answer it is 11.
     let mut board = started.clone();
-    let mut answers = [7; 16];
+    let mut answers = [7; 68];
     assert_eq!(
         board.run(&Call::Advance { cycles: 1 }.encode(), &mut answers).refusal,
         None

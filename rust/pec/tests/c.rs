@@ -1,5 +1,5 @@
-//! C and C++ programs over the header and the archive: document 01's worked answers, parked boards, a skip that is
-//! refused, turns of the dispatcher, and the memory that the library uses.
+//! C and C++ programs over the header and the archive: document 01's worked answers, counts of matches, parked boards, a
+//! skip that is refused, turns of the dispatcher, and the memory that the library uses.
 
 use std::env;
 use std::io::Write;
@@ -56,20 +56,34 @@ fn printed(name: &str, (compiler, language): (&str, [&str; 3]), input: &[u8]) ->
 
 #[test]
 fn a_program_links_the_archive_from_c_and_from_cpp() {
-    let run = "02 01\n04 00\n0a 0000\nend 3 2 19\n31 02 01\n";
+    // Document 01's listing has 31 bytes, and S-4 adds 128 zeros to its second line.
+    let zeros = "0".repeat(128);
+    let run = format!("02 01\n04 00{zeros}\n0a 0000\nend 3 2 19\n159 02 01\n");
     for language in [C, CPP] {
         assert_eq!(printed("listing", language, &[]), format!("{run}{run}109 105\n"));
     }
 }
 
 #[test]
+fn counts_of_matches_are_read_from_c_and_from_cpp() {
+    // Points at 10, 14 and 18; at every number from 0 to 19; one-shot; and none, since channel 3 is not selected. Then
+    // those from 22 to 2^64 - 2 in steps of 4, which are 2^62 - 5; those from 20 to 2^64 - 1; and none.
+    let expected = "19 cycles: line 1, matches 3 20 1 0\n\
+                    all that are left: line 1, matches 4611686018427387899 18446744073709551596 0 0\n\
+                    from the start: line 1, matches 4611686018427387902 2^64 1 0\n";
+    for language in [C, CPP] {
+        assert_eq!(printed("matches", language, &[]), expected);
+    }
+}
+
+#[test]
 fn a_board_is_parked_and_taken_up_from_c_and_from_cpp() {
     // Refusal, calls, list bytes and answer bytes. Three writes (6 bytes each, answers of 3), two deadlines (3 bytes,
-    // answers of 28) and two advances (11 bytes, answers of 4); the parking stands after the first advance.
-    let runs = "whole: 0 7 46 73\nfirst: 0 5 32 41\nsecond: 0 2 14 32\n";
-    // The two writes before the skip stand. An advance's answer has 4 bytes, a skip's 12.
+    // answers of 28) and two advances (11 bytes, answers of 68); the parking stands after the first advance.
+    let runs = "whole: 0 7 46 201\nfirst: 0 5 32 105\nsecond: 0 2 14 96\n";
+    // The two writes before the skip stand. An advance's answer has 68 bytes, a skip's 12.
     let far = "too far: 13 2 12 6\ntoo far, not parked: 13 2 12 6\n".repeat(2);
-    let nearer = "nearer: 0 2 14 16, line 1\n";
+    let nearer = "nearer: 0 2 14 80, line 1\n";
     let expected = format!(
         "short: 11 0\nfresh: 0 269, read 0\n{runs}{far}{nearer}one byte over: 12 12 0 0 0\ncut: 12 12 0 0 0\n\
          unsound: 1 1 0 0 0\ndamaged and unsound: 12 12 0 0 0\ndamaged: 12 12 0 0 0\n"

@@ -1,5 +1,6 @@
 //! The example prints what document 01's rules give: a tick every 3 cycles and a match every 10 ticks, so an interrupt
-//! every 30 cycles. Friday ends 13 cycles after the first one, and 17 are left on Monday.
+//! every 30 cycles. Friday ends 13 cycles after the first one, and 17 are left on Monday. A million cycles from the third
+//! one on are 33,333 periods and 10 cycles.
 
 use std::fs;
 use std::path::PathBuf;
@@ -35,10 +36,12 @@ fn the_example_prints_both_days_and_leaves_fridays_board() {
     fs::write(folder.join("board.new"), [7; 1_000]).expect("the file can be written");
     let output = example(&[image.to_str().expect("the path is text")]);
     let text = String::from_utf8(output.stdout).expect("the example prints text");
-    // Answers of 3 bytes for eight writes, 28 for two deadlines, 12 for three skips and 4 for the advance.
-    let expected = "Friday\ndeadline: 30\ninterrupt after 30 cycles, line 1\nadvanced, line 0\n\
+    // Answers of 3 bytes for eight writes, 28 for two deadlines, 12 for three skips and 68 for two advances.
+    let expected = "Friday\ndeadline: 30\ninterrupt after 30 cycles, line 1\n\
+                    advanced, line 0, 0 matches of channel 0\n\
                     Monday\ndeadline: 17\ninterrupt after 17 cycles, line 1\ninterrupt after 30 cycles, line 1\n\
-                    one record of 120 bytes\n";
+                    advanced, line 1, 33333 matches of channel 0\n\
+                    one record of 252 bytes\n";
     assert_eq!(text, expected);
     assert!(output.status.success());
     let files = fs::read_dir(&folder).expect("the folder is there");

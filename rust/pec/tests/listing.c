@@ -23,7 +23,7 @@ static void show(const uint8_t *answers, size_t written, size_t calls, uint8_t r
 
 int main(void)
 {
-    uint8_t answers[64];
+    uint8_t answers[128];
     size_t calls, used, written;
     uint8_t refusal = pec_run(LIST, sizeof LIST, answers, sizeof answers, &calls, &used, &written);
     show(answers, written, calls, refusal, used);

@@ -1,5 +1,8 @@
 //! Times the proved board and the original Rust on the same lists, through the same driver.
 //!
+//! The Rust does not count the matches of an advance, so it is timed without the oracle's counts: the driver writes
+//! zeros in their place. The answers that the proved board was timed on are compared with an untimed run that counts.
+//!
 //! `bench` prints, for each kind of list, nanoseconds a call of both, median and spread of 25 repeats; the median of the
 //! ratios of the repeats that stand next to each other; and the seconds of a ten-year record. Above its table it
 //! prints how the Rust is built. Then it prints nanoseconds of the work on parked boards, which is the proved board's
@@ -13,7 +16,7 @@ use calls::{list_of, NANOSECONDS_PER_SECOND};
 use oracle::compare::Runner;
 use oracle::kinds::parking::{self, OPERATIONS};
 use oracle::kinds::{self, Kind, BUFFER, CALLS};
-use oracle::list;
+use oracle::{list, matches};
 
 const REPEATS: usize = 25;
 /// The times that one repeat carries out an operation on parked boards.
@@ -94,7 +97,7 @@ fn measure(kind: &Kind) {
     // The two take turns, so that a slow spell of the machine meets both, and their ratio is that of two repeats next to
     // each other.
     for _ in 0..REPEATS {
-        let runners: [Runner; 2] = [list::run_repeated, pec::run_repeated];
+        let runners: [Runner; 2] = [list::run_repeated_uncounted, pec::run_repeated];
         for ((runner, seconds), buffer) in runners.into_iter().zip(&mut seconds).zip(&mut buffers) {
             let start = Instant::now();
             let outcome = runner(&first, &list, kind.times, buffer);
@@ -103,7 +106,13 @@ fn measure(kind: &Kind) {
             assert_eq!(outcome.calls, kind.list.len(), "{}", kind.name);
         }
     }
-    assert!(buffers[0] == buffers[1], "{}: the answers differ", kind.name);
+    let mut counted = vec![0; BUFFER];
+    let outcome = list::run_repeated(&first, &list, kind.times, &mut counted);
+    assert!(buffers[1] == counted, "{}: the answers differ", kind.name);
+    counted.truncate(outcome.answer_bytes);
+    matches::zero_counts(&mut counted);
+    let timed = &buffers[0][..outcome.answer_bytes];
+    assert!(timed == counted, "{}: the Rust's timed answers differ", kind.name);
     let [rust, proved] = &seconds;
     let ratios = sorted(proved.iter().zip(rust).map(|(proved, rust)| proved / rust).collect());
     let [rust, proved] = seconds.map(sorted);

@@ -1,4 +1,5 @@
-//! Counts the instructions of the proved board and of the original Rust on the lists of `bench`.
+//! Counts the instructions of the proved board and of the original Rust on the lists of `bench`. The Rust does not count
+//! the matches of an advance, so its run is the one without the oracle's counts: the driver writes zeros in their place.
 //!
 //! `instructions` prints, for each kind of list, the instructions a call of both, and then those of the work on parked
 //! boards, which is the proved board's alone. `instructions NAME` prints one kind alone, `instructions parking` the
@@ -14,7 +15,7 @@ use oracle::kinds::parking::{self, OPERATIONS};
 use oracle::kinds::{self, BUFFER, CALLS};
 use oracle::list;
 
-const BOARDS: [(&str, Runner); 2] = [("Rust", list::run_repeated), ("Proved", pec::run_repeated)];
+const BOARDS: [(&str, Runner); 2] = [("Rust", list::run_repeated_uncounted), ("Proved", pec::run_repeated)];
 
 /// The repetitions of a list in the two runs whose totals are compared. The first repetition is in both: it leaves a
 /// board as the later ones find it.

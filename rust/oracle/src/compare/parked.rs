@@ -29,11 +29,11 @@ pub const RULES: Parking = Parking {
     run: image::run_parked,
 };
 
-/// Room for the answer of any call, and more.
-const CALL_BUFFER: usize = 64;
+/// Room for the answer of any call, and more: an advance's has 68 bytes.
+const CALL_BUFFER: usize = 128;
 
-/// Room for the answers of the list that images are tried with, and more.
-const LIST_BUFFER: usize = 128;
+/// Room for the answers of the list that images are tried with, which have 125 bytes, and more.
+const LIST_BUFFER: usize = 192;
 
 /// What a run gives: the outcome, the whole answer buffer, and the image after it.
 #[derive(PartialEq)]
@@ -55,10 +55,7 @@ impl Shown {
         let total = &mut shown.outcome;
         for list in lists {
             let one = (parking.run)(&mut shown.image, list, &mut shown.answers[total.answer_bytes..]);
-            total.calls += one.calls;
-            total.list_bytes += one.list_bytes;
-            total.answer_bytes += one.answer_bytes;
-            total.refusal = one.refusal;
+            *total = total.then(one);
             if one.refusal.is_some() {
                 break;
             }

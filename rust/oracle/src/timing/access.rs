@@ -68,16 +68,7 @@ impl Timing {
         let offset = state.rtc_host_offset_ns;
         let magnitude = offset.unsigned_abs();
         let nanoseconds = NANOS_PER_SECOND as u128;
-        fields.channels = state.timers.map(|timer| Channel {
-            control: narrow(timer.control),
-            counter: timer.counter,
-            compare: timer.compare,
-            reload: timer.reload,
-            prescaler: timer.prescaler,
-            phase: narrow(timer.prescaler_phase),
-            pending: timer.pending,
-            armed: timer.compare_armed,
-        });
+        fields.channels = self.channels();
         fields.timer_enable = state.timer_enable;
         fields.clock_control = narrow(state.rtc_control);
         fields.seconds = state.rtc_seconds;
@@ -97,6 +88,20 @@ impl Timing {
         fields.count_latches = self.device.count_hi_latch.map(Latch::from_word);
         fields.clock_low_latch = Latch::from_word(self.device.rtc_seconds_lo_latch);
         fields.clock_high_latch = Latch::from_word(self.device.rtc_seconds_hi_latch);
+    }
+
+    /// The fields of the channels.
+    pub(crate) fn channels(&self) -> [Channel; TIMER_CHANNELS] {
+        self.state.borrow().timers.map(|timer| Channel {
+            control: narrow(timer.control),
+            counter: timer.counter,
+            compare: timer.compare,
+            reload: timer.reload,
+            prescaler: timer.prescaler,
+            phase: narrow(timer.prescaler_phase),
+            pending: timer.pending,
+            armed: timer.compare_armed,
+        })
     }
 
     pub(crate) fn read(&mut self, address: u16) -> u8 {

@@ -37,6 +37,17 @@ impl Counts {
             _ => {}
         }
         match answer {
+            Answer::Advance { matches, .. } => {
+                for (number, count) in matches.into_iter().enumerate() {
+                    self.note(format!("channel {number} meets 1 point"), count == 1);
+                    self.note(format!("channel {number} meets more points"), count > 1);
+                    self.note(format!("channel {number} meets more than 2^32"), count > 1 << 32);
+                    self.note("a channel meets 2^64 points", count == 1 << 64);
+                    self.note("an overdue channel meets points", count > 0 && overdue(before, number));
+                }
+                let several = matches.iter().filter(|count| **count > 1).count() > 1;
+                self.note("two channels meet more points", several);
+            }
             Answer::Deadline { present, exact, .. } => {
                 self.note("D none", !present);
                 self.note("D above 2^64 - 1", exact > u128::from(u64::MAX));
@@ -162,6 +173,11 @@ impl Counts {
             seconds && before.clock_control & 2 == 0,
         );
     }
+}
+
+/// Whether a channel's compare is behind its counter.
+fn overdue(fields: &Fields, number: usize) -> bool {
+    fields.channels[number].compare < fields.channels[number].counter
 }
 
 /// Runs a list by direct calls into a buffer of that length; gives the outcome, the answers and the fields.

@@ -7,12 +7,12 @@ use oracle::list::run;
 
 use crate::support::*;
 
-/// Document 01's table: tag, length of the value, length of the answer.
+/// Document 01's table: tag, length of the value, length of the answer; S-4 adds four counts of 16 bytes to that of 04.
 const LENGTHS: [(u8, usize, usize); 10] = [
     (0x01, 12, 0),
     (0x02, 2, 1),
     (0x03, 3, 0),
-    (0x04, 8, 1),
+    (0x04, 8, 65),
     (0x05, 0, 25),
     (0x06, 0, 9),
     (0x07, 2, 0),

@@ -3,11 +3,13 @@
 mod clock;
 mod compare;
 mod controller;
+mod counts;
 mod demand;
 mod dispatcher;
 mod generated;
 mod image;
 mod list;
+mod matches;
 mod originals;
 mod papers;
 mod parked;

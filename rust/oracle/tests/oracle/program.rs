@@ -30,7 +30,9 @@ fn example_of_document_01() {
     let input = [
         0x02, 0x00, 0x02, 0x00, 0x83, 0x04, 0x00, 0x08, 0, 0, 0, 0, 0, 0, 0, 1, 0x0A, 0x00, 0x00, 0xFF,
     ];
-    assert_eq!(printed(&input), "02 01\n04 00\n0a 0000\nend 3 2 19\n");
+    // S-4: "document 01's listing gains 128 zeros on its second line".
+    let zeros = "0".repeat(128);
+    assert_eq!(printed(&input), format!("02 01\n04 00{zeros}\n0a 0000\nend 3 2 19\n"));
 }
 
 #[test]

@@ -5,6 +5,7 @@ use std::collections::BTreeSet;
 use std::fs;
 use std::path::{Path, PathBuf};
 
+use calls::{answers, Answer};
 use oracle::record::{recordings, Coverage};
 
 fn replay() -> PathBuf {
@@ -57,6 +58,28 @@ fn refused_skips_are_recorded_into_full_buffers_and_with_room() {
         let full = rooms.iter().filter(|&&room| room < 12).count();
         assert!(full > 5 && rooms.len() - full > 5, "{name}: {rooms:?}");
     }
+}
+
+#[test]
+fn counts_of_matches_are_recorded() {
+    // 0, 1, up to 2^32 and more, of each channel.
+    let mut seen = [[0; 4]; 4];
+    let mut advances = Vec::new();
+    for record in recordings().iter().flat_map(|recording| &recording.records) {
+        for record in answers(&record.answers) {
+            if let (_, Answer::Advance { matches, .. }) = record.unwrap() {
+                advances.push(matches);
+            }
+        }
+    }
+    for (number, seen) in seen.iter_mut().enumerate() {
+        for count in advances.iter().map(|matches| matches[number]) {
+            seen[[1, 2, (1 << 32) + 1].iter().filter(|limit| count >= **limit).count()] += 1;
+        }
+    }
+    assert!(seen.iter().flatten().all(|&count| count > 10), "{seen:?}");
+    // The last advance of the short buffers: every number, every second one, a one-shot, and none.
+    assert!(advances.contains(&[1 << 64, 1 << 63, 1, 0]));
 }
 
 #[test]

@@ -1,5 +1,5 @@
-//! Document 01's rules for every call, written from its sentences over exact numbers and whole fields; for
-//! register offsets, read values and write effects it points to timing.rs. The board is compared with them.
+//! Document 01's rules for every call, with S-4's counts, written from their sentences over exact numbers and whole
+//! fields; for register offsets, read values and write effects it points to timing.rs. The board is compared with them.
 
 use calls::{Answer, Call};
 use oracle::board::Board;
@@ -20,31 +20,33 @@ fn check_alarm(fields: &mut Fields) {
     }
 }
 
-/// "Ticks reach the channel", for t ticks.
-fn tick(channel: &mut Channel, ticks: u128) {
+/// "Ticks reach the channel", for t ticks. Gives S-4's match: whether the rule sets pending, set before or not.
+fn tick(channel: &mut Channel, ticks: u128) -> bool {
     let counter = u128::from(channel.counter);
     let compare = u128::from(channel.compare);
     let reload = u128::from(channel.reload);
     let disabled = channel.control & !4;
     if ticks == 0 {
-        return;
+        return false;
     }
-    match channel.mode() {
+    let matched = match channel.mode() {
         0 if compare <= counter => {
-            channel.pending = true;
             channel.control = disabled;
+            true
         }
         0 if compare - counter <= ticks => {
-            channel.pending = true;
             channel.control = disabled;
             channel.counter = channel.compare;
+            true
         }
-        0 => channel.counter = (counter + ticks) as u64,
+        0 => {
+            channel.counter = (counter + ticks) as u64;
+            false
+        }
         1 => {
             let counter = (counter + ticks).min(TOP);
             channel.counter = counter as u64;
             if compare <= counter {
-                channel.pending = true;
                 // With reload 0 there is no quotient, and so no next compare.
                 let periods = (counter - compare).checked_div(reload);
                 match periods.map(|periods| compare + (periods + 1) * reload) {
@@ -52,31 +54,45 @@ fn tick(channel: &mut Channel, ticks: u128) {
                     _ => channel.control = disabled,
                 }
             }
+            compare <= counter
         }
         2 => {
             let modulus = TOP + 1;
             let difference = (compare + modulus - counter) % modulus;
             let distance = if difference == 0 { modulus } else { difference };
-            if channel.armed && ticks >= distance {
-                channel.pending = true;
-                channel.armed = false;
-            }
             channel.counter = ((counter + ticks) % modulus) as u64;
+            let reached = channel.armed && ticks >= distance;
+            channel.armed &= !reached;
+            reached
         }
-        _ => {}
+        _ => false,
+    };
+    channel.pending |= matched;
+    matched
+}
+
+/// S-4's count of the compare points that a channel met on a match, from its old compare and its new counter.
+fn points(old: &Channel, new: &Channel) -> u128 {
+    if old.mode() == 1 && old.reload != 0 {
+        u128::from(new.counter - old.compare) / u128::from(old.reload) + 1
+    } else {
+        1
     }
 }
 
-/// The fields after an advance by c cycles.
-fn advance(before: &Fields, cycles: u64) -> Fields {
+/// The fields after an advance by c cycles, and S-4's counts.
+fn advance(before: &Fields, cycles: u64) -> (Fields, [u128; 4]) {
     let mut after = *before;
+    let mut matches = [0; 4];
     let cycles = u128::from(cycles);
     for number in (0..4).filter(|&number| before.runs(number)) {
         let channel = &mut after.channels[number];
         let divisor = u128::from(channel.prescaler) + 1;
         let sum = u128::from(channel.phase) + cycles;
         channel.phase = (sum % divisor) as u32;
-        tick(channel, sum / divisor);
+        if tick(channel, sum / divisor) {
+            matches[number] = points(&before.channels[number], channel);
+        }
     }
     if before.clock_enabled() && !before.realtime() && cycles > 0 {
         let sum = u128::from(before.subsecond) + cycles;
@@ -99,7 +115,7 @@ fn advance(before: &Fields, cycles: u64) -> Fields {
         after.poll = 0;
         check_alarm(&mut after);
     }
-    after
+    (after, matches)
 }
 
 /// A control change, as in `write_rtc_control`.
@@ -341,7 +357,7 @@ fn skip(before: &Fields) -> (u64, Fields) {
     match deadline::exact(before) {
         Some(exact) if !before.line() => {
             let passed = u64::try_from(exact).expect("a larger D is refused");
-            (passed, advance(before, passed))
+            (passed, advance(before, passed).0)
         }
         _ => (0, *before),
     }
@@ -385,8 +401,12 @@ pub fn carry_out(before: &Fields, call: Call) -> (Answer, Fields) {
         }
         Call::Write { address, byte } => after = write(before, address, byte),
         Call::Advance { cycles } => {
-            after = advance(before, cycles);
-            answer = Answer::Line(after.line());
+            let (fields, matches) = advance(before, cycles);
+            after = fields;
+            answer = Answer::Advance {
+                line: after.line(),
+                matches,
+            };
         }
         Call::Deadline => {
             let exact = deadline::exact(before);
@@ -420,18 +440,17 @@ pub fn carry_out(before: &Fields, call: Call) -> (Answer, Fields) {
     (answer, after)
 }
 
-/// Compares the board's refusal, answer and fields with the rules; gives the refusal's number and the fields.
-fn compare(fields: &Fields, call: Call) -> (u8, Fields) {
+/// Compares the board's refusal, answer and fields with the rules, and gives them.
+fn compare(fields: &Fields, call: Call) -> (u8, Answer, Fields) {
     let mut board = Board::from_fields(fields);
     let reply = board.call(call);
-    let (refusal, after) = (number(&reply), board.fields());
-    let given = (refusal, reply.answer, after);
+    let given = (number(&reply), reply.answer, board.fields());
     assert_eq!(given, direct(fields, call), "{fields:?} {call:?}");
-    (refusal, after)
+    given
 }
 
 /// Cycles about a channel's tick, its match or the end of a second, or any number.
-fn some_cycles(random: &mut Random, fields: &Fields) -> u64 {
+pub fn some_cycles(random: &mut Random, fields: &Fields) -> u64 {
     let channel = fields.channels[random.below(4) as usize];
     let divisor = u64::from(channel.prescaler) + 1;
     let ticks = channel.compare.wrapping_sub(channel.counter);
@@ -448,20 +467,30 @@ fn some_cycles(random: &mut Random, fields: &Fields) -> u64 {
 
 #[test]
 fn advance_follows_the_rules() {
-    let mut matches = [0; 4];
+    // By mode: matches that set pending anew, and matches of a channel that was pending. Then, in mode 1, counts of more
+    // than 1, 2^32 and 2^63.
+    let (mut rises, mut again, mut large) = ([0; 4], [0; 4], [0; 3]);
     for (mut random, fields) in sound_boards(150_000) {
         let cycles = some_cycles(&mut random, &fields);
-        let (_, after) = compare(&fields, Call::Advance { cycles });
-        for number in 0..4 {
+        let (_, answer, after) = compare(&fields, Call::Advance { cycles });
+        let Answer::Advance { matches, .. } = answer else {
+            panic!("{answer:?}")
+        };
+        for (number, count) in matches.into_iter().enumerate() {
             let (old, new) = (fields.channels[number], after.channels[number]);
-            matches[usize::from(old.mode())] += usize::from(!old.pending && new.pending);
+            let mode = usize::from(old.mode());
+            rises[mode] += usize::from(!old.pending && new.pending);
+            again[mode] += usize::from(old.pending && count > 0);
+            for (limit, seen) in [1, 1 << 32, 1 << 63].into_iter().zip(&mut large) {
+                *seen += usize::from(count > limit);
+            }
         }
     }
     // Mode 3 never sets pending.
-    assert!(
-        matches[..3].iter().all(|&count| count > 1_000) && matches[3] == 0,
-        "{matches:?}"
-    );
+    let all = |seen: &[usize], least: usize| seen.iter().all(|&count| count > least);
+    assert!(all(&rises[..3], 1_000) && rises[3] == 0, "{rises:?}");
+    assert!(all(&again[..3], 100) && again[3] == 0, "{again:?}");
+    assert!(all(&large, 100), "{large:?}");
 }
 
 #[test]
@@ -470,8 +499,8 @@ fn every_call_follows_the_rules() {
     for (mut random, fields) in sound_boards(400_000) {
         let call = random.call();
         match compare(&fields, call) {
-            (0, _) => accepted[usize::from(call.tag())] += 1,
-            (number, _) => refused[usize::from(number)] += 1,
+            (0, ..) => accepted[usize::from(call.tag())] += 1,
+            (number, ..) => refused[usize::from(number)] += 1,
         }
     }
     assert!(accepted[1..].iter().all(|&count| count > 10_000), "{accepted:?}");

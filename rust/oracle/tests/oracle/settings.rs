@@ -31,6 +31,11 @@ fn written(count: usize) -> Vec<u8> {
     [0x03, 0, 0].repeat(count)
 }
 
+/// The record of an advance: the line, and S-4's counts.
+fn advance_record(line: u8, matches: [u128; 4]) -> Vec<u8> {
+    [&[0x04, 0, 65, line][..], &matches.map(u128::to_be_bytes).concat()].concat()
+}
+
 fn deadline_record(exact: u128, capped: u64) -> Vec<u8> {
     [&[0x05, 0, 25, 1][..], &exact.to_be_bytes(), &capped.to_be_bytes()].concat()
 }
@@ -48,8 +53,8 @@ fn a_one_shot_with_prescaler() {
     let expected = [
         &written(4)[..],
         &deadline_record(30, 30),
-        &[0x04, 0, 1, 0],
-        &[0x04, 0, 1, 1],
+        &advance_record(0, [0; 4]),
+        &advance_record(1, [1, 0, 0, 0]),
         &[0x08, 0, 1, 8],
     ];
     assert_eq!(answers(&calls), expected.concat());
@@ -122,8 +127,9 @@ fn f_alarm_after_two_seconds() {
     let expected = [
         &written(9)[..],
         &deadline_record(96_000_000, 96_000_000),
-        &[0x04, 0, 1, 0],
-        &[0x04, 0, 1, 1],
+        // The alarm is no channel's match.
+        &advance_record(0, [0; 4]),
+        &advance_record(1, [0; 4]),
     ];
     assert_eq!(answers(&calls), expected.concat());
 }

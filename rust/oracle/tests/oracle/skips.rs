@@ -4,7 +4,7 @@ use calls::{list_of, Answer, Call, Outcome, Refusal};
 use oracle::board::Board;
 use oracle::compare::parked::{Parking, RULES};
 use oracle::compare::skips::{lists, parked, starts};
-use oracle::compare::{Pair, Runner};
+use oracle::compare::Runner;
 use oracle::deadline;
 use oracle::image::{park_fresh, run_parked};
 use oracle::list::{run, run_repeated};
@@ -65,20 +65,17 @@ const FAULTS: [(&str, Fault); 7] = [
     }),
 ];
 
-/// A run of the Rust but for a fault of its skips.
-fn run_with(fault: Fault, board: &mut Board, list: &[u8], answers: &mut [u8]) -> Outcome {
-    let mut total = Outcome::default();
-    while total.list_bytes < list.len() && total.refusal.is_none() {
-        let rest = &list[total.list_bytes..];
-        let room = &mut answers[total.answer_bytes..];
-        let used = Call::decode(rest).map_or(rest.len(), |(_, used)| used);
-        let given = if rest.starts_with(&Call::Skip.encode()) {
+/// The Rust but for the fault, of a number, of its skips.
+fn faulty<const FAULT: usize>(first: &[u8], list: &[u8], times: u64, answers: &mut [u8]) -> Outcome {
+    let (_, fault) = FAULTS[FAULT];
+    call_by_call(first, list, times, answers, |board, call, room| {
+        let given = if call == Call::Skip.encode() {
             fault(board, room.len())
         } else {
             None
         };
-        let one = match given {
-            None => run(board, &rest[..used], room),
+        match given {
+            None => run(board, call, room),
             Some(Err(refusal)) => Outcome {
                 refusal: Some(refusal),
                 ..Outcome::default()
@@ -87,36 +84,13 @@ fn run_with(fault: Fault, board: &mut Board, list: &[u8], answers: &mut [u8]) ->
                 answer.store(Call::Skip.tag(), &mut room[..RECORD]);
                 Outcome {
                     calls: 1,
-                    list_bytes: used,
+                    list_bytes: call.len(),
                     answer_bytes: RECORD,
                     refusal: None,
                 }
             }
-        };
-        total.calls += one.calls;
-        total.list_bytes += one.list_bytes;
-        total.answer_bytes += one.answer_bytes;
-        total.refusal = one.refusal;
-    }
-    total
-}
-
-/// The Rust but for the fault of a number.
-fn faulty<const FAULT: usize>(first: &[u8], list: &[u8], times: u64, answers: &mut [u8]) -> Outcome {
-    let (_, fault) = FAULTS[FAULT];
-    let mut board = Board::fresh();
-    let mut outcome = run_with(fault, &mut board, first, answers);
-    for _ in 0..times {
-        outcome = run_with(fault, &mut board, list, answers);
-    }
-    outcome
-}
-
-fn pair(other: Runner) -> Pair {
-    Pair {
-        rust: run_repeated,
-        other,
-    }
+        }
+    })
 }
 
 #[test]

@@ -2,9 +2,10 @@
 
 use calls::{Answer, Call, Outcome, Refusal};
 use oracle::board::{Board, Reply};
+use oracle::compare::{Pair, Runner};
 use oracle::fields::Fields;
 use oracle::generate::Random;
-use oracle::list::run;
+use oracle::list::{run, run_repeated};
 
 /// Cycles a second and cycles from poll to poll, as document 01 gives them.
 pub const F: u32 = 48_000_000;
@@ -36,12 +37,17 @@ pub fn accepted(board: &mut Board, call: Call) -> Answer {
     reply.answer
 }
 
-/// The line after an advance.
-pub fn advance(board: &mut Board, cycles: u64) -> bool {
+/// The line after an advance, and its counts of matches.
+pub fn advanced(board: &mut Board, cycles: u64) -> (bool, [u128; 4]) {
     match accepted(board, Call::Advance { cycles }) {
-        Answer::Line(line) => line,
+        Answer::Advance { line, matches } => (line, matches),
         other => panic!("{other:?}"),
     }
+}
+
+/// The line after an advance.
+pub fn advance(board: &mut Board, cycles: u64) -> bool {
+    advanced(board, cycles).0
 }
 
 pub fn read(board: &mut Board, address: u16) -> u8 {
@@ -114,6 +120,40 @@ pub fn run_fresh(list: &[u8]) -> (Outcome, Vec<u8>, Board) {
     let outcome = run(&mut board, list, &mut buffer);
     buffer.truncate(outcome.answer_bytes);
     (outcome, buffer, board)
+}
+
+/// The Rust, and what is compared with it.
+pub fn pair(other: Runner) -> Pair {
+    Pair {
+        rust: run_repeated,
+        other,
+    }
+}
+
+/// A list over a fresh board, and then a second so many times, as a `Runner` has it, by a function that runs one call
+/// into the rest of the buffer. What is no whole call is given to it too.
+pub fn call_by_call(
+    first: &[u8],
+    list: &[u8],
+    times: u64,
+    answers: &mut [u8],
+    one: impl Fn(&mut Board, &[u8], &mut [u8]) -> Outcome,
+) -> Outcome {
+    let mut board = Board::fresh();
+    let mut run_list = |list: &[u8]| {
+        let mut total = Outcome::default();
+        while total.list_bytes < list.len() && total.refusal.is_none() {
+            let rest = &list[total.list_bytes..];
+            let used = Call::decode(rest).map_or(rest.len(), |(_, used)| used);
+            total = total.then(one(&mut board, &rest[..used], &mut answers[total.answer_bytes..]));
+        }
+        total
+    };
+    let mut outcome = run_list(first);
+    for _ in 0..times {
+        outcome = run_list(list);
+    }
+    outcome
 }
 
 /// Random sound boards, the same each time.
