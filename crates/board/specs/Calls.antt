@@ -164,8 +164,8 @@ deadlineCall b =
 
 -- ---- 06 skip. Skip is document 01's term
 
--- 'with the line high or no D, it makes no advance, changes nothing and passes 0'; else it advances once by D and passes
--- that: the cycles of its advance, or none
+-- 'with the line high or no D, it makes no advance, changes nothing and passes 0'; else it advances once by D and
+-- passes that: the cycles of its advance, or none
 abbrev pub skipLength : Board → Option ℕ
 skipLength b = cond (line b) none (exactDeadline b)
 
@@ -177,8 +177,8 @@ abbrev pub lengthRefusal : Option ℕ → ℕ
 lengthRefusal none = 0
 lengthRefusal (some d) = cond (ltb largest d) deadlineTooLarge 0
 
--- S-2: 'A skip with the line low whose D is above 2^64 − 1 is now refused'; '13, D too large for one skip'. This refusal
--- depends on the board
+-- S-2: 'A skip with the line low whose D is above 2^64 − 1 is now refused'; '13, D too large for one skip'. This
+-- refusal depends on the board
 abbrev pub skipRefusal : Board → ℕ
 skipRefusal b = lengthRefusal (skipLength b)
 

@@ -76,8 +76,8 @@ pub struct DeadlineMembers {
     pub word: Cycles,
 }
 
-// An advance that may be refused or not made: its refusal, 0 for none; whether it is made, and its cycles, 0 where it is
-// not.
+// An advance that may be refused or not made: its refusal, 0 for none; whether it is made, and its cycles, 0 where it
+// is not.
 pub struct Passing {
     pub refusal: u8,
     pub made: bool,

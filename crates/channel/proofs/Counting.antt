@@ -1,6 +1,6 @@
 -- The compare points that an advance meets, by the rules of a channel's modes. Assumes nothing.
-use Prim.Native.Nat.{ℕ, zero, suc, _+_, _-_, _%_, _≤_, _<_, min}
-use mathlib.Core.Path.{_≡_, refl, sym, ap, _∙_}
+use Prim.Native.Nat.{ℕ, _+_, _-_, _≤_, _<_, min}
+use mathlib.Core.Path.{_≡_, refl, ap, _∙_}
 use mathlib.Core.Logic.{_≢_}
 use mathlib.Core.Bool.{Bool, true, false, cond, _&&_}
 use lib.Dec.{leb, ltb, eqb}
@@ -9,7 +9,17 @@ use Rattle.wide.specs.Number.{largest}
 use Rattle.wide.proofs.Choices.{choose}
 use Rattle.channel.specs.declared.HardwareTimer.{HardwareTimer}
 use Rattle.channel.specs.Channel.{modeOf, withCounter, withPhase, withFlags}
-use Rattle.channel.specs.Modes.{nextCompare, oneShot, reloaded, matched, periodic, distance, freeRunning, tickedIn, ticked}
+use Rattle.channel.specs.Modes.{
+  nextCompare,
+  oneShot,
+  reloaded,
+  matched,
+  periodic,
+  distance,
+  freeRunning,
+  tickedIn,
+  ticked,
+}
 use Rattle.channel.specs.Prescaler.{ticksOf, phaseAfter, runs, advanced}
 use Rattle.channel.specs.Matches.{pointsMet, matchesIn, matchesOf}
 

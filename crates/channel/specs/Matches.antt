@@ -11,8 +11,8 @@ use Rattle.channel.specs.Prescaler.{advanced}
 abbrev pub matchedBy : (HardwareTimer → HardwareTimer) → HardwareTimer → Bool
 matchedBy rule h = rule (withFlags false (h .armed) h) .pending
 
--- on a match: 'In mode 1 that is floor((counter − compare) / reload) + 1 .. with the old compare and the new counter, or
--- 1 with reload 0. In modes 0 and 2 it is 1'. Here the channel is the old one
+-- on a match: 'In mode 1 that is floor((counter − compare) / reload) + 1 .. with the old compare and the new counter,
+-- or 1 with reload 0. In modes 0 and 2 it is 1'. The channel is the one before the advance
 unfoldable pub pointsMet : ℕ → ℕ → HardwareTimer → ℕ
 pointsMet mode counter h =
     cond (eqb mode 1) (cond (eqb (h .reload) 0) 1 (pointsTo counter (h .compare) (h .reload))) 1

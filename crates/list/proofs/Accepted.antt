@@ -243,7 +243,8 @@ module _ (l : List ℕ) (b : Board) (at : ℕ) (buf : List ℕ) where
           (stays (tagAt l) (argumentsOf (tagAt l) l) b z skip k p e t f y h [])
         where
           skip-counts : p .made ≡ false → countsPut (tagAt l) at [] buf ≡ buf
-          skip-counts f = counts-none (tagAt l) at buf [] (no-advance (tagAt l) (argumentsOf (tagAt l) l) b z skip k p e t f)
+          skip-counts f =
+              counts-none (tagAt l) at buf [] (no-advance (tagAt l) (argumentsOf (tagAt l) l) b z skip k p e t f)
 
     pub deadline-carried : tagAt l ≡ 5 → y ≡ b → valueBytes a ≡ answerBytes 5 (deadlineCall b .members) → moved ≡ true →
         buf′ ≡ buf → Carried y c moved a buf′
@@ -285,8 +286,8 @@ module _ (l : List ℕ) (b : Board) (at : ℕ) (buf : List ℕ) (y : Board) (c :
 
 -- ---- source 3 is set where the line can have moved
 
-module _ (l : List ℕ) (b : Board) (at : ℕ) (buf : List ℕ) (y : Board) (c : ℕ) (moved : Bool) (a : Answer) (buf′ : List ℕ)
-    (k : Carried l b at buf y c moved a buf′) where
+module _ (l : List ℕ) (b : Board) (at : ℕ) (buf : List ℕ) (y : Board) (c : ℕ) (moved : Bool) (a : Answer)
+    (buf′ : List ℕ) (k : Carried l b at buf y c moved a buf′) where
   pub wired-after : moved ≡ true → (v : Bool) → v ≡ line y → (q : IrqController) → q ≡ sourceSet (y .controller) 3 v →
       (z : Board) → z ≡ withController q y → z ≡ boardAfter (callAt l b)
   unfolding wired

@@ -144,8 +144,8 @@ fn refused(refusal: u8) -> Front
     }
 }
 
-// The call at the front, on a board and with so much room for its answer. The list's bytes and the room do not say alone
-// whether it is refused: a skip's own refusal, which comes before 11, depends on the board.
+// The call at the front, on a board and with so much room for its answer. The list's bytes and the room do not say
+// alone whether it is refused: a skip's own refusal, which comes before 11, depends on the board.
 pub fn front_of(board: Board, rest: &[u8], room: usize) -> Front
     requires { ⌜ sound board ≡ true ⌝ }
     ensures { λ r. ⌜ FrontFound board (now (rest .entry)) room r ⌝ }
@@ -229,7 +229,7 @@ pub fn put_met(buf: &mut [u8], at: usize, tag: u8, i: usize, matches: Wide)
     }
 }
 
-// Writes the answer's record from index at on; `size` is the bytes of its members. Of an advance it writes the line, and
+// Writes the answer's record from index at on; `size` is the bytes of its members. Of an advance it writes the line:
 // its counts have been written with the advance.
 pub fn put_answer(
     buf: &mut [u8],

@@ -21,7 +21,11 @@ returns : tie.Need-returns
 returns c =
     let s = c .before .before .before .before .before .before .before .before .before .before .before in
     let a = s .args in
-    rw (c .before .before .put2 .ensures, c .before .before .before .before .before .before .before .before .put .ensures)
+    rw (
+      c .before .before .put2 .ensures,
+      c .before .before .before .before .before .before .before .before .put
+          .ensures,
+    )
     (count-whole (a .buf .now) (a .at) (a .count) (search needs) (s .pre .1))
 
 same-length-2 : tie.Need-same-length-2
@@ -31,7 +35,8 @@ returns-2 : tie.Need-returns-2
 returns-2 c =
     let s = c .before .before .before .before .before .before .before in
     let a = s .args in
-    c .before .before .before .before .put .ensures ∙ count-low (a .buf .now) (a .at) (a .count) (search needs) (s .pre .1) (c .if1 .left)
+    c .before .before .before .before .put .ensures ∙ count-low (a .buf .now) (a .at) (a .count) (search needs) (s
+    .pre .1) (c .if1 .left)
 
 pub put-count-spec : {M : Type 1} → statement M
 put-count-spec =

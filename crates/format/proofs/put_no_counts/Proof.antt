@@ -39,17 +39,32 @@ same-length c = search needs
 
 returns : tie.Need-returns
 returns c =
-    let a = c .before .before .before .before .before .before .before .before .before .before .before .before .before .before .before .before .before .before .args in
+    let a = c .before .before .before .before .before .before .before .before .before .before .before .before
+    .before .before .before .before .before .before .args in
     rw (
       c .before .before .put-wide4 .ensures,
       c .before .before .before .before .before .before .put-wide3 .ensures,
       c .before .before .before .before .before .before .before .before .before .before .put-wide2 .ensures,
-      c .before .before .before .before .before .before .before .before .before .before .before .before .before .before .put-wide .ensures,
-      c .before .before .before .before .before .before .before .before .before .before .before .before .before .before .before .before .from-word .ensures,
+      c .before .before .before .before .before .before .before .before .before .before .before .before .before
+          .before .put-wide .ensures,
+      c .before .before .before .before .before .before .before .before .before .before .before .before .before
+          .before .before .before .from-word .ensures,
     )
     (four-wides (a .buf .now) (a .at) 0 0 0 0)
 
 pub put-no-counts-spec : {M : Type 1} → statement M
 put-no-counts-spec =
     tie.close
-    (tie.spec from-word-requires put-wide-requires add-put-wide put-wide-requires-2 mul-put-wide add-put-wide-2 put-wide-requires-3 mul-put-wide-2 add-put-wide-3 put-wide-requires-4 same-length returns)
+    (tie.spec
+    from-word-requires
+    put-wide-requires
+    add-put-wide
+    put-wide-requires-2
+    mul-put-wide
+    add-put-wide-2
+    put-wide-requires-3
+    mul-put-wide-2
+    add-put-wide-3
+    put-wide-requires-4
+    same-length
+    returns)

@@ -227,8 +227,7 @@ answer-inside u =
     written-inside _ _ _ _ _ _ _ _ (u .before .before .before .before .before .loop .inv)
     (u .before .before .before .before .loop-test .taken) _ (rest-is u) _ (found-at u)
 
--- the buffer where the arms meet has the length that it had, and the board, the answer and the buffer are those of the
--- call
+-- where the arms of the match meet, the board, the answer and the buffer are those of the call
 carried : (c : Met) →
     Carried (restOf (c .before .before)) (boardOf (c .before .before)) (writtenOf (c .before .before))
     (answersOf (c .before .before)) (c .match .b) (c .match .cycles .0) (c .match .moved) (c .match .answer)
@@ -301,8 +300,8 @@ board-set : (j : Set) →
 board-set j =
     let k = carried (j .before) in
     elim (j .if6 .came) [
-      | inl u ↦ wired-after _ _ _ _ _ _ _ _ _ k (u .0 .taken) (u .1 .result) (u .1 .ensures) (u .2 .result) (u .2 .ensures) _
-          (u .3)
+      | inl u ↦ wired-after _ _ _ _ _ _ _ _ _ k (u .0 .taken) (u .1 .result) (u .1 .ensures) (u .2 .result)
+          (u .2 .ensures) _ (u .3)
       | inr u ↦ still-after _ _ _ _ _ _ _ _ _ k (u .0 .left) _ (u .1)
     ]
 
@@ -317,7 +316,8 @@ record-set : (j : Set) →
     (answerBytes (tagAt (restOf (j .before .before .before)))
     (callAt (restOf (j .before .before .before)) (boardOf (j .before .before .before)) .members)))
 record-set j =
-    record-written _ _ _ _ _ _ _ _ _ (carried (j .before)) _ (found-at (j .before .before .before) .size) (j .if6 .line)
+    record-written _ _ _ _ _ _ _ _ _ (carried (j .before)) _ (found-at (j .before .before .before) .size) (j .if6
+    .line)
     (line-set j)
 
 sound-requires : tie.Need-sound-requires Inv-loop2 μ-loop2 Inv-loop μ-loop
@@ -392,7 +392,8 @@ plain-requires c κs = tt
 
 plain-at-requires : tie.Need-plain-at-requires Inv-loop2 μ-loop2 Inv-loop μ-loop
 plain-at-requires c κs =
-    let o = c .before .before .before .before .before .before .before .before .before .before .before .before .loop in (
+    let o = c .before .before .before .before .before .before .before .before .before .before .before .before
+    .loop in (
       sym (c .before .plain .ensures) ∙ c .if3 .taken,
       sound-times _ (o .inv .fits .clock) (o .inv .sound),
       ap (λ (j : ℕ). channelAt j (o .b)) (c .before .before .before .channel-index .ensures .0),
@@ -400,7 +401,8 @@ plain-at-requires c κs =
 
 reading-at-requires : tie.Need-reading-at-requires Inv-loop2 μ-loop2 Inv-loop μ-loop
 reading-at-requires c κs =
-    let o = c .before .before .before .before .before .before .before .before .before .before .before .before .loop in (
+    let o = c .before .before .before .before .before .before .before .before .before .before .before .before
+    .loop in (
       sound-times _ (o .inv .fits .clock) (o .inv .sound),
       ap (λ (j : ℕ). channelAt j (o .b)) (c .before .before .before .channel-index .ensures .0),
     )
@@ -480,9 +482,11 @@ put-unmet-requires c κs e = counts-inside (c .before .before .before .before .b
 
 loop2-holds : tie.Need-loop2-holds Inv-loop2 μ-loop2 Inv-loop μ-loop
 loop2-holds c =
-    let i = c .before .before .before .before .before .before .before .before .before .before .before .before .before .before .loop .inv in (
+    let i = c .before .before .before .before .before .before .before .before .before .before .before .before
+    .before .before .loop .inv in (
       begins _ _ _ (i .fits .four) (sound-facts _ (i .sound) .timers),
-      counts-begin _ _ _ _ (boardOf (c .before .before .before .before .before .before .before .before .before)) (i .fits .four) _ _ (c .before .before .put-unmet .ensures),
+      counts-begin _ _ _ _ (boardOf (c .before .before .before .before .before .before .before .before .before)) (i
+          .fits .four) _ _ (c .before .before .put-unmet .ensures),
     )
 
 mul-timer-2 : tie.Need-mul-timer-2 Inv-loop2 μ-loop2 Inv-loop μ-loop
@@ -501,7 +505,9 @@ runs-requires : tie.Need-runs-requires Inv-loop2 μ-loop2 Inv-loop μ-loop
 runs-requires c κs = tt
 
 advance-cycles-requires : tie.Need-advance-cycles-requires Inv-loop2 μ-loop2 Inv-loop μ-loop
-advance-cycles-requires c κs = next-phase _ _ _ _ _ (c .before .before .before .before .before .loop2 .inv .0) (c .before .before .before .before .loop2-test .taken)
+advance-cycles-requires c κs =
+    next-phase _ _ _ _ _ (c .before .before .before .before .before .loop2 .inv .0)
+    (c .before .before .before .before .loop2-test .taken)
 
 mul-timer-after-2 : tie.Need-mul-timer-after-2 Inv-loop2 μ-loop2 Inv-loop μ-loop
 mul-timer-after-2 c = omega (arith, c .before .before .before .before .before .before .loop2-test .taken)
@@ -513,8 +519,10 @@ put-met-requires : tie.Need-put-met-requires Inv-loop2 μ-loop2 Inv-loop μ-loop
 put-met-requires c κs =
     let l = c .before .before .before .before .before .before .before .before .before .loop2 in
     let h = c .before .before .before .before .before .before .before .before .loop2-test .taken in
-    let u = c .before .before .before .before .before .before .before .before .before .before .before .before .before .before .before .before .before .before .before in
-    let n = counts-same _ _ _ _ _ _ _ (l .inv .0) _ _ (l .inv .1) _ (c .before .before .before .before .before .before .before .before .before .before .before .before .put-unmet .ensures) in (
+    let u = c .before .before .before .before .before .before .before .before .before .before .before .before
+    .before .before .before .before .before .before .before in
+    let n = counts-same _ _ _ _ _ _ _ (l .inv .0) _ _ (l .inv .1) _ (c .before .before .before .before .before
+    .before .before .before .before .before .before .before .put-unmet .ensures) in (
       h,
       λ e. (
         omega (arith, counts-inside u e, n),
@@ -547,7 +555,8 @@ loop2-again c =
 
 advance-requires : tie.Need-advance-requires Inv-loop2 μ-loop2 Inv-loop μ-loop
 advance-requires c κs =
-    let i = c .before .before .before .before .before .before .before .before .before .before .before .before .before .before .before .before .before .loop .inv in
+    let i = c .before .before .before .before .before .before .before .before .before .before .before .before
+    .before .before .before .before .before .loop .inv in
     still-timed _ _ _ _ _ (c .before .before .loop2 .inv .0) (sound-times _ (i .fits .clock) (i .sound))
 
 deadline-requires : tie.Need-deadline-requires Inv-loop2 μ-loop2 Inv-loop μ-loop

@@ -1,6 +1,6 @@
 -- `put_unmet` meets its contract. Assumes nothing.
 use native.Mathlib.Omega.{arith}
-use mathlib.Core.Path.{sym, _∙_}
+use mathlib.Core.Path.{sym}
 use borrow.Author.Tests.{ne-eqb}
 use Rattle.perform.specs.CodeCalls.{countsPut}
 use Rattle.perform.proofs.Counts.{counts-none}

@@ -1,6 +1,6 @@
 -- `HardwareTimer::advance_free_running` meets its contract. Assumes nothing.
-use mathlib.Core.Path.{_≡_, refl, sym, _∙_}
-use mathlib.Core.Bool.{true, false, _&&_}
+use mathlib.Core.Path.{_≡_, sym, _∙_}
+use mathlib.Core.Bool.{false, _&&_}
 use mathlib.Core.Logic.{inl, inr}
 use lib.Dec.{leb}
 use Rattle.channel.specs.Modes.{distance, freeRunning}

@@ -1,5 +1,5 @@
 -- `HardwareTimer::reloaded` meets its contract. Assumes nothing.
-use mathlib.Core.Path.{_≡_, sym, ap, _∙_}
+use mathlib.Core.Path.{sym, ap, _∙_}
 use Prim.Native.Nat.{ℕ}
 use native.Mathlib.Nat.{pos-of-ne-zero, mod-lt, le-of-lt}
 use native.Mathlib.Omega.{arith}
