@@ -261,14 +261,14 @@ settings =
 
 pub settings-hold : settings ≡ true
 unfolding
-    skipped seconds settingI settingJ lowCount steady worked gives same settings beAt be withByte enabledOf irqEnabledOf
-    disabled soundTimer lineOf advanced pointsMet matchesIn oneShot reloaded matched periodic distance
-    freeRunning tickedIn ticked ticksToGo deadlineOf wordOf controlWritten channelWritten shifted
-    ownNanoseconds timeOf timeSeconds alarmReached checkAlarm movedTime endAdvance advanceClock soundOffset soundAlarm clockParts alarmAhead soundClock
-    clockDeadline signedDifference setTime timeKept changeControl writeControl marked shadowByte offsetFor
-    commitSeconds writeSeconds timeNanoseconds withBit without sourceSet outputOf lowestFrom byteWritten
-    pendingCleared mapFrom foldFrom line exactDeadline wired soundParts sound answerOf movedBoard
-    advancedBoard timerWord clockWord liveWord readLive readCountHigh readChannel secondsLatched readLow
-    readHigh readAt timerWritten clockWritten writtenAt addressRefusal membersAt
-    frameRefusal membersBytes recordOf callOf refusalAt turnOf stepped runOn runOf
+    skipped seconds settingI settingJ lowCount steady worked gives same settings beAt be withByte enabledOf
+    irqEnabledOf disabled soundTimer lineOf advanced pointsMet matchesIn oneShot reloaded matched periodic distance
+    freeRunning tickedIn ticked ticksToGo deadlineOf wordOf controlWritten channelWritten shifted ownNanoseconds
+    timeOf timeSeconds alarmReached checkAlarm movedTime endAdvance advanceClock soundOffset soundAlarm clockParts
+    alarmAhead soundClock clockDeadline signedDifference setTime timeKept changeControl writeControl marked shadowByte
+    offsetFor commitSeconds writeSeconds timeNanoseconds withBit without sourceSet outputOf lowestFrom byteWritten
+    pendingCleared mapFrom foldFrom line exactDeadline wired soundParts sound answerOf movedBoard advancedBoard
+    timerWord clockWord liveWord readLive readCountHigh readChannel secondsLatched readLow readHigh readAt
+    timerWritten clockWritten writtenAt addressRefusal membersAt frameRefusal membersBytes recordOf callOf refusalAt
+    turnOf stepped runOn runOf
 settings-hold = refl
