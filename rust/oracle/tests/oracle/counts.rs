@@ -197,26 +197,7 @@ fn the_rust_agrees_with_itself_on_counts() {
 
 #[test]
 fn faults_of_counts_are_found() {
-    let faulty: [Runner; FAULTS.len()] = [
-        faulty::<0>,
-        faulty::<1>,
-        faulty::<2>,
-        faulty::<3>,
-        faulty::<4>,
-        faulty::<5>,
-        faulty::<6>,
-        faulty::<7>,
-        faulty::<8>,
-        faulty::<9>,
-        faulty::<10>,
-        faulty::<11>,
-        faulty::<12>,
-        faulty::<13>,
-        faulty::<14>,
-        faulty::<15>,
-        faulty::<16>,
-        faulty::<17>,
-    ];
+    let faulty: [Runner; FAULTS.len()] = runners!(faulty: 0 1 2 3 4 5 6 7 8 9 10 11 12 13 14 15 16 17);
     for ((name, _), runner) in FAULTS.into_iter().zip(faulty) {
         let difference = lists(&pair(runner)).expect_err(name);
         // The shortest list that shows it is one of advances.

@@ -129,15 +129,7 @@ fn the_rust_agrees_with_itself_on_skips() {
 
 #[test]
 fn faults_of_skips_are_found() {
-    let faulty: [Runner; FAULTS.len()] = [
-        faulty::<0>,
-        faulty::<1>,
-        faulty::<2>,
-        faulty::<3>,
-        faulty::<4>,
-        faulty::<5>,
-        faulty::<6>,
-    ];
+    let faulty: [Runner; FAULTS.len()] = runners!(faulty: 0 1 2 3 4 5 6);
     for ((name, _), runner) in FAULTS.into_iter().zip(faulty) {
         let difference = lists(&pair(runner)).expect_err(name);
         // The shortest list that shows it skips, or the one after it does.

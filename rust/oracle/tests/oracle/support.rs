@@ -30,6 +30,12 @@ pub const CALLS: [Call; 10] = [
     Call::Output,
 ];
 
+/// The runners of a function over the numbers of faults.
+macro_rules! runners {
+    ($faulty:ident: $($number:literal)*) => { [$($faulty::<$number>),*] };
+}
+pub(crate) use runners;
+
 /// The answer of a call that must be accepted.
 pub fn accepted(board: &mut Board, call: Call) -> Answer {
     let reply = board.call(call);
