@@ -5,6 +5,7 @@ use native.Mathlib.Nat.{
   mul-add-div-right,
   div-eq-of-lt-le,
   div-mul-le-self,
+  div-le-self,
   div-eq-of-lt,
   mul-le-mul,
   add-assoc,
@@ -298,6 +299,33 @@ running-count : (selected : Bool) (c : ℕ) (h : HardwareTimer) → runs selecte
     matchesOf selected c h ≡ met (ticksOf c h) h
 running-count selected c h r =
     ran-matches selected c h r ∙ ticked-count (ticksOf c h) (withPhase (phaseAfter c h) h)
+
+-- 'A count can reach 2^64', and is no more
+abbrev Most : ℕ → Type 0
+Most n = n ≤ 2 ^ 64
+
+up-to-most : (n k r : ℕ) → n ≤ largest → upTo n k r ≤ 2 ^ 64
+unfolding upTo
+up-to-most n k r l =
+    choose Most (leb k n)
+    (λ _. choose Most (eqb r 0) (λ _. omega arith) (λ _. omega (arith, div-le-self (n - k) r)))
+    (λ _. omega arith)
+
+counted-most : (m t n k r : ℕ) (armed : Bool) → counted m t n k r armed ≤ 2 ^ 64
+unfolding counted
+counted-most zero t n k r armed = choose Most (leb k (n + t)) (λ _. omega arith) (λ _. omega arith)
+counted-most (suc zero) t n k r armed = up-to-most (min (n + t) largest) k r (omega arith)
+counted-most (suc (suc zero)) t n k r armed =
+    choose Most (armed && leb (distance n k) t) (λ _. omega arith) (λ _. omega arith)
+counted-most (suc (suc (suc m))) t n k r armed = omega arith
+
+pub matches-most : (selected : Bool) (c : ℕ) (h : HardwareTimer) → matchesOf selected c h ≤ 2 ^ 64
+matches-most selected c h =
+    either (runs selected h)
+    (λ e. rw (running-count selected c h e)
+    (choose Most (eqb (ticksOf c h) 0) (λ _. omega arith)
+    (λ _. counted-most (modeOf (h .control)) (ticksOf c h) (h .counter) (h .compare) (h .reload) (h .armed))))
+    (λ e. rw (still-matches selected c h e) (omega arith))
 
 module _ (selected : Bool) (c d : ℕ) (h : HardwareTimer) (f : TimerFits h) where
   -- the counts of two advances, one after the other, are the count of one
