@@ -41,6 +41,7 @@ use Rattle.board.specs.Calls.{
 use Rattle.board.specs.Loops.{mapFrom}
 use Rattle.board.specs.CodeCalls.{deadlineGiven, matchesGiven, passingNone, passingOf}
 use Rattle.board.specs.Demand.{Promise}
+use Rattle.board.proofs.Loops.{by-four}
 use Rattle.board.proofs.Soundness.{wired-sound}
 use Rattle.board.proofs.Steps.{wired-line}
 use Rattle.board.proofs.Demand3.{demand-3}
@@ -86,12 +87,12 @@ four-given : (f : ℕ → HardwareTimer → ℕ) (ts : List HardwareTimer) → l
     ≡ wideOf (getD (mapFrom f 0 ts) 0 0) ∷ wideOf (getD (mapFrom f 0 ts) 1 0) ∷ wideOf (getD (mapFrom f 0 ts) 2 0)
     ∷ wideOf (getD (mapFrom f 0 ts) 3 0) ∷ []
 unfolding mapFrom
-four-given f (h0 ∷ h1 ∷ h2 ∷ h3 ∷ []) e = refl
-four-given f [] e = absurd (omega arith)
-four-given f (h0 ∷ []) e = absurd (omega arith)
-four-given f (h0 ∷ h1 ∷ []) e = absurd (omega arith)
-four-given f (h0 ∷ h1 ∷ h2 ∷ []) e = absurd (omega arith)
-four-given f (h0 ∷ h1 ∷ h2 ∷ h3 ∷ h4 ∷ hs) e = absurd (omega arith)
+four-given f =
+    by-four
+    (λ ts. mapFrom (λ k h. wideOf (f k h)) 0 ts
+    ≡ wideOf (getD (mapFrom f 0 ts) 0 0) ∷ wideOf (getD (mapFrom f 0 ts) 1 0) ∷ wideOf (getD (mapFrom f 0 ts) 2 0)
+    ∷ wideOf (getD (mapFrom f 0 ts) 3 0) ∷ [])
+    (λ _ _ _ _. refl)
 
 module _ (b : Board) (z : refusalOf b 0 ≡ 0) where
   pub advance-answers : (c : ℕ) (y : Board) (v : Bool) (m : List Wide) → length (b .timers) ≡ 4 →

@@ -68,6 +68,18 @@ module _ {A : Type 0} (f : ℕ → A → A) where
   map-ends (suc n) k [] e = absurd (omega arith)
   map-ends (suc n) k (x ∷ xs) e = ap (λ (l : List A). f k x ∷ l) (map-ends n (suc k) xs (omega arith))
 
+-- ---- four elements
+
+-- what holds of every four elements holds of a list of that length
+pub by-four : {A : Type 0} (P : List A → Type 0) → ((a b c d : A) → P (a ∷ b ∷ c ∷ d ∷ [])) → (xs : List A) →
+    length xs ≡ 4 → P xs
+by-four P f (a ∷ b ∷ c ∷ d ∷ []) e = f a b c d
+by-four P f [] e = absurd (omega arith)
+by-four P f (a ∷ []) e = absurd (omega arith)
+by-four P f (a ∷ b ∷ []) e = absurd (omega arith)
+by-four P f (a ∷ b ∷ c ∷ []) e = absurd (omega arith)
+by-four P f (a ∷ b ∷ c ∷ d ∷ x ∷ xs) e = absurd (omega arith)
+
 -- ---- giving something for each
 
 pub map-length : {A B : Type 0} (f : ℕ → A → B) (k : ℕ) (xs : List A) → length (mapFrom f k xs) ≡ length xs
@@ -107,12 +119,7 @@ module _ {A B : Type 0} (f : ℕ → A → B) (z : B) where
   -- nothing is given yet
   pub given-starts : (k : ℕ) (xs : List A) → length xs ≡ 4 → z ∷ z ∷ z ∷ z ∷ [] ≡ givenTo 0 k xs
   unfolding givenTo
-  given-starts k (x0 ∷ x1 ∷ x2 ∷ x3 ∷ []) e = refl
-  given-starts k [] e = absurd (omega arith)
-  given-starts k (x0 ∷ []) e = absurd (omega arith)
-  given-starts k (x0 ∷ x1 ∷ []) e = absurd (omega arith)
-  given-starts k (x0 ∷ x1 ∷ x2 ∷ []) e = absurd (omega arith)
-  given-starts k (x0 ∷ x1 ∷ x2 ∷ x3 ∷ x4 ∷ xs) e = absurd (omega arith)
+  given-starts k = by-four (λ xs. z ∷ z ∷ z ∷ z ∷ [] ≡ givenTo 0 k xs) (λ _ _ _ _. refl)
 
   set-given : (d : A) (n k : ℕ) (xs : List A) → n < length xs →
       set (givenTo n k xs) n (f (k + n) (getD xs n d)) ≡ givenTo (suc n) k xs

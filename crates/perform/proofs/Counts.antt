@@ -1,7 +1,6 @@
 -- The counts of an advance in its record: written one by one, over counts of 0, and the record that the line then makes
 -- whole. Assumes nothing.
 use Prim.Native.Nat.{ℕ, _+_, _*_, _<_}
-use native.Mathlib.Omega.{arith}
 use mathlib.Core.Path.{_≡_, refl, sym, ap, _∙_}
 use mathlib.Core.Bool.{false}
 use mathlib.Core.List.{List, [], _∷_, _++_}
@@ -10,6 +9,7 @@ use lib.ListN.{length, getD, set}
 use lib.Seq.{sets, length-sets}
 use Rattle.wide.specs.Fields.{be}
 use Rattle.wide.proofs.Choices.{choose, either}
+use Rattle.board.proofs.Loops.{by-four}
 use Rattle.format.specs.Format.{answerLength, membersBytes, answerBytes, recordOf}
 use Rattle.format.specs.CodeAnswers.{startOf, wides}
 use Rattle.format.proofs.Frames.{answer-length}
@@ -59,12 +59,10 @@ record-start tag ms = ap (λ (n : ℕ). startOf tag n (answerBytes tag ms)) (sym
 advance-start : (v : ℕ) (ns : List ℕ) → length ns ≡ 4 →
     startOf 4 65 (membersBytes (1 ∷ []) (v ∷ [])) ++ wides ns ≡ startOf 4 65 (answerBytes 4 (v ∷ ns))
 unfolding membersBytes wides be
-advance-start v (n0 ∷ n1 ∷ n2 ∷ n3 ∷ []) e = refl
-advance-start v [] e = absurd (omega arith)
-advance-start v (n0 ∷ []) e = absurd (omega arith)
-advance-start v (n0 ∷ n1 ∷ []) e = absurd (omega arith)
-advance-start v (n0 ∷ n1 ∷ n2 ∷ []) e = absurd (omega arith)
-advance-start v (n0 ∷ n1 ∷ n2 ∷ n3 ∷ n4 ∷ ns) e = absurd (omega arith)
+advance-start v =
+    by-four
+    (λ ns. startOf 4 65 (membersBytes (1 ∷ []) (v ∷ [])) ++ wides ns ≡ startOf 4 65 (answerBytes 4 (v ∷ ns)))
+    (λ _ _ _ _. refl)
 
 pub advance-record : (v : ℕ) (ns : List ℕ) → length ns ≡ 4 → (l : List ℕ) (at : ℕ) →
     sets (sets l (at + 4) (wides ns)) at (startOf 4 65 (membersBytes (1 ∷ []) (v ∷ [])))

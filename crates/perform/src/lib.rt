@@ -57,7 +57,7 @@ pub struct Front {
     pub skip: Passing,
 }
 
-// Where the counts begin in the record of an advance.
+// Where the counts begin in the record of an advance: behind tag, length and line.
 const COUNTS: usize = 4;
 
 // ---- the fields of a call
