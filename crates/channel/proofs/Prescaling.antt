@@ -33,11 +33,15 @@ at-most-is a b =
     either (leb a b) (λ e. let h = leb-true a b e in e ∙ sym (lt-ltb a (b + 1) (omega arith)))
     (λ e. let h = leb-false a b e in e ∙ sym (le-ltb a (b + 1) (omega arith)))
 
--- with prescaler n = 0 each of c cycles is a tick, and the phase p is 0
-pub each-is : (n p c : ℕ) → n ≡ 0 → p ≤ n → (c ≡ (p + c) / (n + 1)) × (0 ≡ (p + c) % (n + 1))
+-- with prescaler n = 0 the phase becomes 0, whatever phase p was
+pub by-one : (n p c : ℕ) → n ≡ 0 → 0 ≡ (p + c) % (n + 1)
+by-one n p c e = rw e (sym (mod-one (p + c)))
+
+-- and with phase p = 0 each of c cycles is a tick
+pub each-is : (n p c : ℕ) → n ≡ 0 → p ≤ n → c ≡ (p + c) / (n + 1)
 each-is n p c e h =
     let z : p ≡ 0 = omega arith in
-    rw (e, z, zero-add c) (sym (div-one c), sym (mod-one c))
+    rw (e, z, zero-add c) (sym (div-one c))
 
 -- v is the divisor, p the phase and c the cycles
 module _ (v p c : ℕ) where

@@ -1,5 +1,5 @@
--- Rows of document 01's settings that are about one channel, and of the counts that S-4 adds, computed from the rules.
--- Assumes nothing.
+-- Rows of document 01's settings that are about one channel, of the counts that S-4 adds, and of S-5's prescaler step at
+-- its limits, computed from the rules. Assumes nothing.
 use Prim.Native.Nat.{ℕ, _+_, _-_, _*_, _^_}
 use mathlib.Core.Path.{_≡_, refl}
 use mathlib.Core.Bool.{true, false}
@@ -21,7 +21,7 @@ use Rattle.channel.specs.Channel.{
   withPhase,
   withFlags,
 }
-use Rattle.channel.specs.Prescaler.{advanced}
+use Rattle.channel.specs.Prescaler.{ticksOf, phaseAfter, advanced}
 use Rattle.channel.specs.Modes.{oneShot, reloaded, matched, periodic, distance, freeRunning, tickedIn, ticked}
 use Rattle.channel.specs.Deadline.{ticksToGo, deadlineOf}
 use Rattle.channel.specs.Matches.{pointsMet, matchesIn, matchesOf}
@@ -174,3 +174,31 @@ pub premises-used :
     × (matchesOf true largest (withCounter (2 ^ 64 + 1) settingD) ≡ 0)
 unfolding matchesIn pointsMet matchesBy advanced ticked tickedIn oneShot freeRunning distance enabledOf disabled
 premises-used = (refl, refl, refl, refl)
+
+-- ---- S-5: the ticks and the phase after, by prescaler, phase and cycles
+
+abbrev stepOf : ℕ → ℕ → ℕ → ℕ × ℕ
+stepOf prescaler phase c =
+    let h = withPhase phase (withPrescaler prescaler freshTimer) in
+    (ticksOf c h, phaseAfter c h)
+
+-- prescaler 0: each cycle is a tick; a phase above 0 would add ticks, and no sound channel has one
+pub steps-by-one :
+    (stepOf 0 0 0 ≡ (0, 0)) × (stepOf 0 0 1 ≡ (1, 0)) × (stepOf 0 0 largest ≡ (largest, 0)) × (stepOf 0 5 1 ≡ (6, 0))
+steps-by-one = (refl, refl, refl, refl)
+
+-- the largest prescaler, with phase 0: none, one, a cycle less than a tick, a tick, and the largest number of cycles
+pub steps-from-0 :
+    (stepOf (2 ^ 32 - 1) 0 0 ≡ (0, 0))
+    × (stepOf (2 ^ 32 - 1) 0 1 ≡ (0, 1))
+    × (stepOf (2 ^ 32 - 1) 0 (2 ^ 32 - 1) ≡ (0, 2 ^ 32 - 1))
+    × (stepOf (2 ^ 32 - 1) 0 (2 ^ 32) ≡ (1, 0))
+    × (stepOf (2 ^ 32 - 1) 0 largest ≡ (2 ^ 32 - 1, 2 ^ 32 - 1))
+steps-from-0 = (refl, refl, refl, refl, refl)
+
+-- and with the largest phase, a cycle from its tick: the last sum is 2^64 + 2^32 − 2
+pub steps-from-the-largest :
+    (stepOf (2 ^ 32 - 1) (2 ^ 32 - 1) 0 ≡ (0, 2 ^ 32 - 1))
+    × (stepOf (2 ^ 32 - 1) (2 ^ 32 - 1) 1 ≡ (1, 0))
+    × (stepOf (2 ^ 32 - 1) (2 ^ 32 - 1) largest ≡ (2 ^ 32, 2 ^ 32 - 2))
+steps-from-the-largest = (refl, refl, refl)

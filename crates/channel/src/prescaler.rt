@@ -17,21 +17,29 @@ struct Scaled {
 }
 
 impl HardwareTimer {
-    // The cycles up to the first tick are taken off, so that no sum is larger than a word.
+    // The step with prescaler 0: each cycle is a tick. Nothing is added or divided, and whatever phase was, it is 0 then.
+    fn scale_by_one(self, cycles: Cycles) -> Scaled
+        requires { ⌜ self .prescaler ≡ 0 ⌝ }
+        ensures { λ r. ⌜ (r .ticks .0 ≡ cycles .0) × (r .phase ≡ phaseAfter (cycles .0) self) ⌝ }
+    {
+        Scaled {
+            ticks: Ticks(cycles.0),
+            phase: 0,
+        }
+    }
+
+    // S-5: prescaler 0 comes first. With another the cycles up to the first tick are taken off and the rest is divided,
+    // so that no sum is larger than a word and no number of two words is divided.
     fn scale(self, cycles: Cycles) -> Scaled
         requires { ⌜ self .phase ≤ self .prescaler ⌝ }
         ensures { λ r. ⌜ (r .ticks .0 ≡ ticksOf (cycles .0) self) × (r .phase ≡ phaseAfter (cycles .0) self) ⌝ }
     {
-        let phase = self.phase;
         let prescaler = self.prescaler;
-        let c = cycles.0;
-        // With prescaler 0 each cycle is a tick.
         if prescaler == 0 {
-            return Scaled {
-                ticks: Ticks(c),
-                phase: 0,
-            };
+            return self.scale_by_one(cycles);
         }
+        let phase = self.phase;
+        let c = cycles.0;
         let v = prescaler as u64 + 1;
         let first = v - phase as u64;
         if c < first {
