@@ -90,6 +90,12 @@ fn kinds() -> Vec<Kind> {
         kind("skip", running(0), skips.clone()),
         kind("mixed", running(0), mixed),
     ];
+    // One channel of which every number is a compare point, by single cycles and far on in turn; its counter stays below
+    // 2^64 through a repeat of a benchmark.
+    let mut every_number = program(0, RUNNING | 1, 0, 1, 1);
+    every_number.push(byte(registers::ENABLE + 3, 1));
+    let burst = [1, 1 << 40].map(|cycles| Call::Advance { cycles });
+    kinds.push(kind("prescaler-0-burst", every_number, burst.repeat(CALLS / 2)));
     // Ten years of interrupts, one each simulated minute: this prescaler gives a tick each millisecond.
     let mut minute = program(0, RUNNING | 1, MASTER_CLOCK / 1_000 - 1, 60_000, 60_000);
     minute.push(byte(registers::ENABLE + 3, 1));

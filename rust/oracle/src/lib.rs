@@ -26,6 +26,7 @@ pub mod image;
 pub mod kinds;
 pub mod list;
 pub mod matches;
+pub mod measure;
 pub mod record;
 pub mod writes;
 

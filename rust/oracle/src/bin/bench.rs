@@ -12,13 +12,13 @@
 use std::process::ExitCode;
 use std::time::Instant;
 
-use calls::{list_of, NANOSECONDS_PER_SECOND};
+use calls::list_of;
 use oracle::compare::Runner;
 use oracle::kinds::parking::{self, OPERATIONS};
 use oracle::kinds::{self, Kind, BUFFER, CALLS};
+use oracle::measure::{median_ratio, nanoseconds_each, sorted, REPEATS};
 use oracle::{list, matches};
 
-const REPEATS: usize = 25;
 /// The times that one repeat carries out an operation on parked boards.
 const TIMES: u64 = 100 * CALLS as u64;
 
@@ -63,21 +63,13 @@ fn measure_parking() {
     println!("| Operation | Times | ns each | ratio to an advance in a list |");
     println!("|---|---|---|---|");
     for (operation, seconds) in OPERATIONS.iter().zip(seconds) {
-        let ratios = sorted(seconds.iter().zip(&last).map(|(one, last)| one / last).collect());
         println!(
             "| {} | {TIMES} | {} | {:.2} |",
             operation.name,
-            nanoseconds_each(&sorted(seconds), TIMES),
-            ratios[REPEATS / 2]
+            nanoseconds_each(&seconds, TIMES),
+            median_ratio(&seconds, &last)
         );
     }
-}
-
-/// Median and spread of some repeats in nanoseconds, for each of the times that one repeat did its work.
-fn nanoseconds_each(seconds: &[f64], times: u64) -> String {
-    let scale = f64::from(NANOSECONDS_PER_SECOND) / times as f64;
-    let [least, median, most] = [0, REPEATS / 2, REPEATS - 1].map(|at| seconds[at] * scale);
-    format!("{median:.1} ({least:.1} to {most:.1})")
 }
 
 /// The settings of a release build, as Cargo.toml has them.
@@ -114,20 +106,12 @@ fn measure(kind: &Kind) {
     let timed = &buffers[0][..outcome.answer_bytes];
     assert!(timed == counted, "{}: the Rust's timed answers differ", kind.name);
     let [rust, proved] = &seconds;
-    let ratios = sorted(proved.iter().zip(rust).map(|(proved, rust)| proved / rust).collect());
-    let [rust, proved] = seconds.map(sorted);
+    let [rust_median, proved_median] = [rust, proved].map(|seconds| sorted(seconds.clone())[REPEATS / 2]);
     println!(
-        "| {} | {calls} | {} | {} | {:.2} | {:.2} | {:.2} |",
+        "| {} | {calls} | {} | {} | {:.2} | {rust_median:.2} | {proved_median:.2} |",
         kind.name,
-        nanoseconds_each(&rust, calls),
-        nanoseconds_each(&proved, calls),
-        ratios[REPEATS / 2],
-        rust[REPEATS / 2],
-        proved[REPEATS / 2],
+        nanoseconds_each(rust, calls),
+        nanoseconds_each(proved, calls),
+        median_ratio(proved, rust),
     );
-}
-
-fn sorted(mut values: Vec<f64>) -> Vec<f64> {
-    values.sort_by(f64::total_cmp);
-    values
 }

@@ -7,19 +7,16 @@
 //! that name, or 4,000 times the operation of that name, so many times.
 
 use std::env;
-use std::process::{Command, ExitCode};
+use std::process::ExitCode;
 
 use calls::list_of;
 use oracle::compare::Runner;
 use oracle::kinds::parking::{self, OPERATIONS};
 use oracle::kinds::{self, BUFFER, CALLS};
 use oracle::list;
+use oracle::measure::instructions_each;
 
 const BOARDS: [(&str, Runner); 2] = [("Rust", list::run_repeated_uncounted), ("Proved", pec::run_repeated)];
-
-/// The repetitions of a list in the two runs whose totals are compared. The first repetition is in both: it leaves a
-/// board as the later ones find it.
-const REPETITIONS: [u64; 2] = [1, 9];
 
 fn main() -> ExitCode {
     let arguments: Vec<String> = env::args().skip(1).collect();
@@ -51,7 +48,7 @@ fn table(wanted: Option<&str>) -> Result<(), String> {
         println!("|---|---|---|");
     }
     for kind in &kinds {
-        let [rust, proved] = [rust, proved].map(|board| each(kind.name, board, kind.list.len()));
+        let [rust, proved] = [rust, proved].map(|board| instructions_each(&[kind.name, board], kind.list.len()));
         println!("| {} | {} | {} |", kind.name, rust?, proved?);
     }
     if parked {
@@ -59,39 +56,14 @@ fn table(wanted: Option<&str>) -> Result<(), String> {
         println!("| Operation | {proved} |");
         println!("|---|---|");
         for operation in &OPERATIONS {
-            println!("| {} | {} |", operation.name, each(operation.name, proved, CALLS)?);
+            println!(
+                "| {} | {} |",
+                operation.name,
+                instructions_each(&[operation.name, proved], CALLS)?
+            );
         }
     }
     Ok(())
-}
-
-/// The instructions of each of a repetition's calls or operations, to the nearest whole number: what the further
-/// repetitions add. So what both runs do does not count: the start, the making of the lists and the preparing of the
-/// board.
-fn each(name: &str, board: &str, count: usize) -> Result<u64, String> {
-    let [fewer, more] = REPETITIONS;
-    let added = total(name, board, more)? - total(name, board, fewer)?;
-    let calls = count as u64 * (more - fewer);
-    Ok((added + calls / 2) / calls)
-}
-
-/// The instructions of a whole run of this program, as callgrind counts them.
-fn total(name: &str, board: &str, times: u64) -> Result<u64, String> {
-    let program = env::current_exe().map_err(|error| format!("this program is not found: {error}"))?;
-    let output = Command::new("valgrind")
-        .args(["--tool=callgrind", "--callgrind-out-file=/dev/null"])
-        .arg(program)
-        .args([name, board, &times.to_string()])
-        .output()
-        .map_err(|error| format!("valgrind, which counts the instructions, cannot be run: {error}"))?;
-    let said = String::from_utf8_lossy(&output.stderr);
-    if !output.status.success() {
-        return Err(format!("valgrind failed on {name}, {board}:\n{said}"));
-    }
-    let counted = said.lines().find_map(|line| line.split_once("Collected : "));
-    counted
-        .and_then(|(_, number)| number.trim().parse().ok())
-        .ok_or_else(|| format!("valgrind gave no count on {name}, {board}:\n{said}"))
 }
 
 /// Repeats a list so many times on a board, or an operation as often as a list of that number has calls: what is

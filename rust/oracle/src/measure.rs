@@ -1,0 +1,62 @@
+//! What the programs that measure share: repeats in nanoseconds, and instructions that callgrind counts.
+
+use std::env;
+use std::process::Command;
+
+use calls::NANOSECONDS_PER_SECOND;
+
+/// How often each measured piece of work is timed.
+pub const REPEATS: usize = 25;
+
+/// The repetitions of a list in the two runs whose instructions are compared. The first repetition is in both: it leaves
+/// a board as the later ones find it.
+const REPETITIONS: [u64; 2] = [1, 9];
+
+pub fn sorted(mut values: Vec<f64>) -> Vec<f64> {
+    values.sort_by(f64::total_cmp);
+    values
+}
+
+/// The median of the ratios of repeats that stand next to each other.
+pub fn median_ratio(seconds: &[f64], to: &[f64]) -> f64 {
+    sorted(seconds.iter().zip(to).map(|(one, other)| one / other).collect())[REPEATS / 2]
+}
+
+/// Median and spread of some repeats in nanoseconds, for each of the times that one repeat did its work.
+pub fn nanoseconds_each(seconds: &[f64], times: u64) -> String {
+    let seconds = sorted(seconds.to_vec());
+    let scale = f64::from(NANOSECONDS_PER_SECOND) / times as f64;
+    let [least, median, most] = [0, REPEATS / 2, REPEATS - 1].map(|at| seconds[at] * scale);
+    format!("{median:.1} ({least:.1} to {most:.1})")
+}
+
+/// The instructions of each of a repetition's calls or operations, to the nearest whole number: what the further
+/// repetitions add. So what both runs do does not count: the start, the making of the lists and the preparing of the
+/// board. What runs is this program with these arguments and, behind them, the number of repetitions.
+pub fn instructions_each(arguments: &[&str], count: usize) -> Result<u64, String> {
+    let [fewer, more] = REPETITIONS;
+    let added = instructions(arguments, more)? - instructions(arguments, fewer)?;
+    let calls = count as u64 * (more - fewer);
+    Ok((added + calls / 2) / calls)
+}
+
+/// The instructions of a whole run of this program, as callgrind counts them.
+fn instructions(arguments: &[&str], times: u64) -> Result<u64, String> {
+    let program = env::current_exe().map_err(|error| format!("this program is not found: {error}"))?;
+    let output = Command::new("valgrind")
+        .args(["--tool=callgrind", "--callgrind-out-file=/dev/null"])
+        .arg(program)
+        .args(arguments)
+        .arg(times.to_string())
+        .output()
+        .map_err(|error| format!("valgrind, which counts the instructions, cannot be run: {error}"))?;
+    let said = String::from_utf8_lossy(&output.stderr);
+    let what = arguments.join(", ");
+    if !output.status.success() {
+        return Err(format!("valgrind failed on {what}:\n{said}"));
+    }
+    let counted = said.lines().find_map(|line| line.split_once("Collected : "));
+    counted
+        .and_then(|(_, number)| number.trim().parse().ok())
+        .ok_or_else(|| format!("valgrind gave no count on {what}:\n{said}"))
+}
