@@ -1,12 +1,14 @@
 //! The comparison of two boards that are driven by the same lists: what is compared, and the shortest list that
 //! shows a difference.
 
+pub mod boards;
 #[cfg(feature = "proved")]
 pub mod controller;
 pub mod dispatcher;
 pub mod matches;
 pub mod parked;
 pub mod passes;
+pub mod prescaler;
 pub mod skips;
 
 use std::fmt::{self, Write};

@@ -2,9 +2,9 @@
 //!
 //! `compare FIRST LAST` compares the lists of the seeds from FIRST to LAST, what the boards hold after each, and lists
 //! over parked boards by the same seeds. `compare all FIRST LAST` compares these, and every register with every byte,
-//! damaged lists, short buffers, skips to large deadlines, advances with counts of matches at limits, damaged images,
-//! the controller by itself, and the dispatcher. Ends with how many comparisons agreed, or prints the shortest list that
-//! shows a difference.
+//! damaged lists, short buffers, skips to large deadlines, advances with counts of matches at limits, prescalers at
+//! their limits, damaged images, the controller by itself, and the dispatcher. Ends with how many comparisons agreed,
+//! or prints the shortest list that shows a difference.
 //!
 //! The Rust has neither the counts in an advance's answer nor the dispatcher: there the proved board is compared with
 //! the oracle's own reading of S-4 and of S-3.
@@ -13,7 +13,7 @@ use std::process::ExitCode;
 use std::time::Instant;
 
 use oracle::compare::parked::{self, Parking};
-use oracle::compare::{controller, dispatcher, matches, passes, skips, Count, Difference, Pair};
+use oracle::compare::{controller, dispatcher, matches, passes, prescaler, skips, Count, Difference, Pair};
 use oracle::dispatcher::Turn;
 use oracle::list;
 
@@ -102,6 +102,10 @@ fn compare(all: bool, first: u64, last: u64) -> Result<Count, String> {
         part("skips of parked boards", &mut total, || skips::parked(&PARKING))?;
         part("matches", &mut total, || matches::lists(&PAIR).map_err(text))?;
         println!("  in these as in all lists, an advance's counts are against the oracle's own reading of S-4");
+        part("prescalers", &mut total, || prescaler::lists(&PAIR).map_err(text))?;
+        part("prescalers of parked boards", &mut total, || {
+            prescaler::parked(&PARKING)
+        })?;
         part("damaged images", &mut total, || parked::damaged(&PARKING))?;
         part("a fresh board's image", &mut total, || parked::fresh(&PARKING))?;
         part("controller", &mut total, controller::compare)?;

@@ -4,12 +4,12 @@
 
 use calls::{list_of, Call};
 
+use super::boards::Start;
 use super::passes::{Compared, BUFFER};
 use super::{Count, Pair};
 use crate::fields::Channel;
 use crate::generate::Random;
-use crate::registers::{self, CHANNELS};
-use crate::writes::{byte, set_channel};
+use crate::registers::CHANNELS;
 
 /// Counters and compares.
 const NUMBERS: [u64; 5] = [0, 1, 1 << 63, u64::MAX - 1, u64::MAX];
@@ -18,26 +18,6 @@ const RELOADS: [u64; 5] = [0, 1, 3, 1 << 63, u64::MAX];
 const PRESCALERS: [(u32, u32); 4] = [(0, 0), (1, 1), (u32::MAX, 0), (u32::MAX, u32::MAX)];
 /// How often every setting is taken, each time beside others and with other flags.
 const ROUNDS: usize = 8;
-
-/// A board to advance: the calls that make it of a fresh one, its channels, and its timer enable.
-pub struct Start {
-    pub calls: Vec<Call>,
-    pub channels: [Channel; CHANNELS],
-    pub timer_enable: u8,
-}
-
-fn start(channels: [Channel; CHANNELS], timer_enable: u8) -> Start {
-    let mut calls = Vec::new();
-    for (number, channel) in channels.iter().enumerate() {
-        calls.extend(set_channel(number, channel));
-    }
-    calls.push(byte(registers::ENABLE + 3, timer_enable));
-    Start {
-        calls,
-        channels,
-        timer_enable,
-    }
-}
 
 /// The boards.
 pub fn starts() -> Vec<Start> {
@@ -49,7 +29,10 @@ pub fn starts() -> Vec<Start> {
         for channels in settings.chunks_exact(CHANNELS) {
             let channels = channels.try_into().expect("a chunk has a setting for each channel");
             let any = random.below(16) as u8;
-            starts.push(start(channels, random.pick(&[15, 15, 15, any])));
+            starts.push(Start {
+                channels,
+                timer_enable: random.pick(&[15, 15, 15, any]),
+            });
         }
     }
     starts
@@ -67,7 +50,10 @@ fn orders() -> Vec<Start> {
     for places in 0..4_usize.pow(4) {
         let places = [places % 4, places / 4 % 4, places / 16 % 4, places / 64];
         if (0..4).all(|place| places.contains(&place)) {
-            starts.push(start(places.map(|place| periodic[place]), 15));
+            starts.push(Start {
+                channels: places.map(|place| periodic[place]),
+                timer_enable: 15,
+            });
         }
     }
     starts
@@ -128,9 +114,9 @@ pub fn advances(channels: &[Channel; CHANNELS]) -> Vec<u64> {
 /// Each board with each of its advances, and a cycle after it.
 pub fn lists(pair: &Pair) -> Compared {
     let mut count = Count::default();
-    for Start { calls, channels, .. } in starts() {
-        let board = list_of(&calls);
-        for cycles in advances(&channels) {
+    for start in starts() {
+        let board = list_of(&start.calls());
+        for cycles in advances(&start.channels) {
             let list = list_of(&[Call::Advance { cycles }, Call::Advance { cycles: 1 }]);
             count.add(pair.compare(&board, Some(&list), BUFFER)?);
         }

@@ -3,7 +3,7 @@
 
 use std::collections::BTreeSet;
 
-use calls::{list_of, Answer, Call, Outcome};
+use calls::{Answer, Call, Outcome};
 use oracle::board::Board;
 use oracle::compare::matches::{advances, lists, starts};
 use oracle::compare::Runner;
@@ -16,13 +16,7 @@ use crate::support::*;
 fn the_boards_have_their_settings() {
     let mut seen = BTreeSet::new();
     for start in starts() {
-        let (outcome, _, board) = run_fresh(&list_of(&start.calls));
-        assert_eq!((outcome.calls, outcome.refusal), (start.calls.len(), None));
-        let fields = board.fields();
-        assert_eq!(
-            (fields.channels, fields.timer_enable),
-            (start.channels, start.timer_enable)
-        );
+        let fields = made(&start);
         for (number, channel) in start.channels.iter().enumerate() {
             seen.insert((fields.runs(number), channel.mode(), channel.pending, channel.armed));
         }
@@ -37,8 +31,7 @@ fn the_advances_reach_every_sort_of_count() {
     let mut seen = [[0; 5]; 4];
     let mut different = 0;
     for start in starts() {
-        let (_, _, board) = run_fresh(&list_of(&start.calls));
-        let fields = board.fields();
+        let fields = made(&start);
         for cycles in advances(&start.channels) {
             let (_, matches) = advanced(&mut Board::from_fields(&fields), cycles);
             for (seen, count) in seen.iter_mut().zip(matches) {

@@ -13,6 +13,7 @@ mod matches;
 mod originals;
 mod papers;
 mod parked;
+mod prescaler;
 mod program;
 mod recorded;
 mod registers;

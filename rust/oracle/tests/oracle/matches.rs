@@ -3,6 +3,7 @@
 
 use calls::{list_of, Answer, Call, Refusal};
 use oracle::board::{Board, Reply};
+use oracle::compare::boards::Start;
 use oracle::compare::Runner;
 use oracle::fields::{Channel, Fields};
 use oracle::list::{run_repeated, run_repeated_uncounted};
@@ -10,7 +11,7 @@ use oracle::matches::zero_counts;
 use oracle::writes::{byte, program};
 use oracle::{generate, registers};
 
-use crate::rules::{direct, set_source_3, some_cycles};
+use crate::rules::{direct, some_cycles};
 use crate::support::*;
 
 const TOP: u64 = u64::MAX;
@@ -54,12 +55,8 @@ fn prescaled(channel: Channel, prescaler: u32, phase: u32) -> Channel {
 
 /// The fresh board with these channels, all of which run.
 fn board_of(channels: [Channel; 4]) -> Fields {
-    let mut fields = Fields {
-        channels,
-        timer_enable: 15,
-        ..Fields::fresh()
-    };
-    set_source_3(&mut fields);
+    let timer_enable = 15;
+    let fields = Start { channels, timer_enable }.fields();
     assert!(fields.sound());
     fields
 }

@@ -80,17 +80,31 @@ fn points(old: &Channel, new: &Channel) -> u128 {
     }
 }
 
+/// A rule for the ticks that so many cycles give a channel, and for its phase after them.
+pub type Step = fn(&Channel, u128) -> (u128, u32);
+
+/// Document 01's rule for c cycles and divisor V = prescaler + 1.
+pub fn step(channel: &Channel, cycles: u128) -> (u128, u32) {
+    let divisor = u128::from(channel.prescaler) + 1;
+    let sum = u128::from(channel.phase) + cycles;
+    (sum / divisor, (sum % divisor) as u32)
+}
+
 /// The fields after an advance by c cycles, and S-4's counts.
 fn advance(before: &Fields, cycles: u64) -> (Fields, [u128; 4]) {
+    advance_by(step, before, cycles)
+}
+
+/// The same with another rule for ticks and phase.
+pub fn advance_by(step: Step, before: &Fields, cycles: u64) -> (Fields, [u128; 4]) {
     let mut after = *before;
     let mut matches = [0; 4];
     let cycles = u128::from(cycles);
     for number in (0..4).filter(|&number| before.runs(number)) {
         let channel = &mut after.channels[number];
-        let divisor = u128::from(channel.prescaler) + 1;
-        let sum = u128::from(channel.phase) + cycles;
-        channel.phase = (sum % divisor) as u32;
-        if tick(channel, sum / divisor) {
+        let (ticks, phase) = step(channel, cycles);
+        channel.phase = phase;
+        if tick(channel, ticks) {
             matches[number] = points(&before.channels[number], channel);
         }
     }
@@ -441,7 +455,7 @@ pub fn carry_out(before: &Fields, call: Call) -> (Answer, Fields) {
 }
 
 /// Compares the board's refusal, answer and fields with the rules, and gives them.
-fn compare(fields: &Fields, call: Call) -> (u8, Answer, Fields) {
+pub fn compare(fields: &Fields, call: Call) -> (u8, Answer, Fields) {
     let mut board = Board::from_fields(fields);
     let reply = board.call(call);
     let given = (number(&reply), reply.answer, board.fields());

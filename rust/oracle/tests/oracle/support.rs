@@ -1,7 +1,8 @@
 //! Short forms that the tests share.
 
-use calls::{Answer, Call, Outcome, Refusal};
+use calls::{list_of, Answer, Call, Outcome, Refusal};
 use oracle::board::{Board, Reply};
+use oracle::compare::boards::Start;
 use oracle::compare::{Pair, Runner};
 use oracle::fields::Fields;
 use oracle::generate::Random;
@@ -128,6 +129,21 @@ pub fn run_fresh(list: &[u8]) -> (Outcome, Vec<u8>, Board) {
     (outcome, buffer, board)
 }
 
+/// The fields of the board that a start's calls make of a fresh one: those of the start but for the clock.
+pub fn made(start: &Start) -> Fields {
+    let calls = start.calls();
+    let (outcome, _, board) = run_fresh(&list_of(&calls));
+    assert_eq!((outcome.calls, outcome.refusal), (calls.len(), None));
+    let fields = board.fields();
+    let expected = Fields {
+        seconds: fields.seconds,
+        subsecond: fields.subsecond,
+        ..start.fields()
+    };
+    assert_eq!(fields, expected);
+    fields
+}
+
 /// The Rust, and what is compared with it.
 pub fn pair(other: Runner) -> Pair {
     Pair {
@@ -136,8 +152,24 @@ pub fn pair(other: Runner) -> Pair {
     }
 }
 
-/// A list over a fresh board, and then a second so many times, as a `Runner` has it, by a function that runs one call
-/// into the rest of the buffer. What is no whole call is given to it too.
+/// A list over a board by a function that runs one call into the rest of the buffer. What is no whole call is given to
+/// it too.
+pub fn each_call(
+    board: &mut Board,
+    list: &[u8],
+    answers: &mut [u8],
+    one: impl Fn(&mut Board, &[u8], &mut [u8]) -> Outcome,
+) -> Outcome {
+    let mut total = Outcome::default();
+    while total.list_bytes < list.len() && total.refusal.is_none() {
+        let rest = &list[total.list_bytes..];
+        let used = Call::decode(rest).map_or(rest.len(), |(_, used)| used);
+        total = total.then(one(board, &rest[..used], &mut answers[total.answer_bytes..]));
+    }
+    total
+}
+
+/// The same for a list over a fresh board, and then a second so many times, as a `Runner` has it.
 pub fn call_by_call(
     first: &[u8],
     list: &[u8],
@@ -146,18 +178,9 @@ pub fn call_by_call(
     one: impl Fn(&mut Board, &[u8], &mut [u8]) -> Outcome,
 ) -> Outcome {
     let mut board = Board::fresh();
-    let mut run_list = |list: &[u8]| {
-        let mut total = Outcome::default();
-        while total.list_bytes < list.len() && total.refusal.is_none() {
-            let rest = &list[total.list_bytes..];
-            let used = Call::decode(rest).map_or(rest.len(), |(_, used)| used);
-            total = total.then(one(&mut board, &rest[..used], &mut answers[total.answer_bytes..]));
-        }
-        total
-    };
-    let mut outcome = run_list(first);
+    let mut outcome = each_call(&mut board, first, answers, &one);
     for _ in 0..times {
-        outcome = run_list(list);
+        outcome = each_call(&mut board, list, answers, &one);
     }
     outcome
 }
