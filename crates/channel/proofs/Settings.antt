@@ -1,5 +1,5 @@
--- Rows of document 01's settings that are about one channel, of the counts that S-4 adds, and of S-5's prescaler step at
--- its limits, computed from the rules. Assumes nothing.
+-- Rows of document 01's settings that are about one channel, of the counts that S-4 adds, and of the prescaler step
+-- at its limits (S-5), computed from the rules. Assumes nothing.
 use Prim.Native.Nat.{ℕ, _+_, _-_, _*_, _^_}
 use mathlib.Core.Path.{_≡_, refl}
 use mathlib.Core.Bool.{true, false}

@@ -17,7 +17,7 @@ struct Scaled {
 }
 
 impl HardwareTimer {
-    // The step with prescaler 0: each cycle is a tick. Nothing is added or divided, and whatever phase was, it is 0 then.
+    // With prescaler 0 each cycle is a tick: nothing is added or divided, and phase becomes 0, whatever it was.
     fn scale_by_one(self, cycles: Cycles) -> Scaled
         requires { ⌜ self .prescaler ≡ 0 ⌝ }
         ensures { λ r. ⌜ (r .ticks .0 ≡ cycles .0) × (r .phase ≡ phaseAfter (cycles .0) self) ⌝ }

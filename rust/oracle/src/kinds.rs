@@ -90,8 +90,8 @@ fn kinds() -> Vec<Kind> {
         kind("skip", running(0), skips.clone()),
         kind("mixed", running(0), mixed),
     ];
-    // One channel of which every number is a compare point, by single cycles and far on in turn; its counter stays below
-    // 2^64 through a repeat of a benchmark.
+    // One channel of which every number is a compare point, by a cycle and by 2^40 in turn. In the two million pairs of
+    // a benchmark its counter stays below 2^61, so that it is not switched off.
     let mut every_number = program(0, RUNNING | 1, 0, 1, 1);
     every_number.push(byte(registers::ENABLE + 3, 1));
     let burst = [1, 1 << 40].map(|cycles| Call::Advance { cycles });

@@ -8,8 +8,8 @@ use calls::NANOSECONDS_PER_SECOND;
 /// How often each measured piece of work is timed.
 pub const REPEATS: usize = 25;
 
-/// The repetitions of a list in the two runs whose instructions are compared. The first repetition is in both: it leaves
-/// a board as the later ones find it.
+/// The repetitions of a list in the two runs whose instructions are compared. The first repetition is in both: it
+/// leaves a board as the later ones find it.
 const REPETITIONS: [u64; 2] = [1, 9];
 
 pub fn sorted(mut values: Vec<f64>) -> Vec<f64> {

@@ -3,8 +3,8 @@
 //! The Rust does not count the matches of an advance, so it is timed without the oracle's counts: the driver writes
 //! zeros in their place. The answers that the proved board was timed on are compared with an untimed run that counts.
 //!
-//! `bench` prints, for each kind of list, nanoseconds a call of both, median and spread of 25 repeats; the median of the
-//! ratios of the repeats that stand next to each other; and the seconds of a ten-year record. Above its table it
+//! `bench` prints, for each kind of list, nanoseconds a call of both, median and spread of 25 repeats; the median of
+//! the ratios of the repeats that stand next to each other; and the seconds of a ten-year record. Above its table it
 //! prints how the Rust is built. Then it prints nanoseconds of the work on parked boards, which is the proved board's
 //! alone, and their ratios to an advance inside a long list. `bench NAME` prints one kind alone, `bench parking` the
 //! parked boards.
@@ -86,8 +86,8 @@ fn measure(kind: &Kind) {
     let calls = kind.list.len() as u64 * kind.times;
     let mut seconds: [Vec<f64>; 2] = [Vec::new(), Vec::new()];
     let mut buffers = [vec![0; BUFFER], vec![0; BUFFER]];
-    // The two take turns, so that a slow spell of the machine meets both, and their ratio is that of two repeats next to
-    // each other.
+    // The two take turns, so that a slow spell of the machine meets both, and their ratio is that of two repeats next
+    // to each other.
     for _ in 0..REPEATS {
         let runners: [Runner; 2] = [list::run_repeated_uncounted, pec::run_repeated];
         for ((runner, seconds), buffer) in runners.into_iter().zip(&mut seconds).zip(&mut buffers) {

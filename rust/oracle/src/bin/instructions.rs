@@ -1,5 +1,6 @@
-//! Counts the instructions of the proved board and of the original Rust on the lists of `bench`. The Rust does not count
-//! the matches of an advance, so its run is the one without the oracle's counts: the driver writes zeros in their place.
+//! Counts the instructions of the proved board and of the original Rust on the lists of `bench`. The Rust does not
+//! count the matches of an advance, so its run is the one without the oracle's counts: the driver writes zeros in their
+//! place.
 //!
 //! `instructions` prints, for each kind of list, the instructions a call of both, and then those of the work on parked
 //! boards, which is the proved board's alone. `instructions NAME` prints one kind alone, `instructions parking` the

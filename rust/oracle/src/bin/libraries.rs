@@ -1,9 +1,9 @@
 //! Measures builds of the proved library side by side on the lists of `bench`: this one and earlier ones.
 //!
-//! `libraries FILE...`, each a shared library that has `pec_run_repeated`, prints for each kind of list and each library
-//! the nanoseconds a call, median and spread of 25 repeats taken in turns, the median of their ratios to the repeats of
-//! the first library, and the instructions a call. It counts these by running itself under callgrind: `libraries
-//! repeat NAME FILE TIMES` repeats the list of that name so many times.
+//! `libraries FILE...`, each a shared library that has `pec_run_repeated`, prints for each kind of list and each
+//! library the nanoseconds a call, median and spread of 25 repeats taken in turns, the median of their ratios to the
+//! repeats of the first library, and the instructions a call. It counts these by running itself under callgrind:
+//! `libraries repeat NAME FILE TIMES` repeats the list of that name so many times.
 //!
 //! The libraries must agree in every answer, as far as the shorter one goes: an earlier one may give fewer members.
 
@@ -51,8 +51,8 @@ struct Library {
 impl Library {
     fn load(file: &str) -> Result<Self, String> {
         let path = CString::new(file).map_err(|_| format!("{file:?} is no file's name"))?;
-        // SAFETY: the strings end with 0; a library is not unloaded; the code of libpec.a runs nothing when it is loaded;
-        // and the function has the type that pec.h gives it, which it has had from the first.
+        // SAFETY: the strings end with 0; a library is not unloaded; the code of libpec.a runs nothing when it is
+        // loaded; and the function has the type that pec.h gives it, which it has had from the first.
         let found = unsafe {
             let library = dlopen(path.as_ptr(), RTLD_NOW);
             let symbol = if library.is_null() {

@@ -481,8 +481,8 @@ pub fn some_cycles(random: &mut Random, fields: &Fields) -> u64 {
 
 #[test]
 fn advance_follows_the_rules() {
-    // By mode: matches that set pending anew, and matches of a channel that was pending. Then, in mode 1, counts of more
-    // than 1, 2^32 and 2^63.
+    // By mode: matches that set pending anew, and matches of a channel that was pending. Then, in mode 1, counts of
+    // more than 1, 2^32 and 2^63.
     let (mut rises, mut again, mut large) = ([0; 4], [0; 4], [0; 3]);
     for (mut random, fields) in sound_boards(150_000) {
         let cycles = some_cycles(&mut random, &fields);
