@@ -1,9 +1,11 @@
-//! What the programs that measure share: repeats in nanoseconds, and instructions that callgrind counts.
+//! What the programs that measure share: repeats in nanoseconds, instructions that callgrind counts, and whether two
+//! builds of the library give the same answers.
 
 use std::env;
+use std::iter;
 use std::process::Command;
 
-use calls::NANOSECONDS_PER_SECOND;
+use calls::{HEADER_LENGTH, NANOSECONDS_PER_SECOND};
 
 /// How often each measured piece of work is timed.
 pub const REPEATS: usize = 25;
@@ -59,4 +61,24 @@ fn instructions(arguments: &[&str], times: u64) -> Result<u64, String> {
     counted
         .and_then(|(_, number)| number.trim().parse().ok())
         .ok_or_else(|| format!("valgrind gave no count on {what}:\n{said}"))
+}
+
+/// Whether two lists of answers have the same tags and the same bytes, as far as the shorter answer of each two goes.
+pub fn agree(one: &[u8], other: &[u8]) -> bool {
+    records(one).count() == records(other).count()
+        && records(one).zip(records(other)).all(|(one, other)| {
+            let common = one.1.len().min(other.1.len());
+            one.0 == other.0 && one.1[..common] == other.1[..common]
+        })
+}
+
+/// The answers of a run: tag and members.
+fn records(mut answers: &[u8]) -> impl Iterator<Item = (u8, &[u8])> {
+    iter::from_fn(move || {
+        let (header, rest) = answers.split_at_checked(HEADER_LENGTH)?;
+        let length = u16::from_be_bytes([header[1], header[2]]);
+        let (members, rest) = rest.split_at_checked(length.into())?;
+        answers = rest;
+        Some((header[0], members))
+    })
 }

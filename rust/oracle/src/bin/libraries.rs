@@ -9,14 +9,13 @@
 
 use std::env;
 use std::ffi::{c_char, c_int, c_void, CStr, CString};
-use std::iter;
 use std::mem::transmute;
 use std::process::ExitCode;
 use std::time::Instant;
 
-use calls::{list_of, HEADER_LENGTH};
+use calls::list_of;
 use oracle::kinds::{self, Kind, BUFFER};
-use oracle::measure::{instructions_each, median_ratio, nanoseconds_each, REPEATS};
+use oracle::measure::{agree, instructions_each, median_ratio, nanoseconds_each, REPEATS};
 
 // The C library's loader.
 unsafe extern "C" {
@@ -71,12 +70,12 @@ impl Library {
         })
     }
 
-    /// A kind's first list over a fresh board, and then its list so many times. Gives the bytes of the last answers.
+    /// A kind's two lists, as bytes: the first over a fresh board, and then the other so many times. Gives the bytes of
+    /// the last answers.
     fn repeat(
         &self,
-        first: &[u8],
         kind: &Kind,
-        list: &[u8],
+        [first, list]: &[Vec<u8>; 2],
         times: u64,
         answers: &mut [u8],
     ) -> Result<usize, String> {
@@ -134,8 +133,13 @@ fn table(files: &[&str]) -> Result<(), String> {
     Ok(())
 }
 
+/// What prepares the board, and the list that is measured.
+fn lists(kind: &Kind) -> [Vec<u8>; 2] {
+    [&kind.first, &kind.list].map(|calls| list_of(calls))
+}
+
 fn measure(kind: &Kind, libraries: &[Library]) -> Result<(), String> {
-    let [first, list] = [&kind.first, &kind.list].map(|calls| list_of(calls));
+    let lists = lists(kind);
     let mut seconds: Vec<Vec<f64>> = libraries.iter().map(|_| Vec::new()).collect();
     let mut answers: Vec<Vec<u8>> = libraries.iter().map(|_| vec![0; BUFFER]).collect();
     // They take turns, so that a slow spell of the machine meets all.
@@ -143,7 +147,7 @@ fn measure(kind: &Kind, libraries: &[Library]) -> Result<(), String> {
         for ((library, seconds), answers) in libraries.iter().zip(&mut seconds).zip(&mut answers) {
             answers.resize(BUFFER, 0);
             let start = Instant::now();
-            let written = library.repeat(&first, kind, &list, kind.times, answers)?;
+            let written = library.repeat(kind, &lists, kind.times, answers)?;
             seconds.push(start.elapsed().as_secs_f64());
             answers.truncate(written);
         }
@@ -165,33 +169,12 @@ fn measure(kind: &Kind, libraries: &[Library]) -> Result<(), String> {
     Ok(())
 }
 
-/// Whether two lists of answers have the same tags and the same bytes, as far as the shorter answer of each two goes.
-fn agree(one: &[u8], other: &[u8]) -> bool {
-    records(one).count() == records(other).count()
-        && records(one).zip(records(other)).all(|(one, other)| {
-            let common = one.1.len().min(other.1.len());
-            one.0 == other.0 && one.1[..common] == other.1[..common]
-        })
-}
-
-/// The answers of a run: tag and members.
-fn records(mut answers: &[u8]) -> impl Iterator<Item = (u8, &[u8])> {
-    iter::from_fn(move || {
-        let (header, rest) = answers.split_at_checked(HEADER_LENGTH)?;
-        let length = u16::from_be_bytes([header[1], header[2]]);
-        let (members, rest) = rest.split_at_checked(length.into())?;
-        answers = rest;
-        Some((header[0], members))
-    })
-}
-
 /// Repeats a list so many times: what is counted.
 fn repeat(name: &str, file: &str, times: &str) -> Result<(), String> {
     let times: u64 = times.parse().map_err(|_| "the repetitions are a number")?;
     let kinds = kinds::named(Some(name));
     let kind = kinds.first().ok_or("no kind of that name")?;
     let library = Library::load(file)?;
-    let [first, list] = [&kind.first, &kind.list].map(|calls| list_of(calls));
-    library.repeat(&first, kind, &list, times, &mut vec![0; BUFFER])?;
+    library.repeat(kind, &lists(kind), times, &mut vec![0; BUFFER])?;
     Ok(())
 }

@@ -10,6 +10,7 @@ mod generated;
 mod image;
 mod list;
 mod matches;
+mod measured;
 mod originals;
 mod papers;
 mod parked;
