@@ -1,6 +1,6 @@
 //! Counts of matches on boards whose channels stand at limits of the rule: four at once, each with a setting of its
-//! own, and advances to their points and about them, up to the longest. The Rust has no counts: what is compared with is
-//! the oracle's own reading of S-4 (`crate::matches`).
+//! own, and advances to their points and about them, up to the longest. The Rust has no counts: what is compared with
+//! is the oracle's own reading of S-4 (`crate::matches`).
 
 use calls::{list_of, Call};
 
