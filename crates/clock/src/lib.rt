@@ -60,7 +60,7 @@ fn has_bit(n: u8, unit: u8) -> bool
 }
 
 // A control value says that the clock runs from host time.
-fn from_host(control: u8) -> bool
+pub fn from_host(control: u8) -> bool
     ensures { λ r. ⌜ r ≡ fromHost control ⌝ }
 {
     both(

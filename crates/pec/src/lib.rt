@@ -1,11 +1,12 @@
-// The C interface of the proved board: functions on numbers and byte slices, for programs in other languages to link.
-// A byte slice is a pointer and a length; a number that is lent is written before the call returns.
+// The C interface of the proved board: functions on numbers and slices of them, for programs in other languages to link.
+// A slice is a pointer and a length; a number that is lent is written before the call returns.
 ghost use mathlib.Core.Path.{_≡_};
 ghost use Prim.Native.Nat.{_+_, _*_, _≤_};
 ghost use lib.ListN.{length};
 ghost use Rattle.board.specs.Fields.{freshBoard};
 ghost use Rattle.parking.specs.Parking.{writingOf, bufferAfter, readingRefusal};
 ghost use Rattle.resume.specs.Resumed.{resumedOf, imageAfter, answersAfter};
+ghost use Rattle.preview.specs.Preview.{parkedPreviewRefusal, parkedPreviewBuffer};
 ghost use Rattle.listing.specs.Listing.{listingOf, withText};
 ghost use Rattle.pec.specs.Repeats.{started, ran, repeats};
 use board::Board;
@@ -154,4 +155,18 @@ pub extern "C" fn pec_run_parked(
     *used = r.used;
     *written = r.written;
     r.refusal
+}
+
+// Whether a parked board's line would be high after each of some totals of further cycles: one byte for each, 1 or 0, at
+// the start of a lent buffer. The board stays as it is. Its result is the refusal: of the image, by 12 or 1; 14 where the
+// clock is enabled in realtime; 11 for a buffer that is shorter than the totals; 0 for none. A refused call writes
+// nothing.
+#[no_mangle]
+pub extern "C" fn pec_preview(image: &[u8], totals: &[u64], high: &mut [u8]) -> u8
+    ensures { λ r. ⌜ r ≡ parkedPreviewRefusal (now (image .entry)) (length (now (totals .entry)))
+        (length (now (high .entry))) ⌝ }
+    ensures { λ _. ⌜ now (high .exit)
+        ≡ parkedPreviewBuffer (now (image .entry)) (now (totals .entry)) (now (high .entry)) ⌝ }
+{
+    preview::preview_parked(image, totals, high)
 }

@@ -1,0 +1,4 @@
+pub mod Shown
+mod Bytes
+mod Answers
+pub mod Settings

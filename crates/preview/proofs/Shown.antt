@@ -1,0 +1,59 @@
+-- What one advance would show of a sound board whose clock does not run from host time: by its line and its deadline,
+-- and by the advance that a skip would make. Assumes nothing.
+use Prim.Native.Nat.{ℕ, _≤_}
+use native.Mathlib.Nat.{add-zero}
+use native.Mathlib.Omega.{arith}
+use mathlib.Core.Path.{_≡_, refl, sym, ap, _∙_}
+use mathlib.Core.Bool.{Bool, true, false, cond, _&&_, _||_}
+use mathlib.Core.Option.{Option, none, some}
+use lib.Dec.{leb, ltb}
+use borrow.Author.Tests.{le-leb, lt-leb, ltb-true, ltb-false}
+use Rattle.wide.specs.Number.{largest}
+use Rattle.wide.specs.Deadline.{due}
+use Rattle.wide.proofs.Choices.{either}
+use Rattle.clock.specs.Clock.{fromHost}
+use Rattle.board.specs.declared.Board.{Board}
+use Rattle.board.specs.declared.calls.Passing.{Passing}
+use Rattle.board.specs.Board.{BoardFits, line, exactDeadline, sound}
+use Rattle.board.specs.Calls.{advancedBoard, skipLength}
+use Rattle.board.specs.CodeCalls.{passingOf}
+use Rattle.board.proofs.Steps.{good, boardDue, line-due, advance-step}
+
+module _ (b : Board) (f : BoardFits b) (s : sound b ≡ true) (o : fromHost (b .clock .control) ≡ false) (t : ℕ) where
+  -- an advance shows a high line where the line is high, and where it reaches the deadline
+  pub advance-shows : line (advancedBoard t b) ≡ (line b || due (exactDeadline b) t)
+  unfolding boardDue
+  advance-shows =
+      line-due (advancedBoard t b) (advance-step t b (good b f s) .good)
+      ∙ advance-step t b (good b f s) .due o 0
+      ∙ rw add-zero refl
+
+  -- a line that is high stays so
+  pub high-shows : line b ≡ true → line (advancedBoard t b) ≡ true
+  high-shows h = advance-shows ∙ rw h refl
+
+  -- a low line without a deadline stays so
+  pub none-shows : line b ≡ false → exactDeadline b ≡ none → line (advancedBoard t b) ≡ false
+  none-shows low e = advance-shows ∙ rw (low, e) refl
+
+  -- a low line is high from the deadline on
+  pub deadline-shows : (d : ℕ) → line b ≡ false → exactDeadline b ≡ some d → line (advancedBoard t b) ≡ leb d t
+  deadline-shows d low e = advance-shows ∙ rw (low, e) refl
+
+-- ---- the same by the advance that a skip would make
+
+-- of a line and a deadline: where a word of cycles reaches the interrupt, from how many on
+reached : (high : Bool) (o : Option ℕ) (t : ℕ) → t ≤ largest → (p : Passing) → p ≡ passingOf (cond high none o) →
+    ((high || p .made) && leb (p .cycles .0) t) ≡ (high || due o t)
+reached true o t l p e = rw e (le-leb 0 t (omega arith))
+reached false none t l p e = rw e refl
+reached false (some d) t l p e =
+    either (ltb largest d)
+    (λ h. rw (e, h) (sym (lt-leb d t (omega (arith, l, ltb-true largest d h)))))
+    (λ h. rw (e, h) refl)
+
+pub skip-shows : (b : Board) → BoardFits b → sound b ≡ true → fromHost (b .clock .control) ≡ false → (p : Passing) →
+    p ≡ passingOf (skipLength b) → (t : ℕ) → t ≤ largest →
+    ((line b || p .made) && leb (p .cycles .0) t) ≡ line (advancedBoard t b)
+skip-shows b f s o p e t l =
+    reached (line b) (exactDeadline b) t l p e ∙ sym (advance-shows b f s o t)
