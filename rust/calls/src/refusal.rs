@@ -3,9 +3,10 @@
 use std::error::Error;
 use std::fmt;
 
-/// Why a run stopped before the end of its list, why a direct call was not carried out, or why a board was not parked
-/// or an image not read. Numbers 1 to 11 are document 01's, 12 is that of the request for parked boards, S-1, and 13
-/// that of the request for skips that get there, S-2; so are the words in quotes.
+/// Why a run stopped before the end of its list, why a direct call was not carried out, why a board was not parked or
+/// an image not read, or why totals were not previewed. Numbers 1 to 11 are document 01's, 12 is that of the request for
+/// parked boards, S-1, 13 that of the request for skips that get there, S-2, and 14 that of the request for previews,
+/// S-6; so are the words in quotes.
 #[derive(Clone, Copy, Debug, PartialEq, Eq, PartialOrd, Ord, Hash)]
 #[repr(u8)]
 pub enum Refusal {
@@ -29,17 +30,19 @@ pub enum Refusal {
     ReservedSource = 9,
     /// Source: 'level above 1'.
     LevelOutOfRange = 10,
-    /// 'Answer longer than the buffer's rest'; for an image, 'a short buffer'.
+    /// 'Answer longer than the buffer's rest'; for an image and for previews, 'a short buffer'.
     BufferTooSmall = 11,
     /// An image: 'a field missing, cut, out of order, of wrong length, a flag above 1, or bytes over'.
     MalformedImage = 12,
     /// Skip: 'D too large for one skip', above 2^64 - 1 with the line low.
     DeadlineTooLarge = 13,
+    /// Previews: 'the clock is enabled in realtime'.
+    ClockInRealtime = 14,
 }
 
 impl Refusal {
     /// Every refusal, in the order of the numbers.
-    pub const ALL: [Self; 13] = [
+    pub const ALL: [Self; 14] = [
         Self::UnsoundBoard,
         Self::TruncatedHeader,
         Self::UnknownTag,
@@ -53,14 +56,15 @@ impl Refusal {
         Self::BufferTooSmall,
         Self::MalformedImage,
         Self::DeadlineTooLarge,
+        Self::ClockInRealtime,
     ];
 
-    /// Its number, 1 to 13.
+    /// Its number, 1 to 14.
     pub fn number(self) -> u8 {
         self as u8
     }
 
-    /// The refusal of a number; none for 0, which is no refusal, and for numbers above 13.
+    /// The refusal of a number; none for 0, which is no refusal, and for numbers above 14.
     pub fn from_number(number: u8) -> Option<Self> {
         let place = usize::from(number).checked_sub(1)?;
         Self::ALL.get(place).copied()
@@ -83,6 +87,7 @@ impl fmt::Display for Refusal {
             Self::BufferTooSmall => "the answer is longer than the rest of the buffer",
             Self::MalformedImage => "the image is malformed",
             Self::DeadlineTooLarge => "the deadline is above 2^64 - 1, too large for one skip",
+            Self::ClockInRealtime => "the clock is enabled in realtime",
         })
     }
 }

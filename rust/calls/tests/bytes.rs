@@ -301,6 +301,7 @@ fn refusals_have_their_numbers_and_words() {
         "the answer is longer than the rest of the buffer",
         "the image is malformed",
         "the deadline is above 2^64 - 1, too large for one skip",
+        "the clock is enabled in realtime",
     ];
     assert_eq!(words.len(), Refusal::ALL.len());
     for (number, words) in (1..).zip(words) {
@@ -312,7 +313,7 @@ fn refusals_have_their_numbers_and_words() {
         };
         assert_eq!(outcome.refusal_number(), number);
     }
-    assert!((14..=255)
+    assert!((15..=255)
         .chain([0])
         .all(|number| Refusal::from_number(number).is_none()));
     assert_eq!(Outcome::default().refusal_number(), 0);

@@ -1,8 +1,8 @@
 /* The C interface of the proved PeC board, libpec.a, for C and C++. The contract of each function is in crates/pec/src.
 
-   A byte slice is a pointer and a length. Pointers must be valid for their lengths, and what is written must not
-   overlap anything else that is lent; a pointer with length 0 must not be null. The library keeps nothing between
-   calls and uses no heap. */
+   A slice is a pointer and a length, the number of its elements. Pointers must be valid for their lengths and aligned,
+   and what is written must not overlap anything else that is lent; a pointer with length 0 must not be null. The
+   library keeps nothing between calls and uses no heap. */
 #ifndef PEC_H
 #define PEC_H
 
@@ -53,6 +53,14 @@ uint8_t pec_image_refusal(const uint8_t *image, size_t image_length);
    12 or 1, changes nothing and gives counts 0; otherwise the results are those of the run, as of `pec_run`. */
 uint8_t pec_run_parked(uint8_t *image, size_t image_length, const uint8_t *list, size_t list_length, uint8_t *answers,
                        size_t answers_length, size_t *calls, size_t *used, size_t *written);
+
+/* Whether a parked board's line would be high after each of `count` totals of further cycles, in any order and with
+   repeats: writes one byte for each at the start of `high`, 1 or 0, the line that one advance of that total would
+   answer. Leaves the bytes after them; image and totals are only read. The result is the refusal, 0 for none: 12 or 1
+   of the image, as of `pec_image_refusal`; else 14 where its clock is enabled in realtime; else 11 where `high_length`
+   is less than `count`. A refused call writes nothing. The deadline is worked out once for all totals. */
+uint8_t pec_preview(const uint8_t *image, size_t image_length, const uint64_t *totals, size_t count, uint8_t *high,
+                    size_t high_length);
 
 /* The interrupt controller's operations on its three words in one number: pending from bit 32 on, enable from bit 16
    on, levels from bit 0 on. Those that alter it give the number after. */

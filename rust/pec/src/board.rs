@@ -2,7 +2,7 @@
 
 use std::fmt;
 
-use crate::parked::{image_refusal, park_fresh, run_parked, IMAGE_SIZE};
+use crate::parked::{image_refusal, park_fresh, preview_parked, run_parked, IMAGE_SIZE};
 use crate::{Outcome, Refusal};
 
 /// A board, held as its image: the bytes that park it. An image is the only image of its board, so boards are equal
@@ -92,6 +92,36 @@ impl Board {
     /// part is not refused, they leave the same board as one run, and give the same answers, one after the other.
     pub fn run(&mut self, list: &[u8], answers: &mut [u8]) -> Outcome {
         run_parked(&mut self.image, list, answers)
+    }
+
+    /// Whether the line would be high after each of some totals of further cycles, in any order and with repeats: one
+    /// byte for each, 1 or 0, at the start of a buffer. Each is the line that one advance of that total would answer,
+    /// and the board stays as it is. The bytes after those of the totals stay.
+    ///
+    /// A board whose clock is enabled in realtime is refused, by [`Refusal::ClockInRealtime`], and then a buffer that is
+    /// shorter than the totals, by [`Refusal::BufferTooSmall`]; a refused preview writes nothing.
+    ///
+    /// ```
+    /// use pec::{list_of, Board, Call, Refusal};
+    ///
+    /// // One-shot channel 0 with compare 10 and prescaler 2: its interrupt is due after 30 cycles.
+    /// let mut board = Board::fresh();
+    /// let program = [(0x293, 10), (0x2A3, 2), (0x283, 12), (0x007, 1)];
+    /// let program = program.map(|(address, byte)| Call::Write { address, byte });
+    /// assert_eq!(board.run(&list_of(&program), &mut [0; 12]).refusal, None);
+    /// let mut high = [7; 6];
+    /// board.preview(&[30, 29, 0, u64::MAX, 30], &mut high)?;
+    /// assert_eq!(high, [1, 0, 0, 1, 1, 7]);
+    ///
+    /// assert_eq!(board.preview(&[30, 29], &mut high[..1]), Err(Refusal::BufferTooSmall));
+    /// // With the clock in realtime, an alarm may come with any advance.
+    /// let realtime = Call::Write { address: 0x083, byte: 5 };
+    /// board.run(&list_of(&[realtime]), &mut [0; 3]);
+    /// assert_eq!(board.preview(&[30, 29], &mut high), Err(Refusal::ClockInRealtime));
+    /// # Ok::<(), Refusal>(())
+    /// ```
+    pub fn preview(&self, totals: &[u64], high: &mut [u8]) -> Result<(), Refusal> {
+        preview_parked(&self.image, totals, high)
     }
 }
 

@@ -4,8 +4,9 @@
 //! crates/pec. Each is safe: the library's contracts ask nothing of their callers, and it keeps nothing between
 //! calls. A call list and its answers are bytes that the caller lends; the types of the crate rust/calls, which stand
 //! here too, make and read them. [`run`] takes a fresh board; a [`Board`] goes on from list to list, and its image
-//! keeps it while no program runs. A [`Controller`] is the interrupt controller by itself, and a [`Dispatcher`] above
-//! it serves its sources in turn.
+//! keeps it while no program runs; [`Board::preview`] tells of many totals of cycles whether its line would be high
+//! after each. A [`Controller`] is the interrupt controller by itself, and a [`Dispatcher`] above it serves its sources
+//! in turn.
 //!
 //! ```
 //! use pec::{answers, list_of, Answer, Call, Refusal};
@@ -33,7 +34,7 @@ pub use board::Board;
 pub use calls::{answers, list_of, Answer, Answers, Call, DamagedAnswers, Fault, Outcome, Refusal};
 pub use controller::{Controller, IrqOutput};
 pub use dispatcher::Dispatcher;
-pub use parked::{image_refusal, park_fresh, run_parked, IMAGE_SIZE};
+pub use parked::{image_refusal, park_fresh, preview_parked, run_parked, IMAGE_SIZE};
 
 // A slice goes as its pointer and its length.
 unsafe extern "C" {
@@ -71,7 +72,7 @@ unsafe extern "C" {
 
 /// The refusal of a number that the library gives, 0 for none.
 fn refusal_of(number: u8) -> Option<Refusal> {
-    (number != 0).then(|| Refusal::from_number(number).expect("the library's refusals are 1 to 13"))
+    (number != 0).then(|| Refusal::from_number(number).expect("the library's refusals are 1 to 14"))
 }
 
 /// The outcome of a call of the library that writes calls, list bytes and answer bytes and gives the refusal's number,

@@ -21,6 +21,14 @@ unsafe extern "C" {
         used: *mut usize,
         written: *mut usize,
     ) -> u8;
+    fn pec_preview(
+        image: *const u8,
+        image_length: usize,
+        totals: *const u64,
+        count: usize,
+        high: *mut u8,
+        high_length: usize,
+    ) -> u8;
 }
 
 /// Parks a fresh board: writes its image at the start of a buffer, and leaves the bytes after it. Gives the bytes
@@ -63,4 +71,18 @@ pub fn run_parked(image: &mut [u8], list: &[u8], answers: &mut [u8]) -> Outcome 
             written,
         )
     })
+}
+
+/// Whether the line of the board of an image would be high after each of some totals of further cycles: one byte for
+/// each, 1 or 0, in the order of the totals, at the start of a buffer. The bytes after them stay.
+///
+/// Refused, it writes nothing: where [`image_refusal`] refuses the image, by that; else by
+/// [`Refusal::ClockInRealtime`], where the clock is enabled in realtime; else by [`Refusal::BufferTooSmall`], where
+/// there are more totals than bytes.
+pub fn preview_parked(image: &[u8], totals: &[u64], high: &mut [u8]) -> Result<(), Refusal> {
+    let (from, room) = (high.as_mut_ptr(), high.len());
+    // SAFETY: the pointers and lengths are those of slices that live through the call; two are only read, and the third
+    // overlaps neither.
+    let number = unsafe { pec_preview(image.as_ptr(), image.len(), totals.as_ptr(), totals.len(), from, room) };
+    refusal_of(number).map_or(Ok(()), Err)
 }
