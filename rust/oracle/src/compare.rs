@@ -9,6 +9,7 @@ pub mod matches;
 pub mod parked;
 pub mod passes;
 pub mod prescaler;
+pub mod previews;
 pub mod skips;
 
 use std::fmt::{self, Write};
@@ -31,7 +32,8 @@ pub struct Pair {
 /// How much was compared.
 #[derive(Clone, Copy, Debug, Default, PartialEq, Eq)]
 pub struct Count {
-    /// Outcomes and buffers of a run, results of an operation, or the dispatcher's turns on a controller, found equal.
+    /// Outcomes and buffers of a run, results of an operation, the dispatcher's turns on a controller, or the previews of
+    /// some totals, found equal.
     pub comparisons: u64,
     /// The calls that the compared runs carried out.
     pub calls: u64,

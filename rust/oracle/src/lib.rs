@@ -27,6 +27,7 @@ pub mod kinds;
 pub mod list;
 pub mod matches;
 pub mod measure;
+pub mod preview;
 pub mod record;
 pub mod writes;
 

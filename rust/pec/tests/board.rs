@@ -1,8 +1,8 @@
 //! The functions of the crate pass slices, results, repeats and images as they say.
 
 use pec::{
-    answers, image_refusal, list_of, park_fresh, run, run_parked, run_repeated, Answer, Board, Call, Controller,
-    Outcome, Refusal, IMAGE_SIZE,
+    answers, image_refusal, list_of, park_fresh, preview_parked, run, run_parked, run_repeated, Answer, Board, Call,
+    Controller, Outcome, Refusal, IMAGE_SIZE,
 };
 
 const OUTPUT: [u8; 3] = [0x0A, 0, 0];
@@ -190,6 +190,70 @@ fn a_skip_that_is_too_large_is_refused_and_changes_nothing() {
         (&answers[..12], &board),
         (&[6, 0, 9, 0, 0, 0, 0, 0, 0, 0, 0, 1][..], &high)
     );
+}
+
+/// A board with one-shot channel 0, compare 10 and prescaler 2: due after 30 cycles.
+fn due_after_30() -> Board {
+    let start =
+        [(0x293, 10), (0x2A3, 2), (0x283, 12), (0x007, 1)].map(|(address, byte)| Call::Write { address, byte });
+    let mut board = Board::fresh();
+    assert_eq!(board.run(&list_of(&start), &mut [0; 12]).refusal, None);
+    board
+}
+
+#[test]
+fn a_preview_is_what_an_advance_of_a_copy_answers() {
+    let mut high_line = due_after_30();
+    let mut answers = [0; 68];
+    high_line.run(&list_of(&[Call::Advance { cycles: 30 }]), &mut answers);
+    // In any order, with repeats, and into a buffer with a byte more.
+    let totals = [30, 29, 0, 31, u64::MAX, 29, 30, 1];
+    for (board, expected) in [
+        (due_after_30(), [1, 0, 0, 1, 1, 0, 1, 0]),
+        (high_line, [1; 8]),
+        (Board::fresh(), [0; 8]),
+    ] {
+        let before = board.clone();
+        let mut high = [7; 9];
+        assert_eq!(board.preview(&totals, &mut high), Ok(()));
+        assert_eq!((&high[..8], high[8], &board), (&expected[..], 7, &before));
+        for (cycles, byte) in totals.into_iter().zip(high) {
+            let mut copy = board.clone();
+            copy.run(&list_of(&[Call::Advance { cycles }]), &mut answers);
+            assert_eq!(answers[3], byte, "{cycles}");
+        }
+    }
+}
+
+#[test]
+fn previews_are_refused_in_order_and_write_nothing() {
+    let board = due_after_30();
+    let mut realtime = board.clone();
+    let write = Call::Write {
+        address: 0x083,
+        byte: 5,
+    };
+    realtime.run(&list_of(&[write]), &mut [0; 3]);
+    let mut unsound = *realtime.image();
+    unsound[TIMER_ENABLE] = 16;
+    for (image, room, refusal) in [
+        (&board.image()[..], 1, Refusal::BufferTooSmall),
+        (realtime.image(), 2, Refusal::ClockInRealtime),
+        (realtime.image(), 1, Refusal::ClockInRealtime),
+        (&unsound, 1, Refusal::UnsoundBoard),
+        (&unsound[1..], 1, Refusal::MalformedImage),
+    ] {
+        let mut high = [7; 2];
+        let refused = preview_parked(image, &[30, 29], &mut high[..room]);
+        assert_eq!((refused, high), (Err(refusal), [7; 2]));
+    }
+    assert_eq!(realtime.preview(&[30], &mut [7; 2]), Err(Refusal::ClockInRealtime));
+    // Without totals a preview needs no room, and writes nothing.
+    let mut high = [7; 2];
+    assert_eq!(board.preview(&[], &mut high), Ok(()));
+    assert_eq!(board.preview(&[], &mut []), Ok(()));
+    assert_eq!(realtime.preview(&[], &mut []), Err(Refusal::ClockInRealtime));
+    assert_eq!(high, [7; 2]);
 }
 
 #[test]

@@ -1,5 +1,5 @@
 //! C and C++ programs over the header and the archive: document 01's worked answers, counts of matches, parked boards, a
-//! skip that is refused, turns of the dispatcher, and the memory that the library uses.
+//! skip that is refused, previews of many totals, turns of the dispatcher, and the memory that the library uses.
 
 use std::env;
 use std::io::Write;
@@ -90,6 +90,21 @@ fn a_board_is_parked_and_taken_up_from_c_and_from_cpp() {
     );
     for language in [C, CPP] {
         assert_eq!(printed("parked", language, &[]), expected);
+    }
+}
+
+#[test]
+fn totals_are_previewed_from_c_and_from_cpp() {
+    // Refusal, and the eight bytes of the buffer, of which seven are lent. The deadline is 30; the totals are 30, 29, 0,
+    // 31, 2^64 - 1 and 30. Without totals all bytes stay, and so they do where there is one byte less than totals.
+    let low = "due after 30: 0 1 0 0 1 1 1 7 7\nno totals: 0 7 7 7 7 7 7 7 7\nshort: 11 7 7 7 7 7 7 7 7\n";
+    // After an advance of 30 cycles the line is high; a fresh board has no deadline.
+    let constant = "high: 0 1 1 1 1 1 1 7 7\nfresh: 0 0 0 0 0 0 0 7 7\n";
+    // Each refusal ahead of those before it.
+    let refused = "in realtime: 14 7 7 7 7 7 7 7 7\nin realtime, short: 14 7 7 7 7 7 7 7 7\n\
+                   unsound, short: 1 7 7 7 7 7 7 7 7\ncut, short: 12 7 7 7 7 7 7 7 7\n";
+    for language in [C, CPP] {
+        assert_eq!(printed("preview", language, &[]), format!("{low}{constant}{refused}"));
     }
 }
 

@@ -1,19 +1,22 @@
 //! Compares the proved board with the original Rust, through the static library.
 //!
 //! `compare FIRST LAST` compares the lists of the seeds from FIRST to LAST, what the boards hold after each, and lists
-//! over parked boards by the same seeds. `compare all FIRST LAST` compares these, and every register with every byte,
-//! damaged lists, short buffers, skips to large deadlines, advances with counts of matches at limits, prescalers at
-//! their limits, damaged images, the controller by itself, and the dispatcher. Ends with how many comparisons agreed,
-//! or prints the shortest list that shows a difference.
+//! over parked boards and previews by the same seeds. `compare all FIRST LAST` compares these, and every register with
+//! every byte, damaged lists, short buffers, skips to large deadlines, advances with counts of matches at limits,
+//! prescalers at their limits, damaged images, previews to large deadlines and of damaged images, the controller by
+//! itself, and the dispatcher. Ends with how many comparisons agreed, or prints the shortest list that shows a
+//! difference.
 //!
 //! The Rust has neither the counts in an advance's answer nor the dispatcher: there the proved board is compared with
-//! the oracle's own reading of S-4 and of S-3.
+//! the oracle's own reading of S-4 and of S-3. It has no previews either: each byte of one is compared with an advance of
+//! the Rust, of a board of its own.
 
 use std::process::ExitCode;
 use std::time::Instant;
 
 use oracle::compare::parked::{self, Parking};
-use oracle::compare::{controller, dispatcher, matches, passes, prescaler, skips, Count, Difference, Pair};
+use oracle::compare::{controller, dispatcher, matches, passes, prescaler, previews, skips};
+use oracle::compare::{Count, Difference, Pair};
 use oracle::dispatcher::Turn;
 use oracle::list;
 
@@ -91,6 +94,29 @@ fn compare(all: bool, first: u64, last: u64) -> Result<Count, String> {
         }
         Ok(count)
     })?;
+    let mut shown = 0_u64;
+    let mut preview = |image: &[u8], totals: &[u64], high: &mut [u8]| {
+        let previewed = pec::preview_parked(image, totals, high);
+        shown += if previewed.is_ok() { totals.len() as u64 } else { 0 };
+        previewed
+    };
+    part("previews by seed", &mut total, || {
+        let mut count = Count::default();
+        for seed in first..=last {
+            let compared = previews::seed(&mut preview, seed);
+            count.add(compared.map_err(|reason| format!("seed {seed}: {reason}"))?);
+        }
+        Ok(count)
+    })?;
+    if all {
+        part("previews to large deadlines", &mut total, || {
+            previews::limits(&mut preview)
+        })?;
+        part("previews of damaged images", &mut total, || {
+            previews::images(&mut preview)
+        })?;
+    }
+    println!("  in these, {shown} totals, each against an advance of the Rust");
     if all {
         let text = |difference: Box<Difference>| difference.to_string();
         part("registers", &mut total, || passes::registers(&PAIR).map_err(text))?;

@@ -15,6 +15,7 @@ mod originals;
 mod papers;
 mod parked;
 mod prescaler;
+mod previews;
 mod program;
 mod recorded;
 mod registers;

@@ -1,0 +1,299 @@
+//! Previews of many totals: rows worked out by hand from S-6's sentences, what the compared boards and totals reach, and
+//! the faults that the comparison finds.
+
+use calls::Refusal;
+use oracle::board::Board;
+use oracle::compare::previews::{boards, images, limits, seed, totals, Previewer};
+use oracle::deadline;
+use oracle::fields::Fields;
+use oracle::generate::Random;
+use oracle::image::{image_of, read_image};
+use oracle::preview::{line_after, preview_parked};
+
+use crate::support::*;
+
+/// The seeds that the tests go over.
+const SEEDS: u64 = 40;
+
+/// Setting A: its deadline is 30.
+fn setting_a() -> Fields {
+    let mut fields = running(0);
+    (fields.channels[0].compare, fields.channels[0].prescaler) = (10, 2);
+    fields
+}
+
+#[test]
+fn previews_are_those_worked_out_by_hand() {
+    let mut setting_d = running(2);
+    setting_d.channels[0].armed = true;
+    let mut setting_f = Fields::fresh();
+    (setting_f.alarm, setting_f.alarm_armed, setting_f.alarm_enable) = (2, true, 1);
+    let mut nearer = Board::from_fields(&setting_d);
+    advance(&mut nearer, 1);
+    let mut reached = Board::from_fields(&setting_a());
+    advance(&mut reached, 30);
+    let top = u64::MAX;
+    for (fields, totals, high) in [
+        (setting_a(), vec![30, 29, 0, 31, top, 29, 30], vec![1, 0, 0, 1, 1, 0, 1]),
+        (setting_f, vec![95_999_999, 96_000_000], vec![0, 1]),
+        // Due after 2^64 cycles, and after 2^64 - 1.
+        (setting_d, vec![top, 0], vec![0, 0]),
+        (nearer.fields(), vec![top, top - 1], vec![1, 0]),
+        // No deadline; the line high.
+        (Fields::fresh(), vec![0, 1, top], vec![0, 0, 0]),
+        (reached.fields(), vec![0, 1, top], vec![1, 1, 1]),
+        (setting_a(), vec![], vec![]),
+    ] {
+        let mut buffer = vec![7; high.len() + 2];
+        assert_eq!(preview_parked(&image_of(&fields), &totals, &mut buffer), Ok(()));
+        assert_eq!(buffer, [high, vec![7, 7]].concat(), "{totals:?}");
+    }
+}
+
+#[test]
+fn previews_are_refused_in_order_and_write_nothing() {
+    let controlled = |clock_control| Fields {
+        clock_control,
+        ..setting_a()
+    };
+    let mut unsound = controlled(5);
+    unsound.channels[0].control = 16;
+    let images = [controlled(1), controlled(5), unsound].map(|fields| image_of(&fields));
+    let [plain, realtime, unsound] = &images;
+    let cut = &unsound[1..];
+    for (image, room, refusal) in [
+        (&plain[..], 1, Refusal::BufferTooSmall),
+        (realtime, 2, Refusal::ClockInRealtime),
+        (realtime, 1, Refusal::ClockInRealtime),
+        (unsound, 1, Refusal::UnsoundBoard),
+        (cut, 1, Refusal::MalformedImage),
+    ] {
+        let mut buffer = [7; 2];
+        let refused = preview_parked(image, &[30, 29], &mut buffer[..room]);
+        assert_eq!((refused, buffer), (Err(refusal), [7; 2]));
+    }
+    // Of no totals too.
+    let refused = preview_parked(realtime, &[], &mut []);
+    assert_eq!(refused, Err(Refusal::ClockInRealtime));
+    // Realtime without enable, and enable without realtime, are no realtime clock.
+    for clock_control in [0, 1, 2, 3, 4, 6] {
+        let mut buffer = [7; 2];
+        let previewed = preview_parked(&image_of(&controlled(clock_control)), &[30, 29], &mut buffer);
+        assert_eq!((previewed, buffer), (Ok(()), [1, 0]), "{clock_control}");
+    }
+}
+
+#[test]
+fn the_boards_and_totals_of_the_seeds_reach_every_case() {
+    // Boards: refused with 14; the line high; no deadline; one above 2^64 - 1; one that a total reaches.
+    let mut seen = [0; 5];
+    let mut repeats = 0;
+    for number in 1..=SEEDS {
+        let mut random = Random::new(number);
+        for fields in boards(number) {
+            let mut totals = totals(&fields, &mut random);
+            let due = deadline::exact(&fields);
+            let kind = match due {
+                _ if fields.runs_from_host_time() => 0,
+                _ if fields.line() => 1,
+                None => 2,
+                Some(due) if due > u128::from(u64::MAX) => 3,
+                Some(due) => {
+                    let due = due as u64;
+                    assert!(totals.contains(&due) && totals.contains(&(due - 1)), "{due}");
+                    assert_eq!([due - 1, due].map(|total| line_after(&fields, total)), [false, true]);
+                    4
+                }
+            };
+            seen[kind] += 1;
+            assert!([0, 1, u64::MAX].iter().all(|total| totals.contains(total)));
+            let length = totals.len();
+            totals.sort_unstable();
+            totals.dedup();
+            repeats += usize::from(totals.len() < length);
+        }
+    }
+    assert!(seen.iter().all(|count| *count > 5) && seen[4] > 50, "{seen:?}");
+    assert!(repeats > 50, "{repeats}");
+}
+
+/// A preview that is not the rules': of an image, totals and a buffer.
+type Fault = fn(&[u8], &[u64], &mut [u8]) -> Result<(), Refusal>;
+
+/// The rules, and then a change where they accept: of the board, the totals and the whole buffer.
+fn accepted_but(
+    (image, totals, high): (&[u8], &[u64], &mut [u8]),
+    change: impl FnOnce(&Fields, &[u64], &mut [u8]),
+) -> Result<(), Refusal> {
+    preview_parked(image, totals, high)?;
+    change(&read_image(image).expect("it was accepted"), totals, high);
+    Ok(())
+}
+
+/// The rules but for each byte, which is a function of the board and the total.
+fn each(
+    (image, totals, high): (&[u8], &[u64], &mut [u8]),
+    byte: impl Fn(&Fields, u64) -> bool,
+) -> Result<(), Refusal> {
+    accepted_but((image, totals, high), |fields, totals, high| {
+        for (place, total) in totals.iter().enumerate() {
+            high[place] = byte(fields, *total).into();
+        }
+    })
+}
+
+/// The Rust's 64-bit deadline, the smaller of D and 2^64 - 1.
+fn capped(fields: &Fields) -> Option<u64> {
+    deadline::exact(fields).map(|due| due.try_into().unwrap_or(u64::MAX))
+}
+
+const FAULTS: [(&str, Fault); 20] = [
+    ("more than the deadline", |image, totals, high| {
+        each((image, totals, high), |fields, total| {
+            fields.line() || deadline::exact(fields).is_some_and(|due| due < total.into())
+        })
+    }),
+    ("a cycle early", |image, totals, high| {
+        each((image, totals, high), |fields, total| {
+            fields.line() || deadline::exact(fields).is_some_and(|due| due <= u128::from(total) + 1)
+        })
+    }),
+    ("the 64-bit deadline in the place of D", |image, totals, high| {
+        each((image, totals, high), |fields, total| {
+            fields.line() || capped(fields).is_some_and(|due| due <= total)
+        })
+    }),
+    ("2^64 - 1 where there is no deadline", |image, totals, high| {
+        each((image, totals, high), |fields, total| {
+            line_after(fields, total) || deadline::exact(fields).is_none() && total == u64::MAX
+        })
+    }),
+    ("a high line not looked at", |image, totals, high| {
+        each((image, totals, high), |fields, total| {
+            deadline::exact(fields).is_some_and(|due| due <= total.into())
+        })
+    }),
+    ("a high line low at 0", |image, totals, high| {
+        each((image, totals, high), |fields, total| {
+            total > 0 && line_after(fields, total)
+        })
+    }),
+    ("the line now", |image, totals, high| {
+        each((image, totals, high), |fields, _| fields.line())
+    }),
+    ("32 bits of a total", |image, totals, high| {
+        each((image, totals, high), |fields, total| {
+            line_after(fields, u64::from(total as u32))
+        })
+    }),
+    ("totals added up", |image, totals, high| {
+        accepted_but((image, totals, high), |fields, totals, high| {
+            let mut board = Board::from_fields(fields);
+            for (byte, total) in high.iter_mut().zip(totals) {
+                *byte = advance(&mut board, *total).into();
+            }
+        })
+    }),
+    ("in the order of the totals' size", |image, totals, high| {
+        let mut sorted = totals.to_vec();
+        sorted.sort_unstable();
+        preview_parked(image, &sorted, high)
+    }),
+    ("repeats left out", |image, totals, high| {
+        let mut once = Vec::new();
+        for total in totals {
+            if !once.contains(total) {
+                once.push(*total);
+            }
+        }
+        preview_parked(image, totals, &mut high.to_vec())?;
+        preview_parked(image, &once, high)
+    }),
+    ("one byte past the totals", |image, totals, high| {
+        accepted_but((image, totals, high), |_, totals, high| {
+            if let Some(byte) = high.get_mut(totals.len()) {
+                *byte = 0;
+            }
+        })
+    }),
+    ("255 for a high line", |image, totals, high| {
+        accepted_but((image, totals, high), |_, totals, high| {
+            high[..totals.len()].iter_mut().for_each(|byte| *byte *= 255);
+        })
+    }),
+    ("14 left out", |image, totals, high| {
+        match preview_parked(image, totals, &mut high.to_vec()) {
+            Err(Refusal::ClockInRealtime) if totals.len() <= high.len() => {
+                let fields = read_image(image)?;
+                for (byte, total) in high.iter_mut().zip(totals) {
+                    *byte = line_after(&fields, *total).into();
+                }
+                Ok(())
+            }
+            _ => preview_parked(image, totals, high),
+        }
+    }),
+    ("14 without enable", |image, totals, high| {
+        if read_image(image).is_ok_and(|fields| fields.realtime()) {
+            return Err(Refusal::ClockInRealtime);
+        }
+        preview_parked(image, totals, high)
+    }),
+    ("11 before 14", |image, totals, high| {
+        if read_image(image).is_ok() && high.len() < totals.len() {
+            return Err(Refusal::BufferTooSmall);
+        }
+        preview_parked(image, totals, high)
+    }),
+    ("11 before 12 and 1", |image, totals, high| {
+        if read_image(image).is_err() && high.len() < totals.len() {
+            return Err(Refusal::BufferTooSmall);
+        }
+        preview_parked(image, totals, high)
+    }),
+    ("11 with just enough room", |image, totals, high| {
+        preview_parked(image, totals, &mut high.to_vec())?;
+        if high.len() == totals.len() {
+            return Err(Refusal::BufferTooSmall);
+        }
+        preview_parked(image, totals, high)
+    }),
+    ("a short buffer filled", |image, totals, high| {
+        let room = totals.len().min(high.len());
+        let previewed = preview_parked(image, totals, &mut high.to_vec());
+        if previewed != Err(Refusal::ClockInRealtime) {
+            let _ = preview_parked(image, &totals[..room], high);
+        }
+        previewed.and_then(|()| preview_parked(image, totals, high))
+    }),
+    ("zeros where the clock is in realtime", |image, totals, high| {
+        let previewed = preview_parked(image, totals, high);
+        if previewed == Err(Refusal::ClockInRealtime) {
+            high.fill(0);
+        }
+        previewed
+    }),
+];
+
+/// Everything that is compared, or the first difference.
+fn everything(preview: &mut Previewer) -> Result<u64, String> {
+    let mut comparisons = 0;
+    for number in 1..=SEEDS {
+        comparisons += seed(preview, number)?.comparisons;
+    }
+    comparisons += limits(preview)?.comparisons;
+    Ok(comparisons + images(preview)?.comparisons)
+}
+
+#[test]
+fn the_rules_of_previews_agree_with_themselves() {
+    assert!(everything(&mut preview_parked).unwrap() > 10_000);
+}
+
+#[test]
+fn faults_of_previews_are_found() {
+    for (name, mut fault) in FAULTS {
+        let text = everything(&mut fault).expect_err(name);
+        assert!(text.starts_with("previews of ["), "{name}: {text}");
+    }
+}
