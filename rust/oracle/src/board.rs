@@ -103,6 +103,12 @@ impl Board {
 }
 
 impl Devices {
+    /// The line after an advance of a copy of the originals' state, at the board's host time.
+    pub fn line_after(&self, cycles: u64) -> bool {
+        host_time::set(self.host_seconds, self.host_nanoseconds);
+        self.timing.line_after(cycles)
+    }
+
     fn from_fields(fields: &Fields) -> Self {
         let mut irqc = IrqController::new();
         controller::set(&mut irqc, fields.controller_pending, fields.controller_levels);

@@ -1,7 +1,10 @@
-//! The kinds of list that are measured: `bench` takes their time, `instructions` counts their instructions.
+//! The kinds of list that are measured, and the groups of operations: `bench` takes their time, `instructions` counts
+//! their instructions.
 
 #[cfg(feature = "proved")]
 pub mod parking;
+#[cfg(feature = "proved")]
+pub mod previews;
 
 use calls::Call;
 
@@ -25,11 +28,40 @@ pub struct Kind {
     pub times: u64,
 }
 
+/// An operation, and what carries it out so many times.
+pub struct Operation {
+    pub name: &'static str,
+    pub repeat: fn(u64),
+}
+
+/// Operations that are measured beside each other. The last is what the others are held against.
+pub struct Group {
+    /// What `bench` and `instructions` call it.
+    pub name: &'static str,
+    /// What is printed above its table.
+    pub title: &'static str,
+    /// What is printed above the column of the ratios to the last operation.
+    pub ratio: &'static str,
+    pub operations: &'static [Operation],
+}
+
+/// The groups.
+#[cfg(feature = "proved")]
+pub const GROUPS: [Group; 2] = [parking::GROUP, previews::GROUP];
+
 /// The kind of a name, or every kind where none is given; nothing where there is none of that name.
 pub fn named(wanted: Option<&str>) -> Vec<Kind> {
     let mut kinds = kinds();
     kinds.retain(|kind| wanted.is_none_or(|wanted| wanted == kind.name));
     kinds
+}
+
+/// The group of a name, or every group where none is given; nothing where there is none of that name.
+#[cfg(feature = "proved")]
+pub fn groups(wanted: Option<&str>) -> Vec<Group> {
+    let mut groups = Vec::from(GROUPS);
+    groups.retain(|group| wanted.is_none_or(|wanted| wanted == group.name));
+    groups
 }
 
 /// Four channels in modes 1 and 2 that match now and then, and a clock whose alarm is far off.

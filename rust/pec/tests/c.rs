@@ -135,7 +135,7 @@ fn sources_are_served_in_turn_from_c_and_from_cpp() {
 }
 
 #[test]
-fn a_run_uses_little_stack() {
+fn a_run_and_a_preview_use_little_stack() {
     // One call of each tag, and reads and writes in every block of registers.
     let mut calls = vec![Call::HostTime {
         seconds: 7,
@@ -153,12 +153,16 @@ fn a_run_uses_little_stack() {
     ]);
     calls.extend([Call::ControllerWrite { address: 5, byte: 255 }, Call::Output]);
     let text = printed("stack", C, &list_of(&calls));
-    let [alone, run, parked] = [0, 1, 2].map(|place| {
-        let figure = text.split_whitespace().nth(place).expect("three figures");
+    let [alone, run, parked, preview] = [0, 1, 2, 3].map(|place| {
+        let figure = text.split_whitespace().nth(place).expect("four figures");
         figure.parse::<usize>().expect("decimal")
     });
     assert!(alone > 0, "{text}");
-    for (name, used) in [("a run", run), ("a run over a parked board", parked)] {
+    for (name, used) in [
+        ("a run", run),
+        ("a run over a parked board", parked),
+        ("a preview", preview),
+    ] {
         println!("stack of {name}: {} bytes", used - alone);
         assert!(used > alone && used - alone < 16_384, "{name}: {text}");
     }

@@ -1,5 +1,6 @@
-/* Prints the bytes of stack that a thread uses, first alone, then with a run of the list on standard input, and then
-   with a run of it over a parked board: the stack is filled before, and what no longer holds the filling was used. */
+/* Prints the bytes of stack that a thread uses, first alone, then with a run of the list on standard input, then with a
+   run of it over a parked board, and then with previews of a parked board: the stack is filled before, and what no
+   longer holds the filling was used. */
 #define _POSIX_C_SOURCE 200809L
 #include "pec.h"
 
@@ -34,6 +35,15 @@ static void *run_parked(void *unused)
     return unused;
 }
 
+static uint8_t fresh[PEC_IMAGE_SIZE];
+
+static void *preview(void *unused)
+{
+    static const uint64_t totals[] = {0, 1, UINT64_MAX};
+    pec_preview(fresh, sizeof fresh, totals, 3, answers, sizeof answers);
+    return unused;
+}
+
 static size_t used_by(void *(*work)(void *))
 {
     pthread_t thread;
@@ -55,7 +65,8 @@ static size_t used_by(void *(*work)(void *))
 int main(void)
 {
     list_length = fread(list, 1, sizeof list, stdin);
-    size_t alone = used_by(nothing), with_run = used_by(run);
-    printf("%zu %zu %zu\n", alone, with_run, used_by(run_parked));
+    size_t written, alone = used_by(nothing), with_run = used_by(run), with_parked = used_by(run_parked);
+    pec_fresh(fresh, sizeof fresh, &written);
+    printf("%zu %zu %zu %zu\n", alone, with_run, with_parked, used_by(preview));
     return 0;
 }

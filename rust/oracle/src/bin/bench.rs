@@ -6,20 +6,20 @@
 //! `bench` prints, for each kind of list, nanoseconds a call of both, median and spread of 25 repeats; the median of
 //! the ratios of the repeats that stand next to each other; and the seconds of a ten-year record. Above its table it
 //! prints how the Rust is built. Then it prints nanoseconds of the work on parked boards, which is the proved board's
-//! alone, and their ratios to an advance inside a long list. `bench NAME` prints one kind alone, `bench parking` the
-//! parked boards.
+//! alone, and their ratios to an advance inside a long list; and of previews, with their ratios to an advance of a copy
+//! of the Rust's board. `bench NAME` prints one kind alone, `bench parking` the parked boards, `bench previews` the
+//! previews.
 
 use std::process::ExitCode;
 use std::time::Instant;
 
 use calls::list_of;
 use oracle::compare::Runner;
-use oracle::kinds::parking::{self, OPERATIONS};
-use oracle::kinds::{self, Kind, BUFFER, CALLS};
+use oracle::kinds::{self, previews, Group, Kind, BUFFER, CALLS};
 use oracle::measure::{median_ratio, nanoseconds_each, sorted, REPEATS};
 use oracle::{list, matches};
 
-/// The times that one repeat carries out an operation on parked boards.
+/// The times that one repeat carries out an operation of a group.
 const TIMES: u64 = 100 * CALLS as u64;
 
 fn main() -> ExitCode {
@@ -29,8 +29,8 @@ fn main() -> ExitCode {
     }
     let wanted = std::env::args().nth(1);
     let kinds = kinds::named(wanted.as_deref());
-    let parked = wanted.as_deref().is_none_or(|wanted| wanted == parking::NAME);
-    if kinds.is_empty() && !parked {
+    let groups = kinds::groups(wanted.as_deref());
+    if kinds.is_empty() && groups.is_empty() {
         eprintln!("bench: no kind of that name");
         return ExitCode::FAILURE;
     }
@@ -42,27 +42,29 @@ fn main() -> ExitCode {
     for kind in &kinds {
         measure(kind);
     }
-    if parked {
-        measure_parking();
+    assert!(previews::agree(), "the previews are not what advances of copies show");
+    for group in &groups {
+        measure_group(group);
     }
     ExitCode::SUCCESS
 }
 
-/// The operations on parked boards, and the advance that they are held against, in turns as the lists are.
-fn measure_parking() {
-    let mut seconds: Vec<Vec<f64>> = OPERATIONS.iter().map(|_| Vec::new()).collect();
+/// The operations of a group, in turns as the lists are.
+fn measure_group(group: &Group) {
+    let operations = group.operations;
+    let mut seconds: Vec<Vec<f64>> = operations.iter().map(|_| Vec::new()).collect();
     for _ in 0..REPEATS {
-        for (operation, seconds) in OPERATIONS.iter().zip(&mut seconds) {
+        for (operation, seconds) in operations.iter().zip(&mut seconds) {
             let start = Instant::now();
             (operation.repeat)(TIMES);
             seconds.push(start.elapsed().as_secs_f64());
         }
     }
     let last = seconds.last().expect("there are operations").clone();
-    println!("\nParked boards, the proved board alone:\n");
-    println!("| Operation | Times | ns each | ratio to an advance in a list |");
+    println!("\n{}:\n", group.title);
+    println!("| Operation | Times | ns each | {} |", group.ratio);
     println!("|---|---|---|---|");
-    for (operation, seconds) in OPERATIONS.iter().zip(seconds) {
+    for (operation, seconds) in operations.iter().zip(seconds) {
         println!(
             "| {} | {TIMES} | {} | {:.2} |",
             operation.name,

@@ -3,17 +3,17 @@
 //! place.
 //!
 //! `instructions` prints, for each kind of list, the instructions a call of both, and then those of the work on parked
-//! boards, which is the proved board's alone. `instructions NAME` prints one kind alone, `instructions parking` the
-//! parked boards. It counts by running itself under callgrind: `instructions NAME BOARD TIMES` repeats the list of
-//! that name, or 4,000 times the operation of that name, so many times.
+//! boards, which is the proved board's alone, and of previews. `instructions NAME` prints one kind alone,
+//! `instructions parking` the parked boards, `instructions previews` the previews. It counts by running itself under
+//! callgrind: `instructions NAME BOARD TIMES` repeats the list of that name so many times, and `instructions NAME TIMES`
+//! 4,000 times the operation of that name.
 
 use std::env;
 use std::process::ExitCode;
 
 use calls::list_of;
 use oracle::compare::Runner;
-use oracle::kinds::parking::{self, OPERATIONS};
-use oracle::kinds::{self, BUFFER, CALLS};
+use oracle::kinds::{self, BUFFER, CALLS, GROUPS};
 use oracle::list;
 use oracle::measure::instructions_each;
 
@@ -25,7 +25,8 @@ fn main() -> ExitCode {
     let done = match arguments[..] {
         [] => table(None),
         [name] => table(Some(name)),
-        [name, board, times] => repeat(name, board, times),
+        [name, times] => repeat_operation(name, times),
+        [name, board, times] => repeat_list(name, board, times),
         _ => Err("usage: instructions [NAME]".into()),
     };
     match done {
@@ -39,8 +40,8 @@ fn main() -> ExitCode {
 
 fn table(wanted: Option<&str>) -> Result<(), String> {
     let kinds = kinds::named(wanted);
-    let parked = wanted.is_none_or(|wanted| wanted == parking::NAME);
-    if kinds.is_empty() && !parked {
+    let groups = kinds::groups(wanted);
+    if kinds.is_empty() && groups.is_empty() {
         return Err("no kind of that name".into());
     }
     let [rust, proved] = BOARDS.map(|(board, _)| board);
@@ -52,33 +53,39 @@ fn table(wanted: Option<&str>) -> Result<(), String> {
         let [rust, proved] = [rust, proved].map(|board| instructions_each(&[kind.name, board], kind.list.len()));
         println!("| {} | {} | {} |", kind.name, rust?, proved?);
     }
-    if parked {
-        println!("\nParked boards:\n");
-        println!("| Operation | {proved} |");
+    for group in &groups {
+        println!("\n{}:\n", group.title);
+        println!("| Operation | Instructions |");
         println!("|---|---|");
-        for operation in &OPERATIONS {
-            println!(
-                "| {} | {} |",
-                operation.name,
-                instructions_each(&[operation.name, proved], CALLS)?
-            );
+        for operation in group.operations {
+            let each = instructions_each(&[operation.name], CALLS)?;
+            println!("| {} | {each} |", operation.name);
         }
     }
     Ok(())
 }
 
-/// Repeats a list so many times on a board, or an operation as often as a list of that number has calls: what is
-/// counted.
-fn repeat(name: &str, board: &str, times: &str) -> Result<(), String> {
-    let times: u64 = times.parse().map_err(|_| "the repetitions are a number")?;
+/// The number of repetitions that is given.
+fn repetitions(times: &str) -> Result<u64, String> {
+    times.parse().map_err(|_| "the repetitions are a number".into())
+}
+
+/// Carries out an operation as often as a list that is repeated so many times has calls: what is counted.
+fn repeat_operation(name: &str, times: &str) -> Result<(), String> {
+    let mut operations = GROUPS.iter().flat_map(|group| group.operations);
+    let operation = operations.find(|operation| operation.name == name);
+    let operation = operation.ok_or("no operation of that name")?;
+    (operation.repeat)(repetitions(times)? * CALLS as u64);
+    Ok(())
+}
+
+/// Repeats a list so many times on a board: what is counted.
+fn repeat_list(name: &str, board: &str, times: &str) -> Result<(), String> {
+    let times = repetitions(times)?;
     let (board, runner) = BOARDS
         .into_iter()
         .find(|(named, _)| *named == board)
         .ok_or("no board of that name")?;
-    if let Some(operation) = OPERATIONS.iter().find(|operation| operation.name == name) {
-        (operation.repeat)(times * CALLS as u64);
-        return Ok(());
-    }
     let kinds = kinds::named(Some(name));
     let kind = kinds.first().ok_or("no kind of that name")?;
     let mut answers = vec![0; BUFFER];

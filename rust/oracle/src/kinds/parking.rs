@@ -6,42 +6,37 @@ use std::hint::black_box;
 use calls::{list_of, Call};
 use pec::{image_refusal, park_fresh, run_parked, run_repeated, Board, IMAGE_SIZE};
 
-use super::{running, BUFFER, CALLS};
+use super::{running, Group, Operation, BUFFER, CALLS};
 
-/// What `bench` and `instructions` call this work.
-pub const NAME: &str = "parking";
-
-/// An operation, and what carries it out so many times.
-pub struct Operation {
-    pub name: &'static str,
-    pub repeat: fn(u64),
-}
-
-/// The operations; the last is what the others are held against.
-pub const OPERATIONS: [Operation; 4] = [
-    Operation {
-        name: "write an image",
-        repeat: write_images,
-    },
-    Operation {
-        name: "read an image",
-        repeat: read_images,
-    },
-    Operation {
-        name: "an advance over a parked board",
-        repeat: advance_parked,
-    },
-    Operation {
-        name: "the same advance in a long list",
-        repeat: advance_in_lists,
-    },
-];
+pub const GROUP: Group = Group {
+    name: "parking",
+    title: "Parked boards, the proved board alone",
+    ratio: "ratio to an advance in a list",
+    operations: &[
+        Operation {
+            name: "write an image",
+            repeat: write_images,
+        },
+        Operation {
+            name: "read an image",
+            repeat: read_images,
+        },
+        Operation {
+            name: "an advance over a parked board",
+            repeat: advance_parked,
+        },
+        Operation {
+            name: "the same advance in a long list",
+            repeat: advance_in_lists,
+        },
+    ],
+};
 
 /// The advance that is measured, over some periods of the periodic channels.
 const ADVANCE: Call = Call::Advance { cycles: 2_500 };
 
 /// A board with four running channels and an alarm.
-fn board() -> Board {
+pub(super) fn board() -> Board {
     let mut board = Board::fresh();
     let outcome = board.run(&list_of(&running(0)), &mut vec![0; BUFFER]);
     assert_eq!(outcome.refusal, None);

@@ -116,12 +116,40 @@ impl Timing {
         self.state.borrow_mut().advance_system_cycles(cycles);
     }
 
+    /// The line after an advance of a copy of the state, which is made for it.
+    pub(crate) fn line_after(&self, cycles: u64) -> bool {
+        let mut copy = copy_of(&self.state.borrow());
+        copy.advance_system_cycles(cycles);
+        copy.irq_asserted()
+    }
+
     pub(crate) fn irq_asserted(&self) -> bool {
         self.state.borrow().irq_asserted()
     }
 
     pub(crate) fn cycles_until_irq(&self) -> Option<u64> {
         self.state.borrow().cycles_until_irq()
+    }
+}
+
+/// A copy of a state: the Rust has none of its own.
+fn copy_of(state: &PeCTimingState) -> PeCTimingState {
+    PeCTimingState {
+        timers: state.timers,
+        timer_enable: state.timer_enable,
+        rtc_control: state.rtc_control,
+        rtc_seconds: state.rtc_seconds,
+        rtc_subsecond_cycles: state.rtc_subsecond_cycles,
+        rtc_host_offset_ns: state.rtc_host_offset_ns,
+        rtc_irq_control: state.rtc_irq_control,
+        rtc_alarm_seconds: state.rtc_alarm_seconds,
+        rtc_alarm_pending: state.rtc_alarm_pending,
+        rtc_alarm_armed: state.rtc_alarm_armed,
+        rtc_seconds_shadow: state.rtc_seconds_shadow,
+        rtc_seconds_write_mask: state.rtc_seconds_write_mask,
+        rtc_host_alarm_poll_cycles: state.rtc_host_alarm_poll_cycles,
+        rtc_alarm_shadow: state.rtc_alarm_shadow,
+        rtc_alarm_write_mask: state.rtc_alarm_write_mask,
     }
 }
 

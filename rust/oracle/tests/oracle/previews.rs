@@ -8,12 +8,17 @@ use oracle::deadline;
 use oracle::fields::Fields;
 use oracle::generate::Random;
 use oracle::image::{image_of, read_image};
-use oracle::preview::{line_after, preview_parked};
+use oracle::preview::preview_parked;
 
 use crate::support::*;
 
 /// The seeds that the tests go over.
 const SEEDS: u64 = 40;
+
+/// The line that one advance answers on a board of its own with these fields.
+fn line_after(fields: &Fields, cycles: u64) -> bool {
+    advance(&mut Board::from_fields(fields), cycles)
+}
 
 /// Setting A: its deadline is 30.
 fn setting_a() -> Fields {
@@ -296,4 +301,22 @@ fn faults_of_previews_are_found() {
         let text = everything(&mut fault).expect_err(name);
         assert!(text.starts_with("previews of ["), "{name}: {text}");
     }
+}
+
+#[test]
+fn an_advance_of_a_copy_shows_what_an_advance_answers_and_leaves_the_board() {
+    // On host time too, where an alarm may be due.
+    let mut seen = [0; 2];
+    for (mut random, fields) in sound_boards(2_000) {
+        let Board::Sound(board) = Board::from_fields(&fields) else {
+            panic!("the fields are sound");
+        };
+        let totals = totals(&fields, &mut random);
+        let shown: Vec<bool> = totals.iter().map(|total| board.line_after(*total)).collect();
+        let answered: Vec<bool> = totals.iter().map(|total| line_after(&fields, *total)).collect();
+        assert_eq!(shown, answered, "{fields:?}");
+        shown.iter().for_each(|high| seen[usize::from(*high)] += 1);
+        assert_eq!(Board::Sound(board).fields(), fields);
+    }
+    assert!(seen.iter().all(|count| *count > 1_000), "{seen:?}");
 }
