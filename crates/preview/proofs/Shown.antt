@@ -3,11 +3,12 @@
 use Prim.Native.Nat.{ℕ, _≤_}
 use native.Mathlib.Nat.{add-zero}
 use native.Mathlib.Omega.{arith}
-use mathlib.Core.Path.{_≡_, refl, sym, ap, _∙_}
+use mathlib.Core.Path.{_≡_, refl, sym, _∙_}
 use mathlib.Core.Bool.{Bool, true, false, cond, _&&_, _||_}
 use mathlib.Core.Option.{Option, none, some}
+use mathlib.Core.List.{List}
 use lib.Dec.{leb, ltb}
-use borrow.Author.Tests.{le-leb, lt-leb, ltb-true, ltb-false}
+use borrow.Author.Tests.{le-leb, lt-leb, ltb-true}
 use Rattle.wide.specs.Number.{largest}
 use Rattle.wide.specs.Deadline.{due}
 use Rattle.wide.proofs.Choices.{either}
@@ -17,7 +18,9 @@ use Rattle.board.specs.declared.calls.Passing.{Passing}
 use Rattle.board.specs.Board.{BoardFits, line, exactDeadline, sound}
 use Rattle.board.specs.Calls.{advancedBoard, skipLength}
 use Rattle.board.specs.CodeCalls.{passingOf}
+use Rattle.board.specs.Demand.{DemandCall, afterAll, total}
 use Rattle.board.proofs.Steps.{good, boardDue, line-due, advance-step}
+use Rattle.board.proofs.Demand3.{line-after}
 
 module _ (b : Board) (f : BoardFits b) (s : sound b ≡ true) (o : fromHost (b .clock .control) ≡ false) (t : ℕ) where
   -- an advance shows a high line where the line is high, and where it reaches the deadline
@@ -39,6 +42,13 @@ module _ (b : Board) (f : BoardFits b) (s : sound b ≡ true) (o : fromHost (b .
   -- a low line is high from the deadline on
   pub deadline-shows : (d : ℕ) → line b ≡ false → exactDeadline b ≡ some d → line (advancedBoard t b) ≡ leb d t
   deadline-shows d low e = advance-shows ∙ rw (low, e) refl
+
+-- the line after any list of advances and host-time calls is what one advance of their total shows
+pub any-list-shows : (b : Board) → BoardFits b → sound b ≡ true → line b ≡ false →
+    fromHost (b .clock .control) ≡ false → (calls : List DemandCall) →
+    line (afterAll calls b) ≡ line (advancedBoard (total calls b) b)
+any-list-shows b f s low o calls =
+    line-after b f s low o calls ∙ sym (advance-shows b f s o (total calls b) ∙ rw low refl)
 
 -- ---- the same by the advance that a skip would make
 

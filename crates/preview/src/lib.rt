@@ -7,7 +7,6 @@ ghost use Prim.Native.Nat.{_≤_};
 ghost use lib.ListN.{length, drop};
 ghost use lib.Dec.{leb, ltb};
 ghost use Rattle.wide.specs.Bits.{flagOf};
-ghost use Rattle.clock.specs.Clock.{fromHost};
 ghost use Rattle.parking.specs.Parking.{bufferShort};
 ghost use Rattle.preview.specs.Preview.{
   clockInRealtime,
@@ -24,7 +23,8 @@ use wide::flags;
 // The refusal of a preview of a board whose clock runs from host time, by the number of S-6.
 pub const CLOCK_IN_REALTIME: u8 = 14;
 
-// The refusal of a preview but that of an unsound board, 0 for none.
+// The refusal of a preview but for 1, 0 for none: by whether the clock runs from host time, the number of totals and the
+// bytes of the buffer.
 fn own_refusal(from_host: bool, count: usize, room: usize) -> u8
     ensures { λ r. ⌜ r ≡ cond «from_host» clockInRealtime (cond (ltb room count) bufferShort 0) ⌝ }
 {
@@ -38,7 +38,7 @@ fn own_refusal(from_host: bool, count: usize, room: usize) -> u8
     }
 }
 
-// Writes one byte for each total: whether it is at least so many cycles, where these are reached at all.
+// Writes one byte for each total: 1 where it is at least so many cycles, else 0; 0 for all where none reaches them.
 fn put_reached(reached: bool, from: Cycles, totals: &[u64], high: &mut [u8])
     requires { ⌜ length (now totals) ≤ length (now high) ⌝ }
     ensures { λ _. ⌜ now (high .exit) ≡ map (λ total. flagOf (reached && leb (from .0) total)) (now (totals .entry))
@@ -53,8 +53,9 @@ fn put_reached(reached: bool, from: Cycles, totals: &[u64], high: &mut [u8])
 }
 
 // Whether the line would be high after each total of further cycles: one byte each, 1 or 0, at the start of a lent
-// buffer. The line and the deadline are looked at once: a line that is high stays so, and else each total is compared
-// with the advance that a skip would make, which there is none of where no word of cycles reaches the interrupt.
+// buffer. The line and the deadline are found once, and each total is then one comparison: with the advance that a skip
+// would make. A skip makes none where the line is high, which it stays from 0 cycles on, and where no word of cycles
+// reaches the interrupt.
 pub fn preview(board: Board, totals: &[u64], high: &mut [u8]) -> EmptyAnswer
     ensures { λ r. ⌜ r ≡ previewOf board (length (now (totals .entry))) (length (now (high .entry))) ⌝ }
     ensures { λ _. ⌜ now (high .exit) ≡ previewedBuffer board (now (totals .entry)) (now (high .entry)) ⌝ }
@@ -71,7 +72,7 @@ pub fn preview(board: Board, totals: &[u64], high: &mut [u8]) -> EmptyAnswer
     EmptyAnswer { board, refusal: 0 }
 }
 
-// The same of a parked board. An image that is refused, by 12 or 1, is the refusal; otherwise it is the preview's.
+// The same of a parked board. The refusal is the image's, 12 or 1, where that is refused, and otherwise the preview's.
 pub fn preview_parked(image: &[u8], totals: &[u64], high: &mut [u8]) -> u8
     ensures { λ r. ⌜ r ≡ parkedPreviewRefusal (now (image .entry)) (length (now (totals .entry)))
         (length (now (high .entry))) ⌝ }

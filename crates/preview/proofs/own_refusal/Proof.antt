@@ -1,5 +1,4 @@
 -- `own_refusal` meets its contract. Assumes nothing.
-use borrow.Author.Needs.{needs}
 use borrow.Author.Tests.{lt-ltb, le-ltb}
 use Rattle.preview.proofs.own_refusal.Statement.{statement}
 use Rattle.preview.proofs.own_refusal.Tie as tie
