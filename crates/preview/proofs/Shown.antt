@@ -35,15 +35,12 @@ module _ (b : Board) (f : BoardFits b) (s : sound b ≡ true) (o : fromHost (b .
   pub high-shows : line b ≡ true → line (advancedBoard t b) ≡ true
   high-shows h = advance-shows ∙ rw h refl
 
-  -- a low line without a deadline stays so
+  -- a low line without a deadline stays so; of one with a deadline, `advance-reaches` of the board says that it is high
+  -- from there on
   pub none-shows : line b ≡ false → exactDeadline b ≡ none → line (advancedBoard t b) ≡ false
   none-shows low e = advance-shows ∙ rw (low, e) refl
 
-  -- a low line is high from the deadline on
-  pub deadline-shows : (d : ℕ) → line b ≡ false → exactDeadline b ≡ some d → line (advancedBoard t b) ≡ leb d t
-  deadline-shows d low e = advance-shows ∙ rw (low, e) refl
-
--- the line after any list of advances and host-time calls is what one advance of their total shows
+-- from a low line, what any list of advances and host-time calls shows is what one advance of their total shows
 pub any-list-shows : (b : Board) → BoardFits b → sound b ≡ true → line b ≡ false →
     fromHost (b .clock .control) ≡ false → (calls : List DemandCall) →
     line (afterAll calls b) ≡ line (advancedBoard (total calls b) b)
