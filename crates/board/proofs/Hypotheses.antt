@@ -35,7 +35,7 @@ use Rattle.clock.specs.Clock.{
   advanceClock,
 }
 use Rattle.clock.specs.Fields.{freshClock, withControl, withAlarm}
-use Rattle.clock.specs.Sound.{soundOffset, soundAlarm, soundParts as clockParts, alarmAhead, soundClock}
+use Rattle.clock.specs.Sound.{soundRate, soundOffset, soundAlarm, soundParts as clockParts, alarmAhead, soundClock}
 use Rattle.clock.specs.Deadline.{clockDeadline}
 use Rattle.controller.specs.Bits.{withBit}
 use Rattle.controller.specs.Controller.{sourceSet}
@@ -95,7 +95,7 @@ pub shut-out :
     ≡ true
 unfolding
     enabledOf irqEnabledOf disabled soundTimer lineOf advanced ticked tickedIn oneShot ticksToGo deadlineOf shifted
-    ownNanoseconds timeOf timeSeconds alarmReached checkAlarm movedTime endAdvance advanceClock soundOffset soundAlarm
+    ownNanoseconds timeOf timeSeconds alarmReached checkAlarm movedTime endAdvance advanceClock soundRate soundOffset soundAlarm
     clockParts
     alarmAhead soundClock clockDeadline withBit sourceSet mapFrom foldFrom line exactDeadline wired soundParts sound
     movedBoard advancedBoard

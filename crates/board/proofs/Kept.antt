@@ -11,15 +11,17 @@ use Rattle.wide.proofs.Choices.{choose, either}
 use Rattle.channel.specs.Channel.{lineOf}
 use Rattle.channel.proofs.Sound.{fresh-sound as timer-sound}
 use Rattle.clock.specs.declared.HostTime.{HostTime}
-use Rattle.clock.specs.Clock.{rateOf, nanosPerSecond}
-use Rattle.clock.specs.Fields.{freshClock}
-use Rattle.clock.proofs.Rate.{clock-rate}
+use Rattle.clock.specs.Clock.{nanosPerSecond}
+use Rattle.clock.specs.Fields.{freshRate, freshClockAt}
+use Rattle.clock.specs.Sound.{soundRate}
+use Rattle.clock.proofs.Rate.{three-rate}
 use Rattle.clock.proofs.Soundness.{facts-sound as clock-sound, fresh-sound as clock-fresh}
 use Rattle.controller.specs.declared.IrqController.{IrqController}
 use Rattle.controller.specs.Controller.{sourceSet, byteWritten}
 use Rattle.board.specs.declared.Board.{Board}
+use Rattle.board.specs.declared.calls.EmptyAnswer.{EmptyAnswer}
 use Rattle.board.specs.Loops.{foldFrom}
-use Rattle.board.specs.Fields.{freshBoard, withController}
+use Rattle.board.specs.Fields.{freshBoardAt, freshBoard, withController}
 use Rattle.board.specs.Board.{BoardFits, line, wired, sound}
 use Rattle.board.specs.Calls.{
   Call,
@@ -39,20 +41,32 @@ use Rattle.board.specs.Calls.{
   controllerReadCall,
   controllerWriteCall,
   outputCall,
+  freshOf,
 }
 use Rattle.board.proofs.Soundness.{facts-sound, wired-sound}
 use Rattle.board.proofs.Steps.{Good, good, wired-level, advance-step, host-step}
 
-pub fresh-sound : sound freshBoard ≡ true
+pub fresh-at-sound : (rate : ℕ) → soundRate rate ≡ true → sound (freshBoardAt rate) ≡ true
 unfolding line foldFrom lineOf
-fresh-sound =
-    facts-sound freshBoard
+fresh-at-sound rate e =
+    facts-sound (freshBoardAt rate)
     (record {
       timers = rw timer-sound;
       enable = omega arith;
-      clock = clock-sound (rateOf freshClock) freshClock (clock-fresh (rateOf freshClock) (clock-rate freshClock));
+      rate = e;
+      clock = clock-sound rate (freshClockAt rate) (clock-fresh rate (three-rate rate e));
       level = refl;
     })
+
+pub fresh-sound : sound freshBoard ≡ true
+unfolding soundRate
+fresh-sound = fresh-at-sound freshRate refl
+
+-- a board that is made is sound, refused or not
+pub made-sound : (rate : ℕ) → sound (freshOf rate .board) ≡ true
+unfolding freshOf
+made-sound rate =
+    choose (λ (a : EmptyAnswer). sound (a .board) ≡ true) (soundRate rate) (fresh-at-sound rate) (λ _. fresh-sound)
 
 -- an accepted call leaves a sound machine board
 abbrev pub Keeps : (Board → Call) → Type 0
@@ -73,6 +87,7 @@ controller-good b g q =
       facts = record {
         timers = g .facts .timers;
         enable = g .facts .enable;
+        rate = g .facts .rate;
         clock = g .facts .clock;
         level = wired-level (withController q b);
       };

@@ -8,7 +8,7 @@ use borrow.Author.Tests.{ltb-true, lt-ltb}
 use Rattle.wide.specs.Bits.{bit}
 use Rattle.wide.proofs.Choices.{and-parts, and-join}
 use Rattle.clock.specs.Clock.{rateOf}
-use Rattle.clock.specs.Sound.{ClockFits, soundClock}
+use Rattle.clock.specs.Sound.{ClockFits, soundRate, soundClock}
 use Rattle.clock.proofs.Soundness.{OwnSound, sound-facts as clock-sound-facts}
 use Rattle.controller.proofs.Laws.{steady}
 use Rattle.board.specs.declared.Latch.{Latch}
@@ -55,6 +55,7 @@ beq-true false false e = refl
 pub record SoundFacts (b : Board) : Type 0 where
   pub timers : allSound (b .timers) ≡ true
   pub enable : b .«timer_enable» < 16
+  pub rate : soundRate (rateOf (b .clock)) ≡ true
   pub clock : soundClock (rateOf (b .clock)) (b .clock) ≡ true
   pub level : bit 3 (b .controller .levels) ≡ line b
 
@@ -62,19 +63,24 @@ module _ (b : Board) where
   abbrev inner : Bool
   inner = soundClock (rateOf (b .clock)) (b .clock) && soundLatches (b .latches)
 
+  abbrev rated : Bool
+  rated = soundRate (rateOf (b .clock)) && inner
+
   abbrev outer : Bool
-  outer = ltb (b .«timer_enable») 16 && inner
+  outer = ltb (b .«timer_enable») 16 && rated
 
   pub sound-facts : sound b ≡ true → SoundFacts b
   unfolding sound soundParts
   sound-facts e =
       let p = and-parts (soundParts b) (soundLevel b) e in
       let q = and-parts (allSound (b .timers)) outer (p .0) in
-      let r = and-parts (ltb (b .«timer_enable») 16) inner (q .1) in
-      let s = and-parts (soundClock (rateOf (b .clock)) (b .clock)) (soundLatches (b .latches)) (r .1) in
+      let r = and-parts (ltb (b .«timer_enable») 16) rated (q .1) in
+      let k = and-parts (soundRate (rateOf (b .clock))) inner (r .1) in
+      let s = and-parts (soundClock (rateOf (b .clock)) (b .clock)) (soundLatches (b .latches)) (k .1) in
       record {
         timers = q .0;
         enable = ltb-true (b .«timer_enable») 16 (r .0);
+        rate = k .0;
         clock = s .0;
         level = beq-true (bit 3 (b .controller .levels)) (line b) (p .1);
       }
@@ -84,9 +90,10 @@ module _ (b : Board) where
   facts-sound f =
       and-join (soundParts b) (soundLevel b)
       (and-join (allSound (b .timers)) outer (f .timers)
-      (and-join (ltb (b .«timer_enable») 16) inner (lt-ltb (b .«timer_enable») 16 (f .enable))
+      (and-join (ltb (b .«timer_enable») 16) rated (lt-ltb (b .«timer_enable») 16 (f .enable))
+      (and-join (soundRate (rateOf (b .clock))) inner (f .rate)
       (and-join (soundClock (rateOf (b .clock)) (b .clock)) (soundLatches (b .latches)) (f .clock)
-      (latches-sound (b .latches)))))
+      (latches-sound (b .latches))))))
       (rw (f .level) (beq-refl (line b)))
 
   -- the facts of its clock

@@ -15,7 +15,8 @@ use Rattle.clock.specs.declared.HostTime.{HostTime}
 use Rattle.clock.specs.Clock.{rateOf, nanosPerSecond, fromHost, advanceClock}
 use Rattle.clock.specs.Fields.{withHost}
 use Rattle.clock.specs.Deadline.{clockLine, clockDeadline, clockDue}
-use Rattle.clock.proofs.Rate.{clock-rate, SameRate, at-rate, advance-rate}
+use Rattle.clock.specs.Sound.{soundRate}
+use Rattle.clock.proofs.Rate.{three-rate, SameRate, at-rate, advance-rate}
 use Rattle.clock.proofs.Soundness.{
   Sound,
   OwnSound,
@@ -132,7 +133,8 @@ module _ (c : ℕ) (b : Board) (g : Good b) where
   moved-clock : OwnSound (moved .clock)
   moved-clock =
       at-rate Sound (b .clock) (moved .clock) rate-kept
-      (advance-sound (rateOf (b .clock)) (clock-rate (b .clock)) c (b .clock) (clock-good b g))
+      (advance-sound (rateOf (b .clock)) (three-rate (rateOf (b .clock)) (g .facts .rate)) c (b .clock)
+      (clock-good b g))
 
   pub advance-step : Step c b (advancedBoard c b)
   unfolding advancedBoard movedBoard wired
@@ -147,6 +149,7 @@ module _ (c : ℕ) (b : Board) (g : Good b) where
           facts = record {
             timers = channels-sound (b .«timer_enable») c 0 (b .timers) (g .fits .timers) (g .facts .timers);
             enable = g .facts .enable;
+            rate = at-rate (λ rate _. soundRate rate ≡ true) (b .clock) (moved .clock) rate-kept (g .facts .rate);
             clock = clock-sound (rateOf (moved .clock)) (moved .clock) moved-clock;
             level = wired-level moved;
           };
@@ -223,6 +226,7 @@ module _ (h : HostTime) (b : Board) (small : h .nanoseconds < nanosPerSecond) (g
           facts = record {
             timers = g .facts .timers;
             enable = g .facts .enable;
+            rate = g .facts .rate;
             clock = clock-sound (rateOf (hosted .clock)) (hosted .clock) hosted-clock;
             level = wired-level hosted;
           };

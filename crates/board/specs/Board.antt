@@ -11,7 +11,7 @@ use Rattle.wide.specs.Number.{largest}
 use Rattle.wide.specs.Deadline.{sooner}
 use Rattle.channel.specs.Channel.{TimerFits}
 use Rattle.clock.specs.Clock.{rateOf}
-use Rattle.clock.specs.Sound.{ClockFits, soundClock}
+use Rattle.clock.specs.Sound.{ClockFits, soundRate, soundClock}
 use Rattle.clock.specs.Deadline.{clockLine, clockDeadline}
 use Rattle.controller.specs.Controller.{sourceSet}
 use Rattle.board.specs.declared.Latch.{Latch}
@@ -67,11 +67,13 @@ abbrev pub soundLatches : Latches → Bool
 soundLatches ls =
     foldFrom (λ _ l. soundLatch (l .high)) _&&_ true 0 (ls .counts) && (soundLatch (ls .low) && soundLatch (ls .high))
 
--- 'timer enable < 16', and the clauses of the channels, the clock and the latches
+-- 'timer enable < 16', by S-7 the rate is one of three, and the clauses of the channels, the clock and the latches
 unfoldable pub soundParts : Board → Bool
 soundParts b =
     allSound (b .timers)
-    && (ltb (b .«timer_enable») 16 && (soundClock (rateOf (b .clock)) (b .clock) && soundLatches (b .latches)))
+    && (ltb (b .«timer_enable») 16
+    && (soundRate (rateOf (b .clock))
+    && (soundClock (rateOf (b .clock)) (b .clock) && soundLatches (b .latches))))
 
 -- 'level bit 3 equals the line'
 abbrev pub soundLevel : Board → Bool

@@ -11,6 +11,7 @@ use Rattle.wide.specs.Bits.{flagOf}
 use Rattle.wide.specs.Number.{wideOf, largest}
 use Rattle.clock.specs.declared.HostTime.{HostTime}
 use Rattle.clock.specs.Clock.{rateOf, nanosPerSecond, advanceClock}
+use Rattle.clock.specs.Sound.{soundRate}
 use Rattle.clock.specs.Fields.{withHost}
 use Rattle.controller.specs.Controller.{sourceSet, byteRead, byteWritten, outputOf}
 use Rattle.board.specs.declared.Board.{Board}
@@ -21,7 +22,7 @@ use Rattle.board.specs.declared.calls.SkipAnswer.{SkipAnswer}
 use Rattle.board.specs.declared.calls.ByteAnswer.{ByteAnswer}
 use Rattle.board.specs.declared.calls.OutputAnswer.{OutputAnswer}
 use Rattle.board.specs.Channels.{advancedAll, matchesAll}
-use Rattle.board.specs.Fields.{withTimers, withClock, withController}
+use Rattle.board.specs.Fields.{freshBoardAt, freshBoard, withTimers, withClock, withController}
 use Rattle.board.specs.Board.{line, exactDeadline, wordDeadline, wired, sound}
 
 -- ---- what a call is
@@ -104,6 +105,19 @@ skipAnswer a =
 abbrev pub outputAnswer : DirectAnswer → OutputAnswer
 outputAnswer a =
     record { board = a .board; refusal = a .refusal; valid = flagAt 0 a; number = record { 0 = memberAt 1 a } }
+
+-- ---- a board is made
+
+-- S-7: '15, another rate'
+abbrev pub anotherRate : ℕ
+anotherRate = 15
+
+-- 'A fresh board takes its rate, one of these or 48,000,000, and the board carries it. .. 15, another rate, before all
+-- else when a board is made (a fresh board is handed back)'
+unfoldable pub freshOf : ℕ → EmptyAnswer
+freshOf rate =
+    cond (soundRate rate) (record { board = freshBoardAt rate; refusal = 0 })
+    (record { board = freshBoard; refusal = anotherRate })
 
 -- ---- 01 host time
 

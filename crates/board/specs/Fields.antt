@@ -6,7 +6,7 @@ use lib.ListN.{getD, set}
 use Rattle.channel.specs.declared.HardwareTimer.{HardwareTimer}
 use Rattle.channel.specs.Channel.{freshTimer}
 use Rattle.clock.specs.declared.Clock.{Clock}
-use Rattle.clock.specs.Fields.{freshClock}
+use Rattle.clock.specs.Fields.{freshRate, freshClockAt}
 use Rattle.controller.specs.declared.IrqController.{IrqController}
 use Rattle.controller.specs.Controller.{fresh}
 use Rattle.board.specs.declared.Latch.{Latch}
@@ -17,16 +17,21 @@ use Rattle.board.specs.declared.Board.{Board}
 abbrev four : {A : Type 0} → A → List A
 four a = a ∷ a ∷ a ∷ a ∷ []
 
--- 'A fresh board is made by a constructor of the board's own: everything zero except clock control 1.'
-abbrev pub freshBoard : Board
-freshBoard =
+-- 'A fresh board is made by a constructor of the board's own: everything zero except clock control 1.' S-7: 'A fresh
+-- board takes its rate .. and the board carries it.'
+abbrev pub freshBoardAt : ℕ → Board
+freshBoardAt rate =
     record {
       timers = four freshTimer;
       «timer_enable» = 0;
-      clock = freshClock;
+      clock = freshClockAt rate;
       latches = record { counts = four (record { high = Empty }); low = Empty; high = Empty };
       controller = fresh;
     }
+
+-- 'of which no rate is said'
+abbrev pub freshBoard : Board
+freshBoard = freshBoardAt freshRate
 
 -- ---- one field
 

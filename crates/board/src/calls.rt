@@ -20,7 +20,7 @@ use controller::SourceNumber;
 use wide::deadline::Deadline;
 use wide::number::Wide;
 
-// The answer of a call without answer members.
+// The answer of a call without answer members, and a board that was made.
 pub struct EmptyAnswer {
     pub board: Board,
     pub refusal: u8,

@@ -1,8 +1,11 @@
 // The board: four channels, the clock, the latches of its registers and the controller, by value.
 ghost use mathlib.Core.Path.{_≡_};
-ghost use Rattle.board.specs.Fields.{freshBoard};
+ghost use Rattle.board.specs.Fields.{freshBoardAt, freshBoard};
+ghost use Rattle.board.specs.Calls.{freshOf};
+use crate::calls::EmptyAnswer;
 use channel::HardwareTimer;
 use clock::Clock;
+use clock::rates::sound_rate;
 use controller::IrqController;
 use controller::SourceNumber;
 
@@ -40,8 +43,8 @@ pub struct Board {
 }
 
 impl Board {
-    // Cycles of a second.
-    pub const RATE: u64 = Clock::RATE;
+    // Cycles of a second of a board of which no rate is said.
+    pub const RATE: u32 = Clock::RATE;
 
     // The number of channels.
     pub const CHANNELS: usize = 4;
@@ -52,9 +55,35 @@ impl Board {
     // The controller's source that is set to the line.
     pub const LINE_SOURCE: SourceNumber = SourceNumber(3);
 
-    // Everything zero except clock control 1.
+    // The refusal of a rate that no sound board has, by the number of S-7.
+    pub const ANOTHER_RATE: u8 = 15;
+
+    // Everything zero except clock control 1, and the rate.
     pub fn fresh() -> Self
         ensures { λ r. ⌜ r ≡ freshBoard ⌝ }
+    {
+        Self::fresh_with(Self::RATE)
+    }
+
+    // A fresh board of a rate. Of a rate that no sound board has, it is a fresh board of which none is said, and refused.
+    pub fn fresh_at(rate: u32) -> EmptyAnswer
+        ensures { λ r. ⌜ r ≡ freshOf rate ⌝ }
+    {
+        if sound_rate(rate) {
+            return EmptyAnswer {
+                board: Self::fresh_with(rate),
+                refusal: 0,
+            };
+        }
+        EmptyAnswer {
+            board: Self::fresh(),
+            refusal: Self::ANOTHER_RATE,
+        }
+    }
+
+    // A fresh board with any number as its rate.
+    fn fresh_with(rate: u32) -> Self
+        ensures { λ r. ⌜ r ≡ freshBoardAt rate ⌝ }
     {
         let t = HardwareTimer::fresh();
         let timers = [t; 4];
@@ -65,7 +94,7 @@ impl Board {
             low: Latch::Empty,
             high: Latch::Empty,
         };
-        let clock = Clock::fresh();
+        let clock = Clock::fresh_at(rate);
         let controller = IrqController::new();
         Board {
             timers,

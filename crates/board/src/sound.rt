@@ -3,6 +3,7 @@ ghost use mathlib.Core.Path.{_≡_};
 ghost use Rattle.board.specs.Board.{BoardFits, soundParts, sound};
 use crate::Board;
 use crate::channels::all_sound;
+use clock::rates::sound_rate;
 use wide::flags::both;
 use wide::flags::same;
 
@@ -15,7 +16,10 @@ impl Board {
         let clock = self.clock;
         both(
             all_sound(timers),
-            both(timer_enable < Self::TIMER_ENABLE_VALUES, clock.sound()),
+            both(
+                timer_enable < Self::TIMER_ENABLE_VALUES,
+                both(sound_rate(clock.rate), clock.sound()),
+            ),
         )
     }
 

@@ -37,3 +37,11 @@ module _ (p c v : ℕ) (h : 1 < v) (k : v ≤ 2 ^ 32) (q : p < 2 ^ 32) (d : c < 
     where
       two : p + c < 2 ^ 64 * 2
       two = omega arith
+
+-- first the cycles, then the part with what is left of them
+module _ (p c v w r x y : ℕ) (whole : w ≡ c / v) (rest : r ≡ c % v) (after : x ≡ (p + r) / v) where
+  pub steps : 0 < v → y ≡ (p + r) % v → (w + x ≡ (p + c) / v) × (y ≡ (p + c) % v)
+  steps h left = (rw (whole, after, rest) (whole-is p c v h), rw (left, rest) (rest-is p c v))
+
+  pub steps-fit : 1 < v → v ≤ 2 ^ 32 → p < 2 ^ 32 → c < 2 ^ 64 → w + x < 2 ^ 64
+  steps-fit h k q d = rw (whole, after, rest) (whole-fits p c v h k q d)

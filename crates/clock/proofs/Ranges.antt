@@ -33,25 +33,25 @@ module _ (rate : ℕ) (k : Clock) (t : Timed rate k) where
   pos = let h = t .subsecond in omega arith
 
   pub time-timed : (s u : ℕ) → u < rate → Timed rate (withTime s u k)
-  time-timed s u h = record { subsecond = h; offset = t .offset; host = t .host }
+  time-timed s u h = record { known = t .known; subsecond = h; offset = t .offset; host = t .host }
 
   pub control-timed : (n : ℕ) → Timed rate (withControl n k)
-  control-timed n = record { subsecond = t .subsecond; offset = t .offset; host = t .host }
+  control-timed n = record { known = t .known; subsecond = t .subsecond; offset = t .offset; host = t .host }
 
   pub alarm-timed : (a : Alarm) → Timed rate (withAlarm a k)
-  alarm-timed a = record { subsecond = t .subsecond; offset = t .offset; host = t .host }
+  alarm-timed a = record { known = t .known; subsecond = t .subsecond; offset = t .offset; host = t .host }
 
   pub shadow-timed : (s : Shadow) → Timed rate (withShadow s k)
-  shadow-timed s = record { subsecond = t .subsecond; offset = t .offset; host = t .host }
+  shadow-timed s = record { known = t .known; subsecond = t .subsecond; offset = t .offset; host = t .host }
 
   pub poll-timed : (n : ℕ) → Timed rate (withPoll n k)
-  poll-timed n = record { subsecond = t .subsecond; offset = t .offset; host = t .host }
+  poll-timed n = record { known = t .known; subsecond = t .subsecond; offset = t .offset; host = t .host }
 
   pub alarm-shadow-timed : (s : Shadow) → Timed rate (withAlarmShadow s k)
-  alarm-shadow-timed s = record { subsecond = t .subsecond; offset = t .offset; host = t .host }
+  alarm-shadow-timed s = record { known = t .known; subsecond = t .subsecond; offset = t .offset; host = t .host }
 
   offset-timed : (a b : ℕ) → Timed rate (withOffset (signedDifference a b) k)
-  offset-timed a b = record { subsecond = t .subsecond; offset = signed-small a b; host = t .host }
+  offset-timed a b = record { known = t .known; subsecond = t .subsecond; offset = signed-small a b; host = t .host }
 
   pub moved-timed : (c : ℕ) → Timed rate (movedTime rate c k)
   moved-timed c =
@@ -61,7 +61,7 @@ module _ (rate : ℕ) (k : Clock) (t : Timed rate k) where
   pub kept-timed : (new : ℕ) → Timed rate (timeKept rate new k)
   kept-timed =
       kept-cases (Timed rate) rate k offset-timed t pos
-      (λ s u _ h. record { subsecond = h; offset = t .offset; host = t .host })
+      (λ s u _ h. record { known = t .known; subsecond = h; offset = t .offset; host = t .host })
 
   pub offset-for-timed : (s : ℕ) → Timed rate (offsetFor s k)
   offset-for-timed = offset-for-cases (Timed rate) rate k offset-timed t

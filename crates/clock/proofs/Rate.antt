@@ -1,12 +1,14 @@
--- A clock's rate: what proofs use of it, and that no rule changes it. Proofs take what they need of the rate from
--- here, and not from its value. Assumes nothing.
-use Prim.Native.Nat.{ℕ, _+_, _%_, _^_, _≤_, _<_}
+-- A rate: what proofs use of it, that the rates of a sound board are such, and that no rule changes a clock's. Proofs
+-- take what they need of the rate from here, and not from its value. Assumes nothing.
+use Prim.Native.Nat.{ℕ, _+_, _*_, _/_, _%_, _^_, _≤_, _<_}
 use mathlib.Core.Path.{_≡_, refl, _∙_, subst⁻¹}
-use mathlib.Core.Bool.{_&&_}
+use mathlib.Core.Bool.{true, _&&_}
+use native.Mathlib.Nat.{le-div-iff-mul-le, div-le-self}
 use native.Mathlib.Omega.{arith}
 use lib.Dec.{leb, eqb}
+use borrow.Author.Tests.{eqb-true}
 use Rattle.wide.specs.Bits.{bit}
-use Rattle.wide.proofs.Choices.{choose}
+use Rattle.wide.proofs.Choices.{choose, either}
 use Rattle.clock.specs.declared.Clock.{Clock}
 use Rattle.clock.specs.Clock.{
   rateOf,
@@ -19,7 +21,16 @@ use Rattle.clock.specs.Clock.{
   endAdvance,
   advanceClock,
 }
-use Rattle.clock.specs.Fields.{withControl, withTime, withAlarm, withShadow, withPoll, withAlarmShadow}
+use Rattle.clock.specs.Sound.{soundRate}
+use Rattle.clock.specs.Fields.{
+  freshRate,
+  withControl,
+  withTime,
+  withAlarm,
+  withShadow,
+  withPoll,
+  withAlarmShadow,
+}
 use Rattle.clock.specs.Registers.{
   mergeByte,
   timeKept,
@@ -48,33 +59,51 @@ pub record Rate (rate : ℕ) : Type 0 where
 pub limit-positive : (rate : ℕ) → Rate rate → 0 < pollLimit rate
 limit-positive rate r = let p = r .positive in let t = r .thousands in omega arith
 
--- ---- the rate of a clock: these three look at its value
+-- ---- the rates of a sound board are such
 
-module _ (k : Clock) where
-  pub rate-thousands : rateOf k % 1_000 ≡ 0
-  rate-thousands = omega arith
+-- what holds of the three holds of each
+pub of-three : (P : ℕ → Type 0) (rate : ℕ) → soundRate rate ≡ true → P 1_000_000 → P 12_000_000 → P freshRate → P rate
+unfolding soundRate
+of-three P rate e p q r =
+    either (eqb rate 1_000_000) (λ h. subst⁻¹ P (eqb-true rate 1_000_000 h) p)
+    (λ h. either (eqb rate 12_000_000) (λ i. subst⁻¹ P (eqb-true rate 12_000_000 i) q)
+    (λ i. subst⁻¹ P (eqb-true rate freshRate (rw (h, i) at e)) r))
 
-  pub rate-fits : rateOf k ≤ 2 ^ 32
-  rate-fits = omega arith
+module _ (rate : ℕ) (e : soundRate rate ≡ true) where
+  pub three-rate : Rate rate
+  three-rate = record {
+    positive = of-three (λ n. 0 < n) rate e (omega arith) (omega arith) (omega arith);
+    thousands = of-three (λ n. n % 1_000 ≡ 0) rate e refl refl refl;
+  }
 
-  pub limit-above : 1 < pollLimit (rateOf k)
-  limit-above = omega arith
+  -- what a word needs
+  pub rate-fits : rate ≤ 2 ^ 32
+  rate-fits = of-three (λ n. n ≤ 2 ^ 32) rate e (omega arith) (omega arith) (omega arith)
 
--- ---- and these follow
+  rate-least : 1_000_000 ≤ rate
+  rate-least = of-three (λ n. 1_000_000 ≤ n) rate e (omega arith) (omega arith) (omega arith)
 
-module _ (k : Clock) where
-  pub rate-above : 0 < rateOf k
-  rate-above = omega (arith, limit-above k)
+  -- a period, of which a second has p
+  pub period : (p : ℕ) → 0 < p → p ≤ 1_000 → (1 < rate / p) × (rate / p ≤ 2 ^ 32)
+  period p h l = (
+    le-div-iff-mul-le {k = p} {x = 2} {y = rate} h .1 (omega (arith, rate-least)),
+    omega (arith, div-le-self rate p, rate-fits)
+  )
 
-  pub clock-rate : Rate (rateOf k)
-  clock-rate = record { positive = rate-above; thousands = rate-thousands k }
+-- so many periods go into a second
+pub periods-above : (n p : ℕ) → 0 < p → p ≤ n → 0 < n / p
+periods-above n p h l = le-div-iff-mul-le {k = p} {x = 1} {y = n} h .1 (omega arith)
 
-  -- a second and the time between two polls, as periods of cycles
-  pub rate-period : (1 < rateOf k) × (rateOf k ≤ 2 ^ 32)
-  rate-period = (omega (arith, limit-above k), rate-fits k)
+-- one that is neither of the first two is the last
+pub last-rate : (rate : ℕ) → soundRate rate ≡ true → (rate ≡ 1_000_000 → ⊥) → (rate ≡ 12_000_000 → ⊥) →
+    rate ≡ freshRate
+last-rate rate e =
+    of-three (λ n. (n ≡ 1_000_000 → ⊥) → (n ≡ 12_000_000 → ⊥) → n ≡ freshRate) rate e (λ p _. absurd (p refl))
+    (λ _ q. absurd (q refl)) (λ _ _. refl)
 
-  pub limit-period : (1 < pollLimit (rateOf k)) × (pollLimit (rateOf k) ≤ 2 ^ 32)
-  limit-period = (limit-above k, omega (arith, rate-fits k))
+-- a second is one period
+pub second : (rate : ℕ) → rate / 1 ≡ rate
+second rate = omega arith
 
 -- ---- no rule changes the rate
 

@@ -20,7 +20,8 @@ use Rattle.clock.specs.Clock.{
   advanceClock,
 }
 use Rattle.clock.specs.Deadline.{clockLine, clockDeadline}
-use Rattle.clock.specs.Fields.{withControl, withTime, withAlarm, withHost, freshClock}
+use Rattle.clock.specs.Fields.{withControl, withTime, withAlarm, withHost, freshClockAt, freshClock}
+use Rattle.clock.specs.Sound.{soundRate}
 use Rattle.clock.specs.Registers.{
   signedDifference,
   setTime,
@@ -54,34 +55,50 @@ alarmBytes : List ℕ → Clock → Clock
 alarmBytes [] k = k
 alarmBytes (i ∷ l) k = alarmBytes l (writeAlarm (rateOf k) i 0 k)
 
--- F: alarm 2, armed, alarm enable 1: D 96,000,000
-f : Clock
-f = withArmed 2 freshClock
+-- F: alarm 2, armed, alarm enable 1: D 96,000,000, of a clock of a rate
+f : ℕ → Clock
+f rate = withArmed 2 (freshClockAt rate)
 
 -- G: seconds 2^64 − 1
-g : Clock
-g = withTime (2 ^ 64 - 1) 0 freshClock
+g : ℕ → Clock
+g rate = withTime (2 ^ 64 - 1) 0 (freshClockAt rate)
 
 -- I: set enable on, seven distinct seconds bytes
 seven : Clock
 seven = secondsBytes (7 ∷ 6 ∷ 5 ∷ 4 ∷ 3 ∷ 2 ∷ 1 ∷ []) (withControl 3 freshClock)
 
 -- host time 9 s, and an alarm then
-nine : Clock
-nine = withHost (record { seconds = 9; nanoseconds = 0 }) (withArmed 9 (withControl 5 freshClock))
+nine : ℕ → Clock
+nine rate = withHost (record { seconds = 9; nanoseconds = 0 }) (withArmed 9 (withControl 5 (freshClockAt rate)))
 
 -- host time 3 s and 1 ns on a clock at 0, then taken up
 ahead : Clock
 ahead = writeControl (rateOf freshClock) 3 5 (withHost (record { seconds = 3; nanoseconds = 1 }) freshClock)
 
+after : ℕ → Clock → Clock
+after c k = advanceClock (rateOf k) c k
+
+-- F, G and the alarm on host time at a rate: D of F, the cycles of a second, and the limit of poll
+ratesRow : ℕ → ℕ → ℕ → Bool
+ratesRow second d limit =
+    soundRate second
+    && (isSome (clockDeadline (rateOf (f second)) (f second)) d
+    && not (clockLine (after (d - 1) (f second)))
+    && clockLine (after d (f second)))
+    && (eqb (after (second - 1) (g second) .subsecond) (second - 1)
+    && eqb (after second (g second) .subsecond) 0
+    && eqb (after second (g second) .seconds) (2 ^ 64 - 1))
+    && (not (after (limit - 1) (nine second) .alarm .pending)
+    && eqb (after (limit - 1) (nine second) .poll) (limit - 1)
+    && after limit (nine second) .alarm .pending
+    && eqb (after (limit + 1) (nine second) .poll) 1)
+
 settings : Bool
 settings =
-    (isSome (clockDeadline (rateOf f) f) 96_000_000
-    && not (clockLine (advanceClock (rateOf f) 95_999_999 f))
-    && clockLine (advanceClock (rateOf f) 96_000_000 f))
-    && (eqb (advanceClock (rateOf g) 47_999_999 g .subsecond) 47_999_999
-    && eqb (advanceClock (rateOf g) 48_000_000 g .subsecond) 0
-    && eqb (advanceClock (rateOf g) 48_000_000 g .seconds) (2 ^ 64 - 1))
+    ratesRow 48_000_000 96_000_000 48_000
+    && ratesRow 12_000_000 24_000_000 12_000
+    && ratesRow 1_000_000 2_000_000 1_000
+    && (not (soundRate 0) && not (soundRate 999_999) && not (soundRate 24_000_000) && not (soundRate 48_000_001))
     && (eqb (seven .seconds) 0
     && eqb (seven .shadow .mask) 254
     && eqb (secondsBytes (1 ∷ []) seven .seconds) 0
@@ -94,10 +111,9 @@ settings =
     && (eqb (timeNanoseconds (rateOf freshClock) (withTime 0 1 freshClock)) 20
     && eqb (writeControl (rateOf freshClock) 3 0 (withTime 0 1 freshClock) .subsecond) 0
     && eqb (writeControl (rateOf freshClock) 2 0 (withTime 0 1 freshClock) .subsecond) 1)
-    && (not (advanceClock (rateOf nine) 47_999 nine .alarm .pending)
-    && eqb (advanceClock (rateOf nine) 47_999 nine .poll) 47_999
-    && advanceClock (rateOf nine) 48_000 nine .alarm .pending
-    && eqb (advanceClock (rateOf nine) 48_001 nine .poll) 1)
+    -- at 1,000,000 it is kept: 1,000 ns are a whole cycle
+    && (eqb (timeNanoseconds 1_000_000 (withTime 0 1 (freshClockAt 1_000_000))) 1_000
+    && eqb (writeControl 1_000_000 3 0 (withTime 0 1 (freshClockAt 1_000_000)) .subsecond) 1)
     && (ahead .offset .negative
     && eqb (ahead .offset .seconds) 3
     && eqb (ahead .offset .nanoseconds) 1
@@ -105,7 +121,7 @@ settings =
     && not (signedDifference 5 5 .negative))
 
 settings-hold : settings ≡ true
-unfolding settings withArmed isSome secondsBytes alarmBytes f g seven nine ahead withByte shifted ownNanoseconds
+unfolding settings ratesRow after withArmed isSome secondsBytes alarmBytes f g seven nine ahead soundRate withByte shifted ownNanoseconds
     timeOf timeSeconds alarmReached checkAlarm movedTime endAdvance advanceClock clockDeadline
     signedDifference setTime timeKept changeControl writeControl marked shadowByte offsetFor commitSeconds
     writeSeconds commitAlarm writeAlarm timeNanoseconds

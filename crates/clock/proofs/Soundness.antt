@@ -45,7 +45,7 @@ use Rattle.clock.specs.Fields.{
   withPoll,
   withAlarmShadow,
   withHost,
-  freshClock,
+  freshClockAt,
 }
 use Rattle.clock.specs.Registers.{
   mergeByte,
@@ -71,6 +71,7 @@ use Rattle.clock.specs.Registers.{
 }
 use Rattle.clock.specs.Sound.{
   ClockFits,
+  soundRate,
   soundOffset,
   soundAlarm,
   soundShadow,
@@ -235,8 +236,13 @@ module _ (rate : ℕ) (k : Clock) where
       (λ x y. lt-ltb (k .seconds) (k .alarm .seconds) (s .ahead x y)))
 
   -- what reading the time asks
-  pub sound-timed : Sound rate k → Timed rate k
-  sound-timed s = record { subsecond = s .parts .subsecond; offset = s .parts .offset .small; host = s .parts .host }
+  pub sound-timed : soundRate rate ≡ true → Sound rate k → Timed rate k
+  sound-timed e s = record {
+    known = e;
+    subsecond = s .parts .subsecond;
+    offset = s .parts .offset .small;
+    host = s .parts .host;
+  }
 
   -- and what the types say
   pub sound-fits : Sound rate k → ClockFits k
@@ -559,7 +565,7 @@ module _ (rate i v : ℕ) (k : Clock) (s : Sound rate k) where
 
 -- ---- the fresh clock
 
-pub fresh-sound : (rate : ℕ) → Rate rate → Sound rate freshClock
+pub fresh-sound : (rate : ℕ) → Rate rate → Sound rate (freshClockAt rate)
 fresh-sound rate r = record {
   parts = record {
     control = omega arith;

@@ -10,15 +10,15 @@ use Rattle.clock.specs.declared.HostTime.{HostTime}
 use Rattle.clock.specs.declared.Clock.{Clock}
 use Rattle.clock.specs.Fields.{withTime, withAlarm, withPoll}
 
--- 'F = 48,000,000', the cycles of a second, of this clock
+-- S-7: 'Document 01's F is the board's rate': the cycles of a second, of this clock
 abbrev pub rateOf : Clock → ℕ
-rateOf k = 48_000_000
+rateOf k = k .rate
 
 -- nanoseconds of a second
 abbrev pub nanosPerSecond : ℕ
 nanosPerSecond = 1_000_000_000
 
--- poll's limit, 'by 48,000': a thousandth of the rate
+-- S-7: document 01's '48,000 a thousandth of it', of the rate: poll's limit
 abbrev pub pollLimit : ℕ → ℕ
 pollLimit rate = rate / 1_000
 

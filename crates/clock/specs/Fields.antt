@@ -1,4 +1,5 @@
--- Document 01, 'An advance arrives at the board': the clock with one of its fields changed, and the fresh clock.
+-- Document 01, 'An advance arrives at the board': the clock with one of its fields changed, and the fresh clock. By S-7
+-- the clock has a field before document 01's, the rate, which nothing changes.
 use Prim.Native.Nat.{ℕ}
 use mathlib.Core.Bool.{false}
 use Rattle.clock.specs.declared.Offset.{Offset}
@@ -9,6 +10,7 @@ use Rattle.clock.specs.declared.Clock.{Clock}
 
 abbrev pub withControl : ℕ → Clock → Clock
 withControl v k = record {
+  rate = k .rate;
   control = v;
   seconds = k .seconds;
   subsecond = k .subsecond;
@@ -22,6 +24,7 @@ withControl v k = record {
 
 abbrev pub withTime : ℕ → ℕ → Clock → Clock
 withTime s u k = record {
+  rate = k .rate;
   control = k .control;
   seconds = s;
   subsecond = u;
@@ -35,6 +38,7 @@ withTime s u k = record {
 
 abbrev pub withOffset : Offset → Clock → Clock
 withOffset o k = record {
+  rate = k .rate;
   control = k .control;
   seconds = k .seconds;
   subsecond = k .subsecond;
@@ -48,6 +52,7 @@ withOffset o k = record {
 
 abbrev pub withAlarm : Alarm → Clock → Clock
 withAlarm a k = record {
+  rate = k .rate;
   control = k .control;
   seconds = k .seconds;
   subsecond = k .subsecond;
@@ -61,6 +66,7 @@ withAlarm a k = record {
 
 abbrev pub withShadow : Shadow → Clock → Clock
 withShadow s k = record {
+  rate = k .rate;
   control = k .control;
   seconds = k .seconds;
   subsecond = k .subsecond;
@@ -74,6 +80,7 @@ withShadow s k = record {
 
 abbrev pub withPoll : ℕ → Clock → Clock
 withPoll p k = record {
+  rate = k .rate;
   control = k .control;
   seconds = k .seconds;
   subsecond = k .subsecond;
@@ -87,6 +94,7 @@ withPoll p k = record {
 
 abbrev pub withAlarmShadow : Shadow → Clock → Clock
 withAlarmShadow s k = record {
+  rate = k .rate;
   control = k .control;
   seconds = k .seconds;
   subsecond = k .subsecond;
@@ -101,6 +109,7 @@ withAlarmShadow s k = record {
 -- call 01 'sets the two host fields and makes no alarm check'
 abbrev pub withHost : HostTime → Clock → Clock
 withHost h k = record {
+  rate = k .rate;
   control = k .control;
   seconds = k .seconds;
   subsecond = k .subsecond;
@@ -112,9 +121,14 @@ withHost h k = record {
   host = h;
 }
 
--- 'everything zero except clock control 1'
-abbrev pub freshClock : Clock
-freshClock = record {
+-- S-7: 'A fresh board of which no rate is said, as in `listrun`, document 01's settings and refusals, is at 48,000,000.'
+abbrev pub freshRate : ℕ
+freshRate = 48_000_000
+
+-- 'everything zero except clock control 1', at the rate that it takes
+abbrev pub freshClockAt : ℕ → Clock
+freshClockAt rate = record {
+  rate = rate;
   control = 1;
   seconds = 0;
   subsecond = 0;
@@ -125,3 +139,7 @@ freshClock = record {
   «alarm_shadow» = record { value = 0; mask = 0 };
   host = record { seconds = 0; nanoseconds = 0 };
 }
+
+-- no rate is said
+abbrev pub freshClock : Clock
+freshClock = freshClockAt freshRate

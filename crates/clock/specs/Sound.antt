@@ -1,13 +1,20 @@
 -- Document 01, 'An advance arrives at the board': the clock's clauses of a sound board. Sound is document 01's term.
 use Prim.Native.Nat.{ℕ, _^_, _<_}
-use mathlib.Core.Bool.{Bool, not, _&&_, _||_}
+use mathlib.Core.Path.{_≡_}
+use mathlib.Core.Bool.{Bool, true, not, _&&_, _||_}
 use lib.Dec.{ltb, eqb}
 use Rattle.clock.specs.declared.Offset.{Offset}
 use Rattle.clock.specs.declared.Alarm.{Alarm}
 use Rattle.clock.specs.declared.Shadow.{Shadow}
 use Rattle.clock.specs.declared.HostTime.{HostTime}
 use Rattle.clock.specs.declared.Clock.{Clock}
+use Rattle.clock.specs.Fields.{freshRate}
 use Rattle.clock.specs.Clock.{nanosPerSecond, pollLimit, ownTime}
+
+-- S-7: 'Two clients have boards at 1,000,000 and 12,000,000 cycles a second. A fresh board takes its rate, one of these
+-- or 48,000,000', and 'a record carrying a rate outside the three is 1'
+unfoldable pub soundRate : ℕ → Bool
+soundRate rate = eqb rate 1_000_000 || (eqb rate 12_000_000 || eqb rate freshRate)
 
 -- 'every nanosecond field < 1,000,000,000; no negative zero offset'
 unfoldable pub soundOffset : Offset → Bool
@@ -49,8 +56,9 @@ pub record ClockFits (k : Clock) : Type 0 where
   pub shadow : k .shadow .value < 2 ^ 64
   pub alarmShadow : k .«alarm_shadow» .value < 2 ^ 64
 
--- what reading the time asks of a clock: three of these clauses
+-- what reading the time asks of a clock: four of these clauses
 pub record Timed (rate : ℕ) (k : Clock) : Type 0 where
+  pub known : soundRate rate ≡ true
   pub subsecond : k .subsecond < rate
   pub offset : k .offset .nanoseconds < nanosPerSecond
   pub host : k .host .nanoseconds < nanosPerSecond

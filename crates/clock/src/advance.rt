@@ -1,29 +1,29 @@
 // The alarm check, and an advance of the clock.
 ghost use mathlib.Core.Path.{_≡_};
-ghost use Prim.Native.Nat.{_+_, _/_, _%_, _^_, _<_, _≤_};
+ghost use mathlib.Core.Bool.{true};
+ghost use Prim.Native.Nat.{_+_, _/_, _%_, _<_, _≤_};
 ghost use Rattle.clock.specs.Clock.{rateOf, alarmReached, checkAlarm, movedTime};
 ghost use Rattle.clock.specs.Clock.{polled, endAdvance, advanceClock};
-ghost use Rattle.clock.specs.Sound.{Timed};
+ghost use Rattle.clock.specs.Sound.{soundRate, Timed};
 use crate::Alarm;
 use crate::Clock;
 use crate::from_host;
 use crate::has_bit;
 use crate::own_time;
+use crate::rates::Periods;
+use crate::rates::divided;
 use channel::Cycles;
 use wide::flags::both;
 
-// Whole periods, and the cycles left.
-struct Periods {
-    whole: u64,
-    rest: u64,
-}
-
-// Cycles that follow `part` of a period. The sum of the two may pass a word, so it is not formed.
-fn elapsed(part: u32, cycles: Cycles, period: u64) -> Periods
-    requires { ⌜ (1 < period) × (period ≤ 2 ^ 32) ⌝ }
-    ensures { λ r. ⌜ (r .whole ≡ (part + cycles .0) / period) × (r .rest ≡ (part + cycles .0) % period) ⌝ }
+// Cycles that follow `part` of a period, of which a second of the rate has so many. The sum of the two may pass a word,
+// so it is not formed.
+fn elapsed(part: u32, cycles: Cycles, rate: u32, per_second: u64) -> Periods
+    requires { ⌜ (soundRate rate ≡ true) × ((0 < «per_second») × («per_second» ≤ 1_000)) ⌝ }
+    ensures { λ r. ⌜ (r .whole ≡ (part + cycles .0) / (rate / «per_second»))
+        × (r .rest ≡ (part + cycles .0) % (rate / «per_second»)) ⌝ }
 {
     let c = cycles.0;
+    let period = rate as u64 / per_second;
     // Cycles that stay within the period need no division.
     if c < period {
         let sum = part as u64 + c;
@@ -34,10 +34,11 @@ fn elapsed(part: u32, cycles: Cycles, period: u64) -> Periods
             };
         }
     }
-    let sum = part as u64 + c % period;
+    let a = divided(c, rate, per_second);
+    let b = divided(part as u64 + a.rest, rate, per_second);
     Periods {
-        whole: c / period + sum / period,
-        rest: sum % period,
+        whole: a.whole + b.whole,
+        rest: b.rest,
     }
 }
 
@@ -75,12 +76,12 @@ impl Clock {
     }
 
     fn moved_time(self, cycles: Cycles) -> Self
-        requires { ⌜ self .subsecond < rateOf self ⌝ }
+        requires { ⌜ Timed (rateOf self) self ⌝ }
         ensures { λ r. ⌜ r ≡ movedTime (rateOf self) (cycles .0) self ⌝ }
     {
         let seconds = self.seconds;
         if both(own_time(self.control), 0 < cycles.0) {
-            let e = elapsed(self.subsecond, cycles, self.rate());
+            let e = elapsed(self.subsecond, cycles, self.rate, 1);
             let whole = e.whole;
             let rest = e.rest;
             if u64::MAX - seconds < whole {
@@ -96,7 +97,7 @@ impl Clock {
         requires { ⌜ Timed (rateOf self) self ⌝ }
         ensures { λ r. ⌜ r ≡ polled (rateOf self) (self .poll + cycles .0) self ⌝ }
     {
-        let e = elapsed(self.poll, cycles, self.poll_limit());
+        let e = elapsed(self.poll, cycles, self.rate, Self::POLLS_PER_SECOND);
         let whole = e.whole;
         let rest = e.rest;
         let k = self.with_poll(rest as u32);

@@ -1,9 +1,10 @@
 // Changes of the clock's control, which keep its time.
 ghost use mathlib.Core.Path.{_≡_};
+ghost use mathlib.Core.Bool.{true};
 ghost use Prim.Native.Nat.{_<_};
 ghost use Rattle.clock.specs.Clock.{rateOf, nanosPerSecond};
 ghost use Rattle.clock.specs.Registers.{ownTimeSet, setTime, takesOwn, timeKept, changeControl, writeControl};
-ghost use Rattle.clock.specs.Sound.{Timed};
+ghost use Rattle.clock.specs.Sound.{soundRate, Timed};
 ghost use Rattle.clock.specs.CodeTime.{momentOf};
 use crate::Clock;
 use crate::Shadow;
@@ -37,7 +38,7 @@ impl Clock {
     }
 
     fn set_time(self, time: Time) -> Self
-        requires { ⌜ time .nanoseconds < nanosPerSecond ⌝ }
+        requires { ⌜ (time .nanoseconds < nanosPerSecond) × (soundRate (rateOf self) ≡ true) ⌝ }
         ensures { λ r. ⌜ r ≡ setTime (rateOf self) (momentOf time) self ⌝ }
     {
         let n = time.nanoseconds as u64;

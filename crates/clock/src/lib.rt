@@ -3,7 +3,8 @@ ghost use mathlib.Core.Path.{_≡_};
 ghost use Prim.Native.Nat.{_<_, _/_, _%_};
 ghost use lib.Dec.{eqb};
 ghost use Rattle.clock.specs.Fields.{withControl, withTime, withOffset, withAlarm, withShadow};
-ghost use Rattle.clock.specs.Fields.{withPoll, withAlarmShadow, withHost, freshClock};
+ghost use Rattle.clock.specs.Fields.{withPoll, withAlarmShadow, withHost};
+ghost use Rattle.clock.specs.Fields.{freshClockAt};
 ghost use Rattle.clock.specs.Clock.{rateOf, pollLimit, fromHost, ownTime};
 use wide::flags::both;
 
@@ -11,6 +12,7 @@ pub mod advance;
 pub mod clock_registers;
 pub mod control;
 pub mod deadline;
+pub mod rates;
 pub mod sound;
 pub mod time;
 
@@ -40,6 +42,8 @@ pub struct HostTime {
 }
 
 pub struct Clock {
+    // Cycles of a second.
+    pub rate: u32,
     pub control: u8,
     pub seconds: u64,
     pub subsecond: u32,
@@ -96,8 +100,12 @@ impl Shadow {
 }
 
 impl Clock {
-    // Cycles of a second.
-    pub const RATE: u64 = 48_000_000;
+    // Cycles of a second: of a clock of which no rate is said, and the two other rates of a sound board.
+    pub const RATE: u32 = 48_000_000;
+
+    pub const RATE_12_MHZ: u32 = 12_000_000;
+
+    pub const RATE_1_MHZ: u32 = 1_000_000;
 
     // Alarm checks in a second of a clock that runs from host time.
     pub const POLLS_PER_SECOND: u64 = 1_000;
@@ -114,11 +122,12 @@ impl Clock {
     // Control has those three, and so this many values.
     pub const CONTROL_VALUES: u8 = 8;
 
-    // The clock of a fresh board.
-    pub fn fresh() -> Self
-        ensures { λ r. ⌜ r ≡ freshClock ⌝ }
+    // The clock of a fresh board of a rate.
+    pub fn fresh_at(rate: u32) -> Self
+        ensures { λ r. ⌜ r ≡ freshClockAt rate ⌝ }
     {
         Clock {
+            rate,
             control: Self::ENABLE,
             seconds: 0,
             subsecond: 0,
@@ -147,7 +156,7 @@ impl Clock {
     pub fn rate(self) -> u64
         ensures { λ r. ⌜ r ≡ rateOf self ⌝ }
     {
-        Self::RATE
+        self.rate as u64
     }
 
     // The cycles between two alarm checks of this clock, while it runs from host time.
@@ -167,6 +176,7 @@ impl Clock {
         let alarm_shadow = self.alarm_shadow;
         let host = self.host;
         Clock {
+            rate: self.rate,
             control: self.control,
             seconds: self.seconds,
             subsecond: self.subsecond,

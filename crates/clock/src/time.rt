@@ -11,6 +11,7 @@ use crate::Clock;
 use crate::HostTime;
 use crate::Offset;
 use crate::from_host;
+use crate::rates::divided;
 use wide::number::Wide;
 
 // A length of time.
@@ -141,13 +142,14 @@ impl HostTime {
 impl Clock {
     // The time that seconds and subsecond say.
     pub(crate) fn own_duration(self) -> Duration
-        requires { ⌜ self .subsecond < rateOf self ⌝ }
+        requires { ⌜ Timed (rateOf self) self ⌝ }
         ensures { λ r. ⌜ DurationIs (ownNanoseconds (rateOf self) self) r ⌝ }
     {
         let cycles = self.subsecond as u64;
+        let part = divided(cycles * Clock::NANOS_PER_SECOND as u64, self.rate, 1);
         Duration {
             seconds: self.seconds,
-            nanoseconds: (cycles * Clock::NANOS_PER_SECOND as u64 / self.rate()) as u32,
+            nanoseconds: part.whole as u32,
         }
     }
 

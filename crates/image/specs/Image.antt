@@ -11,6 +11,7 @@ use Rattle.wide.specs.Fields.{beAt}
 use Rattle.format.specs.Format.{sum, headerLength, membersAt, membersBytes, recordOf}
 use Rattle.channel.specs.declared.HardwareTimer.{HardwareTimer}
 use Rattle.clock.specs.declared.Clock.{Clock}
+use Rattle.clock.specs.Fields.{freshRate}
 use Rattle.controller.specs.declared.IrqController.{IrqController}
 use Rattle.board.specs.declared.Latch.{Latch}
 use Rattle.board.specs.declared.Latch.the-variants.{Empty, Held}
@@ -189,9 +190,11 @@ timerFrom ms =
       armed = flagIs (getD ms 7 0);
     }
 
+-- an image has no rate: its board is at that of a fresh one
 abbrev pub clockFrom : List ℕ → Clock
 clockFrom ms =
     record {
+      rate = freshRate;
       control = getD ms 1 0;
       seconds = getD ms 2 0;
       subsecond = getD ms 3 0;

@@ -5,10 +5,12 @@ use mathlib.Core.List.{List, [], _++_}
 use lib.ListN.{length, getD, drop}
 use lib.Dec.{ltb, eqb}
 use Rattle.format.specs.Format.{answerTooLong}
+use Rattle.clock.specs.Clock.{rateOf}
+use Rattle.clock.specs.Fields.{freshRate}
 use Rattle.board.specs.declared.Board.{Board}
 use Rattle.board.specs.Fields.{freshBoard}
 use Rattle.board.specs.Board.{sound}
-use Rattle.board.specs.Calls.{notSound, refusalOf}
+use Rattle.board.specs.Calls.{notSound, anotherRate, refusalOf}
 use Rattle.parking.specs.declared.Writing.{Writing}
 use Rattle.parking.specs.declared.Reading.{Reading}
 use Rattle.image.specs.Image.{layout, imageLength, imageOf, formed, membersFrom, emptiesHold0, boardFrom}
@@ -19,9 +21,14 @@ use Rattle.image.specs.Image.{layout, imageLength, imageOf, formed, membersFrom
 abbrev pub bufferShort : ℕ
 bufferShort = answerTooLong
 
--- of a buffer of so many bytes: 1 comes first
+-- S-7: 'Until S-8, only boards at 48,000,000 are parked', the rate of a fresh board; '15, another rate, .. after 1 and
+-- before 11 when one is parked'. Of a board of a rate and a buffer of so many bytes
+abbrev pub parkingRefusal : ℕ → ℕ → ℕ
+parkingRefusal rate room = cond (eqb rate freshRate) (cond (ltb room imageLength) bufferShort 0) anotherRate
+
+-- 1 comes first
 abbrev pub writingRefusal : Board → ℕ → ℕ
-writingRefusal b room = refusalOf b (cond (ltb room imageLength) bufferShort 0)
+writingRefusal b room = refusalOf b (parkingRefusal (rateOf (b .clock)) room)
 
 -- what a writing answers: the board given, the refusal and the bytes written
 unfoldable pub writingOf : Board → ℕ → Writing

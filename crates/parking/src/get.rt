@@ -140,6 +140,7 @@ fn clock_in(image: &[u8]) -> ClockSaid
         formed: both(header, flags),
         timer_enable: members[0] as u8,
         clock: Clock {
+            rate: Clock::RATE,
             control: members[1] as u8,
             seconds: members[2],
             subsecond: members[3] as u32,

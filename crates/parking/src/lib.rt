@@ -1,11 +1,9 @@
 // Parked boards: a sound board written to a lent buffer as its image, and an image read back.
 ghost use mathlib.Core.Path.{_≡_};
-ghost use mathlib.Core.Bool.{cond};
 ghost use lib.ListN.{length};
-ghost use lib.Dec.{ltb};
 ghost use Rattle.board.specs.Fields.{freshBoard};
-ghost use Rattle.image.specs.Image.{imageLength, imageOf};
-ghost use Rattle.parking.specs.Parking.{bufferShort, writingOf, bufferAfter, readingOf};
+ghost use Rattle.image.specs.Image.{imageOf};
+ghost use Rattle.parking.specs.Parking.{parkingRefusal, writingOf, bufferAfter, readingOf};
 ghost use Rattle.image.specs.Words.{BoardWords};
 use board::Board;
 use image::IMAGE_LENGTH;
@@ -13,7 +11,7 @@ use wide::flags::both;
 
 mod get;
 
-// Refusals, by their numbers; 1, a board that is not sound, is the board's.
+// Refusals, by their numbers; 1, a board that is not sound, and 15, another rate, are the board's.
 pub const BUFFER_SHORT: u8 = format::ANSWER_TOO_LONG;
 
 pub const IMAGE_MALFORMED: u8 = 12;
@@ -31,10 +29,13 @@ pub struct Reading {
     pub refusal: u8,
 }
 
-// The refusal of a writing that is the buffer's.
-fn buffer_refusal(room: usize) -> u8
-    ensures { λ r. ⌜ r ≡ cond (ltb room imageLength) bufferShort 0 ⌝ }
+// The refusal of a writing, of a sound board of a rate to a buffer of so many bytes.
+fn parking_refusal(rate: u32, room: usize) -> u8
+    ensures { λ r. ⌜ r ≡ parkingRefusal rate room ⌝ }
 {
+    if rate != Board::RATE {
+        return Board::ANOTHER_RATE;
+    }
     if room < IMAGE_LENGTH { BUFFER_SHORT } else { 0 }
 }
 
@@ -46,7 +47,7 @@ pub fn write(board: Board, buffer: &mut [u8]) -> Writing
     ensures { λ r. ⌜ (r .refusal ≡ 0 →
         BoardWords board × (readingOf (imageOf board) ≡ record { board = board; refusal = 0 })) ⌝ }
 {
-    let refusal = board.refusal_of(buffer_refusal(buffer.len()));
+    let refusal = board.refusal_of(parking_refusal(board.clock.rate, buffer.len()));
     if refusal != 0 {
         return Writing {
             board,

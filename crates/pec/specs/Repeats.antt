@@ -2,7 +2,11 @@
 use Prim.Native.Nat.{ℕ, zero, suc}
 use mathlib.Core.List.{List}
 use lib.ListN.{length}
+use mathlib.Core.Bool.{cond}
+use lib.Dec.{eqb}
+use Rattle.board.specs.declared.Board.{Board}
 use Rattle.board.specs.Fields.{freshBoard}
+use Rattle.board.specs.Calls.{freshOf}
 use Rattle.list.specs.declared.Outcome.{Outcome}
 use Rattle.list.specs.Run.{runOf, over, nothingDone}
 
@@ -11,9 +15,13 @@ pub record Held : Type 0 where
   pub outcome : Outcome
   pub buffer : List ℕ
 
--- a fresh board before any run, and the buffer as it is lent
+-- a board before any run, and the buffer as it is lent
+abbrev pub startedOn : Board → List ℕ → Held
+startedOn b buffer = record { outcome = nothingDone b 0; buffer = buffer }
+
+-- a fresh board of which no rate is said
 abbrev pub started : List ℕ → Held
-started buffer = record { outcome = nothingDone freshBoard 0; buffer = buffer }
+started buffer = startedOn freshBoard buffer
 
 -- document 01's run of a list, over the board and into the buffer that are left
 unfoldable pub ran : List ℕ → Held → Held
@@ -27,3 +35,19 @@ ran l h =
 unfoldable pub repeats : ℕ → List ℕ → Held → Held
 repeats zero l h = h
 repeats (suc n) l h = ran l (repeats n l h)
+
+-- ---- over a fresh board of a rate
+
+-- S-7: '15, another rate, before all else when a board is made': then nothing is run
+abbrev pub unlessRefused : ℕ → (Board → Held) → List ℕ → Held
+unlessRefused rate runs buffer =
+    cond (eqb (freshOf rate .refusal) 0) (runs (freshOf rate .board))
+    (record { outcome = nothingDone (freshOf rate .board) (freshOf rate .refusal); buffer = buffer })
+
+-- a list
+unfoldable pub ranAt : ℕ → List ℕ → List ℕ → Held
+ranAt rate l buffer = unlessRefused rate (λ b. ran l (startedOn b buffer)) buffer
+
+-- a list, and then another so many times
+unfoldable pub repeatsAt : ℕ → List ℕ → List ℕ → ℕ → List ℕ → Held
+repeatsAt rate first l times buffer = unlessRefused rate (λ b. repeats times l (ran first (startedOn b buffer))) buffer

@@ -8,21 +8,21 @@ ghost use Rattle.parking.specs.Parking.{writingOf, bufferAfter, readingRefusal}
 ghost use Rattle.resume.specs.Resumed.{resumedOf, imageAfter, answersAfter};
 ghost use Rattle.preview.specs.Preview.{parkedPreviewRefusal, parkedPreviewBuffer};
 ghost use Rattle.listing.specs.Listing.{listingOf, withText};
-ghost use Rattle.pec.specs.Repeats.{started, ran, repeats};
+ghost use Rattle.pec.specs.Repeats.{startedOn, started, ran, repeats, ranAt, repeatsAt};
 use board::Board;
 use list::Outcome;
 
 mod irqc;
 
-// A list over a fresh board, and then another list a number of times, each time over the board that the run before it
-// left. Each run writes its answers from the buffer's first byte.
-fn repeated(first: &[u8], list: &[u8], times: u64, answers: &mut [u8]) -> Outcome
+// A list over a board, and then another list a number of times, each time over the board that the run before it left.
+// Each run writes its answers from the buffer's first byte.
+fn repeated(board: Board, first: &[u8], list: &[u8], times: u64, answers: &mut [u8]) -> Outcome
     ensures { λ r. ⌜ r ≡ repeats times (now (list .entry))
-        (ran (now (first .entry)) (started (now (answers .entry)))) .outcome ⌝ }
+        (ran (now (first .entry)) (startedOn board (now (answers .entry)))) .outcome ⌝ }
     ensures { λ _. ⌜ now (answers .exit) ≡ repeats times (now (list .entry))
-        (ran (now (first .entry)) (started (now (answers .entry)))) .buffer ⌝ }
+        (ran (now (first .entry)) (startedOn board (now (answers .entry)))) .buffer ⌝ }
 {
-    let mut r = list::run(Board::fresh(), first, answers);
+    let mut r = list::run(board, first, answers);
     let mut k = 0;
     while k < times {
         let board = r.board;
@@ -30,6 +30,27 @@ fn repeated(first: &[u8], list: &[u8], times: u64, answers: &mut [u8]) -> Outcom
         k += 1;
     }
     r
+}
+
+// The same over a fresh board of a rate; of another rate than a sound board's, nothing is run.
+fn repeated_at(rate: u32, first: &[u8], list: &[u8], times: u64, answers: &mut [u8]) -> Outcome
+    ensures { λ r. ⌜ r ≡ repeatsAt rate (now (first .entry)) (now (list .entry)) times (now (answers .entry))
+        .outcome ⌝ }
+    ensures { λ _. ⌜ now (answers .exit)
+        ≡ repeatsAt rate (now (first .entry)) (now (list .entry)) times (now (answers .entry)) .buffer ⌝ }
+{
+    let fresh = Board::fresh_at(rate);
+    let board = fresh.board;
+    if fresh.refusal != 0 {
+        return Outcome {
+            board,
+            calls: 0,
+            used: 0,
+            written: 0,
+            refusal: fresh.refusal,
+        };
+    }
+    repeated(board, first, list, times, answers)
 }
 
 // Runs a list over a fresh board into a lent buffer. Gives the calls done, the list bytes that they used, the answer
@@ -79,7 +100,62 @@ pub extern "C" fn pec_run_repeated(
     ensures { λ _. ⌜ now (written .exit) ≡ repeats times (now (list .entry))
         (ran (now (first .entry)) (started (now (answers .entry)))) .outcome .written ⌝ }
 {
-    let r = repeated(first, list, times, answers);
+    let r = repeated(Board::fresh(), first, list, times, answers);
+    *calls = r.calls;
+    *used = r.used;
+    *written = r.written;
+    r.refusal
+}
+
+// Runs a list over a fresh board of a rate into a lent buffer, as `pec_run` does over one at 48,000,000. A rate other
+// than 1,000,000, 12,000,000 and 48,000,000 is refused with 15 before all else: the buffer stays, and the counts are 0.
+#[no_mangle]
+pub extern "C" fn pec_run_at(
+    rate: u32,
+    list: &[u8],
+    answers: &mut [u8],
+    calls: &mut usize,
+    used: &mut usize,
+    written: &mut usize,
+) -> u8
+    ensures { λ r. ⌜ r ≡ ranAt rate (now (list .entry)) (now (answers .entry)) .outcome .refusal ⌝ }
+    ensures { λ _. ⌜ now (answers .exit) ≡ ranAt rate (now (list .entry)) (now (answers .entry)) .buffer ⌝ }
+    ensures { λ _. ⌜ now (calls .exit) ≡ ranAt rate (now (list .entry)) (now (answers .entry)) .outcome .calls ⌝ }
+    ensures { λ _. ⌜ now (used .exit) ≡ ranAt rate (now (list .entry)) (now (answers .entry)) .outcome .used ⌝ }
+    ensures { λ _. ⌜ now (written .exit) ≡ ranAt rate (now (list .entry)) (now (answers .entry)) .outcome .written ⌝ }
+{
+    let r = repeated_at(rate, list, list, 0, answers);
+    *calls = r.calls;
+    *used = r.used;
+    *written = r.written;
+    r.refusal
+}
+
+// Runs a list over a fresh board of a rate, and then another list a number of times, as `pec_run_repeated` does over one
+// at 48,000,000. Another rate is refused as by `pec_run_at`.
+#[no_mangle]
+pub extern "C" fn pec_run_repeated_at(
+    rate: u32,
+    first: &[u8],
+    list: &[u8],
+    times: u64,
+    answers: &mut [u8],
+    calls: &mut usize,
+    used: &mut usize,
+    written: &mut usize,
+) -> u8
+    ensures { λ r. ⌜ r ≡ repeatsAt rate (now (first .entry)) (now (list .entry)) times (now (answers .entry))
+        .outcome .refusal ⌝ }
+    ensures { λ _. ⌜ now (answers .exit)
+        ≡ repeatsAt rate (now (first .entry)) (now (list .entry)) times (now (answers .entry)) .buffer ⌝ }
+    ensures { λ _. ⌜ now (calls .exit)
+        ≡ repeatsAt rate (now (first .entry)) (now (list .entry)) times (now (answers .entry)) .outcome .calls ⌝ }
+    ensures { λ _. ⌜ now (used .exit)
+        ≡ repeatsAt rate (now (first .entry)) (now (list .entry)) times (now (answers .entry)) .outcome .used ⌝ }
+    ensures { λ _. ⌜ now (written .exit)
+        ≡ repeatsAt rate (now (first .entry)) (now (list .entry)) times (now (answers .entry)) .outcome .written ⌝ }
+{
+    let r = repeated_at(rate, first, list, times, answers);
     *calls = r.calls;
     *used = r.used;
     *written = r.written;

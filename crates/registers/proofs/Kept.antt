@@ -3,7 +3,7 @@ use Prim.Native.Nat.{ℕ, _+_, _<_}
 use native.Mathlib.Nat.{mod-lt}
 use native.Mathlib.Omega.{arith}
 use mathlib.Core.Path.{_≡_, refl, _∙_}
-use mathlib.Core.Bool.{Bool, cond, _&&_}
+use mathlib.Core.Bool.{Bool, true, cond, _&&_}
 use lib.Dec.{eqb}
 use lib.ListN.{length, length-set}
 use Rattle.wide.specs.Bits.{bit}
@@ -13,9 +13,10 @@ use Rattle.channel.specs.Registers.{countLowAt, byteWritten}
 use Rattle.clock.specs.declared.Clock.{Clock}
 use Rattle.clock.specs.Clock.{rateOf, checkAlarm}
 use Rattle.clock.specs.Registers.{mergeByte}
+use Rattle.clock.specs.Sound.{soundRate}
 use Rattle.clock.proofs.Rate.{
-  rate-above,
-  clock-rate,
+  Rate,
+  three-rate,
   SameRate,
   at-rate,
   check-rate,
@@ -27,7 +28,6 @@ use Rattle.clock.proofs.Rate.{
 }
 use Rattle.clock.proofs.Soundness.{
   Sound,
-  OwnSound,
   facts-sound as clock-sound,
   sound-fits,
   check-sound,
@@ -91,11 +91,15 @@ use Rattle.registers.proofs.Channels.{
 
 -- ---- all of soundness but the level of source 3, which the end of a call sets
 
+-- a clock is sound at a rate of a sound board
+abbrev SoundAt : ℕ → Clock → Type 0
+SoundAt rate k = (soundRate rate ≡ true) × Sound rate k
+
 record Unwired (b : Board) : Type 0 where
   four : length (b .timers) ≡ 4
   timers : All GoodTimer (b .timers)
   enable : b .«timer_enable» < 16
-  clock : OwnSound (b .clock)
+  clock : SoundAt (rateOf (b .clock)) (b .clock)
 
 good-unwired : (b : Board) → Good b → Unwired b
 good-unwired b g =
@@ -103,7 +107,7 @@ good-unwired b g =
       four = g .fits .four;
       timers = all-good 0 (b .timers) (g .facts .timers) (g .fits .timers);
       enable = g .facts .enable;
-      clock = clock-facts b (g .fits .clock) (facts-sound b (g .facts));
+      clock = (g .facts .rate, clock-facts b (g .fits .clock) (facts-sound b (g .facts)));
     }
 
 unwired-good : (b : Board) → Unwired b → Good (wired b)
@@ -113,12 +117,13 @@ unwired-good b p =
       fits = record {
         four = p .four;
         timers = good-fits (b .timers) (p .timers);
-        clock = sound-fits (rateOf (b .clock)) (b .clock) (p .clock);
+        clock = sound-fits (rateOf (b .clock)) (b .clock) (p .clock .1);
       };
       facts = record {
         timers = good-sound 0 (b .timers) (p .timers);
         enable = p .enable;
-        clock = clock-sound (rateOf (b .clock)) (b .clock) (p .clock);
+        rate = p .clock .0;
+        clock = clock-sound (rateOf (b .clock)) (b .clock) (p .clock .1);
         level = wired-level b;
       };
     }
@@ -130,9 +135,11 @@ latches-unwired b ls p = record { four = p .four; timers = p .timers; enable = p
 -- ---- a read
 
 -- the alarm check
-check-kept : (k : Clock) → OwnSound k → OwnSound (checkAlarm (rateOf k) k)
+check-kept : (k : Clock) → SoundAt (rateOf k) k →
+    SoundAt (rateOf (checkAlarm (rateOf k) k)) (checkAlarm (rateOf k) k)
 check-kept k s =
-    at-rate Sound k (checkAlarm (rateOf k) k) (check-rate (rateOf k) k) (check-sound (rateOf k) k (s .parts))
+    at-rate SoundAt k (checkAlarm (rateOf k) k) (check-rate (rateOf k) k)
+    (s .0, check-sound (rateOf k) k (s .1 .parts))
 
 abbrev Kept : Read → Type 0
 Kept r = Unwired (r .board)
@@ -182,26 +189,29 @@ module _ (offset : ℕ) where
 
 -- ---- a write
 
-module _ (i v : ℕ) (four : i < 4) (byte : v < 256) (k : Clock) (s : OwnSound k) where
+module _ (i v : ℕ) (four : i < 4) (byte : v < 256) (k : Clock) (s : SoundAt (rateOf k) k) where
   -- at the rate before it
   abbrev S : Clock → Type 0
   S = Sound (rateOf k)
 
+  r : Rate (rateOf k)
+  r = three-rate (rateOf k) (s .0)
+
   written-sound : (register : ℕ) → S (clockWritten register i v k)
   unfolding clockWritten
   written-sound register =
-      choose S (eqb register clockControlAt) (λ _. control-sound (rateOf k) (clock-rate k) i v k s)
+      choose S (eqb register clockControlAt) (λ _. control-sound (rateOf k) r i v k (s .1))
       (λ _. choose S (eqb register secondsLowAt)
-      (λ _. seconds-sound (rateOf k) (clock-rate k) (i + 4) v (omega arith) byte k s)
+      (λ _. seconds-sound (rateOf k) r (i + 4) v (omega arith) byte k (s .1))
       (λ _. choose S (eqb register secondsHighAt)
-      (λ _. seconds-sound (rateOf k) (clock-rate k) i v (omega arith) byte k s)
+      (λ _. seconds-sound (rateOf k) r i v (omega arith) byte k (s .1))
       (λ _. choose S (eqb register alarmLowAt)
-      (λ _. alarm-bytes-sound (rateOf k) (clock-rate k) (i + 4) v (omega arith) byte k s)
+      (λ _. alarm-bytes-sound (rateOf k) r (i + 4) v (omega arith) byte k (s .1))
       (λ _. choose S (eqb register alarmHighAt)
-      (λ _. alarm-bytes-sound (rateOf k) (clock-rate k) i v (omega arith) byte k s)
-      (λ _. choose S (eqb register alarmEnableAt) (λ _. enable-sound (rateOf k) i v k s)
-      (λ _. choose S (eqb register clockAckAt) (λ _. acknowledge-sound (rateOf k) i v k s)
-      (λ _. s)))))))
+      (λ _. alarm-bytes-sound (rateOf k) r i v (omega arith) byte k (s .1))
+      (λ _. choose S (eqb register alarmEnableAt) (λ _. enable-sound (rateOf k) i v k (s .1))
+      (λ _. choose S (eqb register clockAckAt) (λ _. acknowledge-sound (rateOf k) i v k (s .1))
+      (λ _. s .1)))))))
 
   -- and a byte leaves the rate
   abbrev Q : Clock → Type 0
@@ -210,7 +220,7 @@ module _ (i v : ℕ) (four : i < 4) (byte : v < 256) (k : Clock) (s : OwnSound k
   written-rate : (register : ℕ) → Q (clockWritten register i v k)
   unfolding clockWritten
   written-rate register =
-      choose Q (eqb register clockControlAt) (λ _. control-rate (rateOf k) k (rate-above k) i v)
+      choose Q (eqb register clockControlAt) (λ _. control-rate (rateOf k) k (r .positive) i v)
       (λ _. choose Q (eqb register secondsLowAt) (λ _. seconds-rate (rateOf k) k (i + 4) v)
       (λ _. choose Q (eqb register secondsHighAt) (λ _. seconds-rate (rateOf k) k i v)
       (λ _. choose Q (eqb register alarmLowAt) (λ _. alarm-rate (rateOf k) k (i + 4) v)
@@ -219,9 +229,9 @@ module _ (i v : ℕ) (four : i < 4) (byte : v < 256) (k : Clock) (s : OwnSound k
       (λ _. choose Q (eqb register clockAckAt) (λ _. acknowledge-rate i v k)
       (λ _. record { same = refl })))))))
 
-  clock-written-sound : (register : ℕ) → OwnSound (clockWritten register i v k)
+  clock-written-sound : (register : ℕ) → SoundAt (rateOf (clockWritten register i v k)) (clockWritten register i v k)
   clock-written-sound register =
-      at-rate Sound k (clockWritten register i v k) (written-rate register) (written-sound register)
+      at-rate SoundAt k (clockWritten register i v k) (written-rate register) (s .0, written-sound register)
 
 module _ (v : ℕ) (byte : v < 256) (b : Board) (p : Unwired b) where
   timer-unwired : (register i : ℕ) → Unwired (timerWritten register i v b)

@@ -9,10 +9,10 @@ use Rattle.clock.proofs.Soundness.{sound-timed}
 use Rattle.wide.proofs.Choices.{choose}
 use Rattle.board.specs.declared.Board.{Board}
 use Rattle.board.specs.Board.{sound}
-use Rattle.board.proofs.Soundness.{clock-facts}
+use Rattle.board.proofs.Soundness.{sound-facts, clock-facts}
 
 pub sound-times : (b : Board) → ClockFits (b .clock) → sound b ≡ true → Timed (rateOf (b .clock)) (b .clock)
-sound-times b f s = sound-timed (rateOf (b .clock)) (b .clock) (clock-facts b f s)
+sound-times b f s = sound-timed (rateOf (b .clock)) (b .clock) (sound-facts b s .rate) (clock-facts b f s)
 
 -- the alarm check leaves what the time is made of
 pub check-timed : (k : Clock) → Timed (rateOf k) k → Timed (rateOf (checkAlarm (rateOf k) k)) (checkAlarm (rateOf k) k)
@@ -20,5 +20,5 @@ unfolding checkAlarm
 check-timed k t =
     at-rate Timed k (checkAlarm (rateOf k) k) (check-rate (rateOf k) k)
     (choose (Timed (rateOf k)) (alarmReached (rateOf k) k)
-    (λ _. record { subsecond = t .subsecond; offset = t .offset; host = t .host })
+    (λ _. record { known = t .known; subsecond = t .subsecond; offset = t .offset; host = t .host })
     (λ _. t))

@@ -14,7 +14,7 @@ advance-all-requires c κs = sound-facts (c .before .args .self) (c .before .pre
 advance-requires : tie.Need-advance-requires
 advance-requires c κs =
     let s = c .before .before .before .before in
-    sound-timed (rateOf (s .args .self .clock)) (s .args .self .clock)
+    sound-timed (rateOf (s .args .self .clock)) (s .args .self .clock) (sound-facts (s .args .self) (s .pre) .rate)
     (clock-facts (s .args .self)
     (record {
       seconds = omega (arith, s .good);

@@ -3,7 +3,7 @@ use Prim.Native.Nat.{ℕ}
 use mathlib.Core.Path.{ap, _∙_}
 use Rattle.clock.specs.declared.Clock.{Clock}
 use Rattle.clock.proofs.Ranges.{timed-same, kept-timed, control-timed}
-use Rattle.clock.proofs.Rate.{rate-above, at-rate, kept-rate}
+use Rattle.clock.proofs.Rate.{three-rate, at-rate, kept-rate}
 use Rattle.clock.specs.Clock.{rateOf, checkAlarm}
 use Rattle.clock.specs.Fields.{withControl}
 use Rattle.clock.specs.Registers.{timeKept, changeControl}
@@ -24,11 +24,13 @@ check-alarm-requires c κs =
     let x = c .before .time-kept in
     let n = a .new in
     let k = a .self in
-    let t = kept-timed (rateOf k) k (c .before .before .pre) n in
+    let p = c .before .before .pre in
+    let pos = three-rate (rateOf k) (p .known) .positive in
+    let t = kept-timed (rateOf k) k p n in
     timed-same (c .with-control .ensures)
     (control-timed (rateOf (x .result)) (x .result)
     (timed-same (x .ensures)
-    (at-rate Timed k (timeKept (rateOf k) n k) (kept-rate (rateOf k) k (rate-above k) n) t))
+    (at-rate Timed k (timeKept (rateOf k) n k) (kept-rate (rateOf k) k pos n) t))
     n)
 
 returns : tie.Need-returns
@@ -36,11 +38,12 @@ unfolding changeControl
 returns c =
     let n = c .before .before .before .args .new in
     let k = c .before .before .before .args .self in
+    let pos = three-rate (rateOf k) (c .before .before .before .pre .known) .positive in
     c .check-alarm .ensures
     ∙ ap (λ (j : Clock). checkAlarm (rateOf j) j) (c .before .with-control .ensures)
     ∙ ap (λ (j : Clock). checkAlarm (rateOf j) (withControl n j)) (c .before .before .time-kept .ensures)
     ∙ ap (λ (rate : ℕ). checkAlarm rate (withControl n (timeKept (rateOf k) n k)))
-    (kept-rate (rateOf k) k (rate-above k) n .same)
+    (kept-rate (rateOf k) k pos n .same)
 
 pub change-control-spec : {M : Type 1} → statement M
 change-control-spec =

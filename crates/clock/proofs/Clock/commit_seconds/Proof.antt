@@ -3,7 +3,7 @@ use Prim.Native.Nat.{ℕ}
 use mathlib.Core.Path.{ap, _∙_}
 use Rattle.clock.specs.declared.Clock.{Clock}
 use Rattle.clock.proofs.Ranges.{timed-same, offset-for-timed, time-timed, shadow-timed}
-use Rattle.clock.proofs.Rate.{rate-above, at-rate, offset-for-rate}
+use Rattle.clock.proofs.Rate.{three-rate, at-rate, offset-for-rate}
 use Rattle.clock.specs.Fields.{withTime, withShadow}
 use Rattle.clock.specs.Clock.{rateOf, checkAlarm}
 use Rattle.clock.specs.Registers.{unmarked, offsetFor, commitSeconds}
@@ -29,12 +29,11 @@ check-alarm-requires c κs =
     let k = a .self in
     let s = a .shadow .value in
     let t = offset-for-timed (rateOf k) k (c .before .before .before .pre) s in
+    let u = timed-same (x .ensures) (at-rate Timed k (offsetFor s k) (offset-for-rate (rateOf k) k s) t) in
     timed-same (c .with-shadow .ensures)
     (shadow-timed (rateOf (y .result)) (y .result)
     (timed-same (y .ensures)
-    (time-timed (rateOf (x .result)) (x .result)
-    (timed-same (x .ensures) (at-rate Timed k (offsetFor s k) (offset-for-rate (rateOf k) k s) t)) s 0
-    (rate-above (x .result))))
+    (time-timed (rateOf (x .result)) (x .result) u s 0 (three-rate (rateOf (x .result)) (u .known) .positive)))
     (unmarked (a .shadow)))
 
 returns : tie.Need-returns

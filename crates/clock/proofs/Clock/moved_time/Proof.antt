@@ -5,7 +5,7 @@ use native.Mathlib.Nat.{mod-lt}
 use native.Mathlib.Omega.{arith}
 use Rattle.clock.proofs.Tests.{both-told}
 use Rattle.clock.proofs.Branches.{moved-past, moved-on, moved-not}
-use Rattle.clock.proofs.Rate.{rate-above, rate-fits, rate-period}
+use Rattle.clock.proofs.Rate.{three-rate, rate-fits, second}
 use Rattle.clock.specs.Clock.{rateOf}
 use borrow.Author.Needs.{needs}
 use Rattle.clock.proofs.Clock.moved_time.Statement.{statement}
@@ -17,11 +17,8 @@ own-time-requires c κs = search needs
 both-requires : tie.Need-both-requires
 both-requires c κs = search needs
 
-rate-requires : tie.Need-rate-requires
-rate-requires c κs = search needs
-
 elapsed-requires : tie.Need-elapsed-requires
-elapsed-requires c κs = rw (c .rate .ensures) (rate-period (c .before .before .before .before .before .args .self))
+elapsed-requires c κs = (c .before .before .before .before .pre .known, (omega arith, omega arith))
 
 sub-if2 : tie.Need-sub-if2
 sub-if2 c = search needs
@@ -31,10 +28,10 @@ with-time-requires c κs = search needs
 
 returns : tie.Need-returns
 returns c =
-    let tests = c .before .before .before .before in
+    let tests = c .before .before .before in
     let a = tests .before .before .before .before .args in
     let x = c .before .before .elapsed in
-    let e = rw (c .before .before .before .rate .ensures) at (x .ensures) in
+    let e = rw (second (rateOf (a .self))) at (x .ensures) in
     c .with-time .ensures
     ∙ moved-past (rateOf (a .self)) (a .cycles .0) (a .self) (x .result .whole)
     (both-told (tests .before .both .ensures) (tests .before .before .before .own-time .ensures) refl
@@ -46,20 +43,22 @@ add-with-time c = search needs
 
 cast-with-time : tie.Need-cast-with-time
 cast-with-time c =
-    let a = c .before .before .before .before .before .before .before .args in
-    let k = a .self in
-    let e = rw (c .before .before .rate .ensures) at (c .before .elapsed .ensures) in
-    omega (arith, e .1, mod-lt (k .subsecond + a .cycles .0) {m = rateOf k} (rate-above k), rate-fits k)
+    let start = c .before .before .before .before .before .before in
+    let k = start .args .self in
+    let n = k .subsecond + start .args .cycles .0 in
+    let e = rw (second (rateOf k)) at (c .before .elapsed .ensures) in
+    let known = start .pre .known in
+    omega (arith, e .1, mod-lt n {m = rateOf k} (three-rate (rateOf k) known .positive), rate-fits (rateOf k) known)
 
 with-time-requires-2 : tie.Need-with-time-requires-2
 with-time-requires-2 c κs = search needs
 
 returns-2 : tie.Need-returns-2
 returns-2 c =
-    let tests = c .before .before .before .before in
+    let tests = c .before .before .before in
     let a = tests .before .before .before .before .args in
     let x = c .before .before .elapsed in
-    let e = rw (c .before .before .before .rate .ensures) at (x .ensures) in
+    let e = rw (second (rateOf (a .self))) at (x .ensures) in
     c .with-time2 .ensures
     ∙ moved-on (rateOf (a .self)) (a .cycles .0) (a .self) (x .result .whole) (x .result .rest)
     (both-told (tests .before .both .ensures) (tests .before .before .before .own-time .ensures) refl
@@ -78,7 +77,6 @@ moved-time-spec =
     (tie.spec
     own-time-requires
     both-requires
-    rate-requires
     elapsed-requires
     sub-if2
     with-time-requires

@@ -1,7 +1,7 @@
 -- `Clock::own_duration` meets its contract. Assumes nothing.
 use native.Mathlib.Omega.{arith}
 use Rattle.clock.proofs.Durations.{nanos-below}
-use Rattle.clock.proofs.Rate.{rate-above}
+use Rattle.clock.proofs.Rate.{second}
 use Rattle.clock.specs.Clock.{rateOf, ownNanoseconds}
 use borrow.Author.Needs.{needs}
 use Rattle.clock.proofs.Clock.own_duration.Statement.{statement}
@@ -10,32 +10,33 @@ use Rattle.clock.proofs.Clock.own_duration.Tie as tie
 cast-cycles : tie.Need-cast-cycles
 cast-cycles c = search needs
 
-cast-t3 : tie.Need-cast-t3
-cast-t3 c = search needs
+cast-divided : tie.Need-cast-divided
+cast-divided c = search needs
 
-mul-t4 : tie.Need-mul-t4
-mul-t4 c = search needs
+mul-divided : tie.Need-mul-divided
+mul-divided c = search needs
 
-rate-requires : tie.Need-rate-requires
-rate-requires c κs = search needs
+divided-requires : tie.Need-divided-requires
+divided-requires c κs = (c .before .pre .known, (omega arith, omega arith))
 
-div-t6 : tie.Need-div-t6
-div-t6 c = omega (arith, c .rate .ensures, rate-above (c .before .before .args .self))
-
-cast-t7 : tie.Need-cast-t7
-cast-t7 c =
-    let k = c .before .before .args .self in
-    rw (c .rate .ensures) (omega (arith, nanos-below (rateOf k) (k .subsecond) (c .before .before .pre)))
+cast-t6 : tie.Need-cast-t6
+cast-t6 c =
+    let start = c .before .before .before in
+    let k = start .args .self in
+    let e = c .before .divided .ensures .0 in
+    rw (e, second (rateOf k)) (omega (arith, nanos-below (rateOf k) (k .subsecond) (start .pre .subsecond)))
 
 returns : tie.Need-returns
 unfolding ownNanoseconds
 returns c =
-    let k = c .before .before .args .self in
+    let start = c .before .before .before in
+    let k = start .args .self in
+    let e = c .before .divided .ensures .0 in
     record {
-      total = rw (c .rate .ensures);
-      small = rw (c .rate .ensures) (nanos-below (rateOf k) (k .subsecond) (c .before .before .pre));
+      total = rw (e, second (rateOf k));
+      small = rw (e, second (rateOf k)) (nanos-below (rateOf k) (k .subsecond) (start .pre .subsecond));
     }
 
 pub own-duration-spec : {M : Type 1} → statement M
 own-duration-spec =
-    tie.close (tie.spec cast-cycles cast-t3 mul-t4 rate-requires div-t6 cast-t7 returns)
+    tie.close (tie.spec cast-cycles cast-divided mul-divided divided-requires cast-t6 returns)

@@ -7,7 +7,7 @@ use Rattle.wide.specs.Number.{valueOf}
 use Rattle.wide.proofs.TwoWords.{one-word}
 use Rattle.clock.proofs.Durations.{cycles-below, cycles-fit, high-word-is}
 use Rattle.clock.proofs.Branches.{set-word, set-past}
-use Rattle.clock.proofs.Rate.{rate-above, rate-fits}
+use Rattle.clock.proofs.Rate.{three-rate, rate-fits}
 use Rattle.clock.specs.Clock.{rateOf, nanosPerSecond, inNanoseconds}
 use Rattle.clock.specs.Registers.{ownTimeSet, setTime}
 use borrow.Author.Needs.{needs}
@@ -25,7 +25,8 @@ mul-own-time-set c =
     let start = c .before .before .before in
     let k = start .args .self in
     let n = start .args .time .nanoseconds in
-    record { fits = rw (c .rate .ensures) (cycles-fit (rateOf k) n (start .pre) (rate-fits k)) }
+    let p = start .pre in
+    record { fits = rw (c .rate .ensures) (cycles-fit (rateOf k) n (p .0) (rate-fits (rateOf k) (p .1))) }
 
 cast-own-time-set : tie.Need-cast-own-time-set
 cast-own-time-set c = search needs
@@ -38,10 +39,12 @@ cast-own-time-set-2 c =
     let start = c .before .before .before in
     let k = start .args .self in
     let n = start .args .time .nanoseconds in
+    let p = start .pre in
     record {
       fits =
           rw (c .rate .ensures)
-          (lt-of-lt-of-le (cycles-below (rateOf k) n (start .pre) (rate-above k)) (rate-fits k));
+          (lt-of-lt-of-le (cycles-below (rateOf k) n (p .0) (three-rate (rateOf k) (p .1) .positive))
+          (rate-fits (rateOf k) (p .1)));
     }
 
 own-time-set-requires : tie.Need-own-time-set-requires
@@ -55,7 +58,7 @@ returns c =
     let n = start .args .time .nanoseconds in
     c .own-time-set .ensures
     ∙ ap (λ (rate : ℕ). ownTimeSet (w .low) (n * rate / nanosPerSecond) k) (c .before .rate .ensures)
-    ∙ set-word (rateOf k) (w .low) n k (start .pre) (omega arith)
+    ∙ set-word (rateOf k) (w .low) n k (start .pre .0) (omega arith)
     ∙ ap (λ (s : ℕ). setTime (rateOf k) (inNanoseconds s n) k) (sym (one-word w (c .before .before .if1 .taken)))
 
 own-time-set-requires-2 : tie.Need-own-time-set-requires-2
@@ -66,7 +69,7 @@ returns-2 c =
     let a = c .before .before .before .args in
     c .own-time-set2 .ensures
     ∙ set-past (rateOf (a .self)) (valueOf (a .time .seconds)) (a .time .nanoseconds) (a .self)
-    (c .before .before .before .pre) (high-word-is (a .time .seconds) (c .before .if1 .left))
+    (c .before .before .before .pre .0) (high-word-is (a .time .seconds) (c .before .if1 .left))
 
 pub set-time-spec : {M : Type 1} → statement M
 set-time-spec =

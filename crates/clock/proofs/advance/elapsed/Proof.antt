@@ -1,50 +1,78 @@
 -- `advance::elapsed` meets its contract. Assumes nothing.
+use Prim.Native.Nat.{_/_}
 use mathlib.Core.Path.{sym}
 use native.Mathlib.Nat.{div-eq-of-lt, mod-eq-of-lt}
 use native.Mathlib.Omega.{arith}
-use Rattle.clock.proofs.Periods.{whole-is, rest-is, part-fits, whole-fits}
+use Rattle.clock.proofs.Periods.{part-fits, steps, steps-fit}
+use Rattle.clock.proofs.Rate.{period}
 use borrow.Author.Needs.{needs}
 use Rattle.clock.proofs.advance.elapsed.Statement.{statement}
 use Rattle.clock.proofs.advance.elapsed.Tie as tie
 
+div-period : tie.Need-div-period
+div-period c = search needs
+
 add-sum : tie.Need-add-sum
-add-sum c = search needs
+add-sum c =
+    let a = c .before .args in
+    let p = c .before .pre in
+    omega (arith, c .if1 .taken, period (a .rate) (p .0) (a .per-second) (p .1 .0) (p .1 .1) .1)
 
 returns : tie.Need-returns
 returns c = (sym (div-eq-of-lt (c .if2 .taken)), sym (mod-eq-of-lt (c .if2 .taken)))
 
-rem-sum : tie.Need-rem-sum
-rem-sum c = search needs
+divided-requires : tie.Need-divided-requires
+divided-requires c κs = search needs
 
-add-sum-2 : tie.Need-add-sum-2
-add-sum-2 c =
-    let a = c .before .args in
-    let n = a .cycles .0 in
-    let p = c .before .pre in
-    record { fits = part-fits (a .part) n (a .period) (p .0) (p .1) (omega arith) (omega arith) }
+add-divided : tie.Need-add-divided
+add-divided c =
+    let start = c .before .before .before in
+    let a = start .args in
+    let p = start .pre in
+    let v = period (a .rate) (p .0) (a .per-second) (p .1 .0) (p .1 .1) in
+    record {
+      fits =
+          rw (c .before .divided .ensures .1)
+          (part-fits (a .part) (a .cycles .0) (a .rate / a .per-second) (v .0) (v .1) (omega arith) (omega arith));
+    }
 
-div-t10 : tie.Need-div-t10
-div-t10 c = search needs
+divided-requires-2 : tie.Need-divided-requires-2
+divided-requires-2 c κs = search needs
 
-div-t11 : tie.Need-div-t11
-div-t11 c = search needs
-
-add-t12 : tie.Need-add-t12
-add-t12 c =
-    let a = c .before .args in
-    let n = a .cycles .0 in
-    let p = c .before .pre in
-    record { fits = whole-fits (a .part) n (a .period) (p .0) (p .1) (omega arith) (omega arith) }
-
-rem-t13 : tie.Need-rem-t13
-rem-t13 c = search needs
+add-t10 : tie.Need-add-t10
+add-t10 c =
+    let start = c .before .before .before .before .before .before in
+    let a = start .args in
+    let p = start .pre in
+    let v = period (a .rate) (p .0) (a .per-second) (p .1 .0) (p .1 .1) in
+    let d = c .before .before .before .before .divided in
+    let e = c .before .before .divided2 in
+    record {
+      fits =
+          steps-fit (a .part) (a .cycles .0) (a .rate / a .per-second) _ _ _ 0 (d .ensures .0) (d .ensures .1)
+          (e .ensures .0) (v .0) (v .1) (omega arith) (omega arith);
+    }
 
 returns-2 : tie.Need-returns-2
 returns-2 c =
-    let a = c .before .args in
-    let n = a .cycles .0 in
-    (whole-is (a .part) n (a .period) (omega arith), rest-is (a .part) n (a .period))
+    let start = c .before .before .before .before .before .before in
+    let a = start .args in
+    let p = start .pre in
+    let v = period (a .rate) (p .0) (a .per-second) (p .1 .0) (p .1 .1) in
+    let d = c .before .before .before .before .divided in
+    let e = c .before .before .divided2 in
+    steps (a .part) (a .cycles .0) (a .rate / a .per-second) _ _ _ _ (d .ensures .0) (d .ensures .1) (e .ensures .0)
+    (omega (arith, v .0)) (e .ensures .1)
 
 pub elapsed-spec : {M : Type 1} → statement M
 elapsed-spec =
-    tie.close (tie.spec add-sum returns rem-sum add-sum-2 div-t10 div-t11 add-t12 rem-t13 returns-2)
+    tie.close
+    (tie.spec
+    div-period
+    add-sum
+    returns
+    divided-requires
+    add-divided
+    divided-requires-2
+    add-t10
+    returns-2)
