@@ -116,7 +116,7 @@ pub at-rate : (P : ℕ → Clock → Type 0) (k j : Clock) → SameRate k j → 
 at-rate P k j e h = subst⁻¹ (λ (rate : ℕ). P rate j) (e .same) h
 
 -- from k by j to l
-by-way : {k j l : Clock} → SameRate k j → SameRate j l → SameRate k l
+pub by-way : {k j l : Clock} → SameRate k j → SameRate j l → SameRate k l
 by-way p q = record { same = q .same ∙ p .same }
 
 module _ (rate : ℕ) (k : Clock) where

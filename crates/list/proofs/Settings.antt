@@ -29,7 +29,7 @@ use Rattle.channel.specs.Modes.{oneShot, reloaded, matched, periodic, distance,
 use Rattle.channel.specs.Deadline.{ticksToGo, deadlineOf}
 use Rattle.channel.specs.Registers.{wordOf, controlWritten, byteWritten as channelWritten}
 use Rattle.clock.specs.declared.Clock.{Clock}
-use Rattle.clock.specs.Fields.{freshClock, withControl, withTime, withAlarm}
+use Rattle.clock.specs.Fields.{freshClockAt, freshClock, withControl, withTime, withAlarm, withHost}
 use Rattle.clock.specs.Clock.{
   shifted,
   ownNanoseconds,
@@ -41,7 +41,7 @@ use Rattle.clock.specs.Clock.{
   endAdvance,
   advanceClock,
 }
-use Rattle.clock.specs.Sound.{soundOffset, soundAlarm, soundParts as clockParts, alarmAhead, soundClock}
+use Rattle.clock.specs.Sound.{soundRate, soundOffset, soundAlarm, soundParts as clockParts, alarmAhead, soundClock}
 use Rattle.clock.specs.Deadline.{clockDeadline}
 use Rattle.clock.specs.Registers.{
   signedDifference,
@@ -61,7 +61,7 @@ use Rattle.controller.specs.Bits.{withBit, without}
 use Rattle.controller.specs.Controller.{sourceSet, outputOf, lowestFrom, byteWritten, pendingCleared}
 use Rattle.board.specs.declared.Board.{Board}
 use Rattle.board.specs.Loops.{mapFrom, foldFrom}
-use Rattle.board.specs.Fields.{freshBoard, withTimers, withTimerEnable, withClock}
+use Rattle.board.specs.Fields.{freshBoardAt, freshBoard, withTimers, withTimerEnable, withClock}
 use Rattle.board.specs.Board.{line, exactDeadline, wired, soundParts, sound}
 use Rattle.board.specs.Calls.{
   boardAfter,
@@ -71,6 +71,7 @@ use Rattle.board.specs.Calls.{
   advanceCall,
   skipCall,
   controllerWriteCall,
+  freshOf,
 }
 use Rattle.board.specs.Demand.{source3}
 use Rattle.offsets.specs.Words.{timerWord, clockWord, liveWord}
@@ -120,11 +121,44 @@ skipped compare room = runOf (away compare) (0x06 ∷ 0x00 ∷ 0x00 ∷ []) room
 abbrev unsound : Board
 unsound = running (timerControl 16 freshTimer)
 
-abbrev settingF : Board
-settingF = clocked (withAlarm (record { enable = 1; seconds = 2; pending = false; armed = true }) freshClock)
+-- the alarm armed and enabled
+abbrev alarmed : ℕ → Clock → Clock
+alarmed s k = withAlarm (record { enable = 1; seconds = s; pending = false; armed = true }) k
 
-abbrev settingG : Board
-settingG = clocked (withTime (2 ^ 64 - 1) 0 freshClock)
+gives : Option ℕ → ℕ → Bool
+gives none n = false
+gives (some d) n = eqb d n
+
+-- of a rate, as G and the alarm on host time
+abbrev settingF : ℕ → Board
+settingF rate = clocked (alarmed 2 (freshClockAt rate))
+
+abbrev settingG : ℕ → Board
+settingG rate = clocked (withTime (2 ^ 64 - 1) 0 (freshClockAt rate))
+
+-- the clock runs from host time, which is at the alarm
+abbrev polling : ℕ → Board
+polling rate =
+    clocked (withHost (record { seconds = 9; nanoseconds = 0 }) (alarmed 9 (withControl 5 (freshClockAt rate))))
+
+-- F, G and poll of a board of a rate: D of F, the cycles of a second, and the limit of poll
+atRate : ℕ → ℕ → ℕ → Bool
+atRate second d limit =
+    -- F alarm 2, armed, alarm enable 1: D 96,000,000
+    gives (exactDeadline (settingF second)) d
+    && not (line (advancedBoard (d - 1) (settingF second)))
+    && line (advancedBoard d (settingF second))
+    -- G seconds 2^64 − 1: 47,999,999 cycles leave that subsecond, 48,000,000 leave 0
+    && eqb (advancedBoard (second - 1) (settingG second) .clock .subsecond) (second - 1)
+    && eqb (advancedBoard (second - 1) (settingG second) .clock .seconds) (2 ^ 64 - 1)
+    && eqb (advancedBoard second (settingG second) .clock .subsecond) 0
+    && eqb (advancedBoard second (settingG second) .clock .seconds) (2 ^ 64 - 1)
+    -- poll: the check at 48,000
+    && not (line (advancedBoard (limit - 1) (polling second)))
+    && eqb (advancedBoard (limit - 1) (polling second) .clock .poll) (limit - 1)
+    && line (advancedBoard limit (polling second))
+    -- and each call leaves the rate
+    && eqb (advancedBoard limit (polling second) .clock .rate) second
 
 abbrev settingH : ℕ → IrqOutput
 settingH enable = outputOf (record { pending = 0x0220; enable = enable; levels = 0 })
@@ -170,10 +204,6 @@ worked =
     32_768
 
 -- ---- the table
-
-gives : Option ℕ → ℕ → Bool
-gives none n = false
-gives (some d) n = eqb d n
 
 same : List ℕ → List ℕ → Bool
 same [] [] = true
@@ -224,13 +254,21 @@ settings =
     && same (answerOf (advanceCall (2 ^ 64 - 1)) (running (withReload 1 (inMode 1))) .members)
     (1 ∷ 2 ^ 64 ∷ 0 ∷ 0 ∷ 0 ∷ [])
     && same (answerOf (advanceCall 1) unsound .members) []
-    -- F alarm 2, armed, alarm enable 1: D 96,000,000
-    && gives (exactDeadline settingF) 96_000_000
-    -- G seconds 2^64 − 1: 47,999,999 cycles leave that subsecond, 48,000,000 leave 0
-    && eqb (advancedBoard 47_999_999 settingG .clock .subsecond) 47_999_999
-    && eqb (advancedBoard 47_999_999 settingG .clock .seconds) (2 ^ 64 - 1)
-    && eqb (advancedBoard 48_000_000 settingG .clock .subsecond) 0
-    && eqb (advancedBoard 48_000_000 settingG .clock .seconds) (2 ^ 64 - 1)
+    -- F, G and poll at document 01's rate, and by S-7 at the two others
+    && atRate 48_000_000 96_000_000 48_000
+    && atRate 12_000_000 24_000_000 12_000
+    && atRate 1_000_000 2_000_000 1_000
+    -- a board is made at the three, and another rate is refused with 15 and gives a fresh board
+    && eqb (freshOf 12_000_000 .refusal) 0
+    && eqb (freshOf 12_000_000 .board .clock .rate) 12_000_000
+    && eqb (freshOf 1_000_000 .refusal) 0
+    && eqb (freshOf 48_000_000 .refusal) 0
+    && eqb (freshOf 24_000_000 .refusal) 15
+    && eqb (freshOf 24_000_000 .board .clock .rate) 48_000_000
+    -- a board that carries another rate is refused with 1, by a call and by a run, and comes back as it was
+    && eqb (answerOf (advanceCall 1) (freshBoardAt 24_000_000) .refusal) 1
+    && eqb (answerOf (advanceCall 1) (freshBoardAt 24_000_000) .board .clock .rate) 24_000_000
+    && eqb (runOf (freshBoardAt 24_000_000) [] 0 .outcome .refusal) 1
     -- H pending bits 5 and 9, enable 0x0200: 9; 0x0220: 5
     && settingH 0x0200 .valid
     && eqb (settingH 0x0200 .number .0) 9
@@ -261,13 +299,13 @@ settings =
 
 pub settings-hold : settings ≡ true
 unfolding
-    skipped seconds settingI settingJ lowCount steady worked gives same settings beAt be withByte enabledOf
+    skipped atRate seconds settingI settingJ lowCount steady worked gives same settings beAt be withByte enabledOf
     irqEnabledOf disabled soundTimer lineOf advanced pointsMet matchesIn oneShot reloaded matched periodic distance
     freeRunning tickedIn ticked ticksToGo deadlineOf wordOf controlWritten channelWritten shifted ownNanoseconds
-    timeOf timeSeconds alarmReached checkAlarm movedTime endAdvance advanceClock soundOffset soundAlarm clockParts
+    timeOf timeSeconds alarmReached checkAlarm movedTime endAdvance advanceClock soundRate soundOffset soundAlarm clockParts
     alarmAhead soundClock clockDeadline signedDifference setTime timeKept changeControl writeControl marked shadowByte
     offsetFor commitSeconds writeSeconds timeNanoseconds withBit without sourceSet outputOf lowestFrom byteWritten
-    pendingCleared mapFrom foldFrom line exactDeadline wired soundParts sound answerOf movedBoard advancedBoard
+    pendingCleared mapFrom foldFrom line exactDeadline wired soundParts sound answerOf freshOf movedBoard advancedBoard
     timerWord clockWord liveWord readLive readCountHigh readChannel secondsLatched readLow readHigh readAt
     timerWritten clockWritten writtenAt addressRefusal membersAt frameRefusal membersBytes recordOf callOf refusalAt
     turnOf stepped runOn runOf

@@ -132,27 +132,36 @@ module _ (p : Run) (room : ℕ) where
           ∙ next (n - 1) (stepped s (done b n a)) (out ++ a)
           ∙ ap (joined p) (sym (next-done x l (room - length (p .answers)) s out b n a e))
 
--- ---- a run keeps a sound board sound
+-- ---- what one more call keeps of a board, done or refused, a run keeps
 
+module _ (P : Board → Type 0)
+    (step : (l : List ℕ) → ((i : ℕ) → getD l i 0 < 256) → (s : Outcome) → P (s .board) → (room : ℕ) →
+    P (stepped s (turnOf (s .board) l room) .board)) where
+  pub run-invariant : (k : ℕ) (l : List ℕ) (room : ℕ) (s : Outcome) (out : List ℕ) → ((i : ℕ) → getD l i 0 < 256) →
+      P (s .board) → P (runOn k l room s out .outcome .board)
+  unfolding runOn
+  run-invariant zero [] room s out h g = g
+  run-invariant (suc k) [] room s out h g = g
+  run-invariant (suc k) (x ∷ l) room s out h g = run-invariant k l room s out (λ i. h (suc i)) g
+  run-invariant zero (x ∷ l) room s out h g =
+      onward (λ k o a. run-invariant k l room o a (λ i. h (suc i))) (turnOf (s .board) (x ∷ l) (room - length out))
+      refl
+    where
+      onward :
+          ((k : ℕ) (o : Outcome) (a : List ℕ) → P (o .board) → P (runOn k l room o a .outcome .board)) →
+          (t : Turn) → turnOf (s .board) (x ∷ l) (room - length out) ≡ t →
+          P (runOn 0 (x ∷ l) room s out .outcome .board)
+      onward next (refused n) e =
+          rw (next-refused x l room s out n e) (rw e at (step (x ∷ l) h s g (room - length out)))
+      onward next (done b n a) e =
+          rw (next-done x l room s out b n a e)
+          (next (n - 1) (stepped s (done b n a)) (out ++ a)
+          (rw e at (step (x ∷ l) h s g (room - length out))))
+
+-- a sound board stays sound
 pub run-good : (k : ℕ) (l : List ℕ) (room : ℕ) (s : Outcome) (out : List ℕ) → ((i : ℕ) → getD l i 0 < 256) →
     Good (s .board) → Good (runOn k l room s out .outcome .board)
-unfolding runOn
-run-good zero [] room s out h g = g
-run-good (suc k) [] room s out h g = g
-run-good (suc k) (x ∷ l) room s out h g = run-good k l room s out (λ i. h (suc i)) g
-run-good zero (x ∷ l) room s out h g =
-    onward (λ k o a. run-good k l room o a (λ i. h (suc i))) (turnOf (s .board) (x ∷ l) (room - length out)) refl
-  where
-    onward :
-        ((k : ℕ) (o : Outcome) (a : List ℕ) → Good (o .board) → Good (runOn k l room o a .outcome .board)) →
-        (t : Turn) → turnOf (s .board) (x ∷ l) (room - length out) ≡ t →
-        Good (runOn 0 (x ∷ l) room s out .outcome .board)
-    onward next (refused n) e =
-        rw (next-refused x l room s out n e) (rw e at (step-good (x ∷ l) h s g (room - length out)))
-    onward next (done b n a) e =
-        rw (next-done x l room s out b n a e)
-        (next (n - 1) (stepped s (done b n a)) (out ++ a)
-        (rw e at (step-good (x ∷ l) h s g (room - length out))))
+run-good = run-invariant Good step-good
 
 -- so does a whole run that is not refused, for its board was sound
 pub run-keeps : (b : Board) (l : List ℕ) (room : ℕ) → BoardFits b → ((i : ℕ) → getD l i 0 < 256) →

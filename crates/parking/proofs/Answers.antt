@@ -7,9 +7,11 @@ use mathlib.Core.List.{List, [], _++_}
 use lib.ListN.{length, getD, drop}
 use lib.Seq.{sets}
 use lib.Dec.{ltb, eqb}
-use borrow.Author.Tests.{eq-eqb, ne-eqb, ltb-false}
+use borrow.Author.Tests.{eq-eqb, ne-eqb, ltb-false, eqb-true}
 use Rattle.format.proofs.Frames.{sets-front}
 use Rattle.wide.proofs.Choices.{either}
+use Rattle.clock.specs.Clock.{rateOf}
+use Rattle.clock.specs.Fields.{freshRate}
 use Rattle.board.specs.declared.Board.{Board}
 use Rattle.board.specs.Fields.{freshBoard}
 use Rattle.board.specs.Board.{sound}
@@ -129,16 +131,25 @@ module _ (b : Board) (old : List ℕ) (r : ℕ) (told : r ≡ writingRefusal b (
     unfolding writingOf
     writing-accepted = rw (none, ← told, z)
 
-    -- then the board is sound, and there is room
+    -- then the board is sound, its rate is a fresh board's, and there is room
     pub writing-sound : sound b ≡ true
     writing-sound =
         either (sound b) (λ s. s)
         (λ s. let one : _≡_ {A = ℕ} 1 0 = rw s at (sym told ∙ z) in absurd (omega (arith, one)))
 
+    rated : eqb (rateOf (b .clock)) freshRate ≡ true
+    rated =
+        either (eqb (rateOf (b .clock)) freshRate) (λ h. h)
+        (λ h. let other : _≡_ {A = ℕ} 15 0 = rw (writing-sound, h) at (sym told ∙ z) in absurd (omega (arith, other)))
+
+    pub writing-rate : rateOf (b .clock) ≡ freshRate
+    writing-rate = eqb-true (rateOf (b .clock)) freshRate rated
+
     pub writing-room : imageLength ≤ length old
     writing-room =
         either (ltb (length old) imageLength)
-        (λ h. let short : _≡_ {A = ℕ} 11 0 = rw (writing-sound, h) at (sym told ∙ z) in absurd (omega (arith, short)))
+        (λ h. let short : _≡_ {A = ℕ} 11 0 = rw (writing-sound, rated, h) at (sym told ∙ z) in
+        absurd (omega (arith, short)))
         (λ h. ltb-false (length old) imageLength h)
 
     pub buffer-written : (new : List ℕ) → new ≡ sets old 0 (imageOf b) → new ≡ bufferAfter b old

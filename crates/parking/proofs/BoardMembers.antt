@@ -1,6 +1,7 @@
 -- A board and its members, there and back: the members of a sound board fit the layout and say that board, and members
 -- that fit the layout are those of the board that they say. Assumes nothing.
 use Prim.Native.Nat.{ℕ, zero, suc, _+_, _^_, _≤_, _<_}
+use native.Mathlib.Nat.{lt-of-lt-of-le}
 use native.Mathlib.Omega.{arith}
 use mathlib.Core.Path.{_≡_, refl, sym, ap, ap₂, _∙_, subst}
 use mathlib.Core.Bool.{Bool, true, false, _&&_, _||_}
@@ -16,7 +17,9 @@ use Rattle.channel.specs.Channel.{TimerFits, freshTimer, soundTimer}
 use Rattle.channel.proofs.Sound.{sound-control, sound-phase}
 use Rattle.clock.specs.declared.Clock.{Clock}
 use Rattle.clock.specs.Clock.{rateOf, nanosPerSecond, pollLimit}
-use Rattle.clock.specs.Sound.{ClockFits}
+use Rattle.clock.specs.Fields.{freshRate}
+use Rattle.clock.specs.Sound.{ClockFits, soundRate}
+use Rattle.clock.proofs.Rate.{rate-fits}
 use Rattle.clock.proofs.Soundness.{OwnSound}
 use Rattle.controller.specs.declared.IrqController.{IrqController}
 use Rattle.board.specs.declared.Latch.{Latch}
@@ -283,21 +286,26 @@ channels-fit k (t ∷ ts) f w s fs mss fit =
     let p = and-parts (soundTimer t) (foldFrom (λ _ h. soundTimer h) _&&_ true (suc k) ts) s in
     timer-fit t (f .0) (w .0) (p .0) ▸ channels-fit (suc k) ts (f .1) (w .1) (p .1) fs mss fit
 
-clock-fit : (enable : ℕ) (k : Clock) → enable < 16 → OwnSound k → ClockWords k →
+-- poll's limit is no more than the rate
+limit-fits : (rate : ℕ) → rate ≤ 2 ^ 32 → pollLimit rate ≤ 2 ^ 32
+limit-fits rate h = omega arith
+
+clock-fit : (enable : ℕ) (k : Clock) → enable < 16 → soundRate (rateOf k) ≡ true → OwnSound k → ClockWords k →
     FieldFit clockField (clockMembers enable k)
 unfolding flagsHold
-clock-fit enable k e s w =
+clock-fit enable k e r s w =
     let p = s .parts in
+    let fits = rate-fits (rateOf k) r in
     record {
       header = refl;
       members =
           below 16 256 e refl ▸ below 8 256 (p .control) refl ▸ p .seconds
-          ▸ below (rateOf k) (2 ^ 32) (p .subsecond) refl
+          ▸ lt-of-lt-of-le (p .subsecond) fits
           ▸ flag-fits (k .offset .negative) ▸ w .offset ▸ below nanosPerSecond (2 ^ 32) (p .offset .small) refl
           ▸ below 2 256 (p .alarm .enable) refl ▸ p .alarm .word
           ▸ flag-fits (k .alarm .pending) ▸ flag-fits (k .alarm .armed)
           ▸ p .shadow .word ▸ below 255 256 (p .shadow .mask) refl
-          ▸ below (pollLimit (rateOf k)) (2 ^ 32) (p .poll) refl
+          ▸ lt-of-lt-of-le (p .poll) (limit-fits (rateOf k) fits)
           ▸ p .alarmShadow .word ▸ below 255 256 (p .alarmShadow .mask) refl
           ▸ w .host ▸ below nanosPerSecond (2 ^ 32) (p .host) refl ▸ ended;
       flags =
@@ -359,7 +367,7 @@ module _ (b : Board) (w : BoardWords b) (s : sound b ≡ true) where
       let others = clockField ∷ latchesField ∷ controllerField ∷ [] in
       subst (λ (n : ℕ). FieldsFit (replicate n channelField ++ others) (membersOf b)) (f .four)
       (channels-fit 0 (b .timers) (f .timers) (w .timers) (facts .timers) _ _
-      (clock-fit (b .«timer_enable») (b .clock) (facts .enable) (clock-facts b (f .clock) s) (w .clock)
+      (clock-fit (b .«timer_enable») (b .clock) (facts .enable) (facts .rate) (clock-facts b (f .clock) s) (w .clock)
       ▸ latches-fit (b .latches) (w .latches)
       ▸ controller-fit (b .controller) (w .controller)
       ▸ ended))
@@ -369,9 +377,27 @@ module _ (b : Board) (w : BoardWords b) (s : sound b ≡ true) where
 timer-back : (h : HardwareTimer) → timerFrom (timerMembers h) ≡ h
 timer-back h = rw (flag-back (h .pending), flag-back (h .armed))
 
-clock-back : (enable : ℕ) (k : Clock) → clockFrom (clockMembers enable k) ≡ k
-clock-back enable k =
+-- the clock with another rate
+abbrev withRate : ℕ → Clock → Clock
+withRate rate k =
+    record {
+      rate = rate;
+      control = k .control;
+      seconds = k .seconds;
+      subsecond = k .subsecond;
+      offset = k .offset;
+      alarm = k .alarm;
+      shadow = k .shadow;
+      poll = k .poll;
+      «alarm_shadow» = k .«alarm_shadow»;
+      host = k .host;
+    }
+
+-- an image has no rate, so the clock is at that of a fresh board
+clock-back : (enable : ℕ) (k : Clock) → rateOf k ≡ freshRate → clockFrom (clockMembers enable k) ≡ k
+clock-back enable k e =
     rw (flag-back (k .offset .negative), flag-back (k .alarm .pending), flag-back (k .alarm .armed))
+    (ap (λ (rate : ℕ). withRate rate k) (sym e))
 
 six-back : (a b c d : CountLatch) (low high : Latch) →
     latchesFrom (latchesMembers (record { counts = a ∷ b ∷ c ∷ d ∷ []; low = low; high = high }))
@@ -399,25 +425,25 @@ abbrev made : List HardwareTimer → ℕ → Clock → Latches → IrqController
 made ts enable k ls q = record { timers = ts; «timer_enable» = enable; clock = k; latches = ls; controller = q }
 
 four-back : (t u v w : HardwareTimer) (enable : ℕ) (k : Clock) (ls : Latches) (q : IrqController) →
-    latchesFrom (latchesMembers ls) ≡ ls →
+    rateOf k ≡ freshRate → latchesFrom (latchesMembers ls) ≡ ls →
     boardFrom (membersOf (made (t ∷ u ∷ v ∷ w ∷ []) enable k ls q)) ≡ made (t ∷ u ∷ v ∷ w ∷ []) enable k ls q
 unfolding boardFrom
-four-back t u v w enable k ls q e =
+four-back t u v w enable k ls q r e =
     ap₂ (λ (ts : List HardwareTimer) (c : Clock). made ts enable c (latchesFrom (latchesMembers ls)) q)
     (ap₂ _∷_ (timer-back t)
     (ap₂ _∷_ (timer-back u) (ap₂ _∷_ (timer-back v) (ap (λ (h : HardwareTimer). h ∷ []) (timer-back w)))))
-    (clock-back enable k)
+    (clock-back enable k r)
     ∙ ap (λ (l : Latches). made (t ∷ u ∷ v ∷ w ∷ []) enable k l q) e
 
-pub board-back : (b : Board) → BoardWords b → boardFrom (membersOf b) ≡ b
-board-back b w =
+pub board-back : (b : Board) → BoardWords b → rateOf (b .clock) ≡ freshRate → boardFrom (membersOf b) ≡ b
+board-back b w r =
     let four = w .fits .four in
     subst
     (λ (ts : List HardwareTimer).
     boardFrom (membersOf (made ts (b .«timer_enable») (b .clock) (b .latches) (b .controller)))
     ≡ made ts (b .«timer_enable») (b .clock) (b .latches) (b .controller))
     (sym (four-is freshTimer (b .timers) four))
-    (four-back _ _ _ _ (b .«timer_enable») (b .clock) (b .latches) (b .controller)
+    (four-back _ _ _ _ (b .«timer_enable») (b .clock) (b .latches) (b .controller) r
     (latches-back (b .latches) (w .latches .four)))
 
 -- an empty latch of a board holds 0

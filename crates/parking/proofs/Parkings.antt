@@ -4,6 +4,11 @@ use Prim.Native.Nat.{ℕ, _+_}
 use native.Mathlib.Nat.{zero-add}
 use mathlib.Core.Path.{_≡_, refl, sym, ap, _∙_, subst}
 use mathlib.Core.Bool.{true}
+use lib.Dec.{eqb}
+use borrow.Author.Tests.{eqb-true}
+use Rattle.wide.proofs.Choices.{either}
+use Rattle.clock.specs.Clock.{rateOf}
+use Rattle.clock.specs.Fields.{freshRate}
 use mathlib.Core.List.{List, [], _∷_}
 use Rattle.board.specs.declared.Board.{Board}
 use Rattle.board.specs.Loops.{All}
@@ -31,10 +36,14 @@ use Rattle.parking.specs.Demand.{
 use Rattle.parking.proofs.Words.{after-words}
 use Rattle.parking.proofs.RoundTrip.{read-back}
 
--- a sound board that is written and read back is the same board
+-- a sound board that is written and read back is the same board; one of a rate that is not parked comes back as it was
 pub parked-back : (b : Board) → sound b ≡ true → BoardWords b → parkedAndRead b ≡ b
 unfolding parkedAndRead writingOf
-parked-back b s w = rw s (ap (λ (r : Reading). r .board) (read-back b s w))
+parked-back b s w =
+    either (eqb (rateOf (b .clock)) freshRate)
+    (λ r. rw (s, r)
+    (ap (λ (x : Reading). x .board) (read-back b s (eqb-true (rateOf (b .clock)) freshRate r) w)))
+    (λ r. rw (s, r))
 
 -- the calls without the parkings
 abbrev unparked : List ParkingCall → List DemandCall

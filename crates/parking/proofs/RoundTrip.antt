@@ -8,7 +8,10 @@ use mathlib.Core.Bool.{Bool, true, cond}
 use mathlib.Core.List.{List, []}
 use lib.ListN.{length, getD}
 use borrow.Author.Tests.{eq-eqb}
-use Rattle.wide.proofs.Choices.{either, and-parts, and-join}
+use lib.Dec.{eqb}
+use Rattle.wide.proofs.Choices.{choose, either, and-parts, and-join}
+use Rattle.clock.specs.Clock.{rateOf}
+use Rattle.clock.specs.Fields.{freshRate}
 use Rattle.board.specs.declared.Board.{Board}
 use Rattle.board.specs.Fields.{freshBoard}
 use Rattle.board.specs.Board.{sound}
@@ -63,15 +66,22 @@ accepted-is l b f e i s =
     and-join (emptiesHold0 (getD (membersFrom l 0 layout) 5 [])) (sound (boardIn l)) e (ap sound i ∙ s) in
     rw (no-refusal l f said, i)
 
-pub read-back : (b : Board) → sound b ≡ true → BoardWords b → readingOf (imageOf b) ≡ record { board = b; refusal = 0 }
+pub read-back : (b : Board) → sound b ≡ true → rateOf (b .clock) ≡ freshRate → BoardWords b →
+    readingOf (imageOf b) ≡ record { board = b; refusal = 0 }
 unfolding imageOf
-read-back b s w =
+read-back b s r w =
     let fit = members-fit b w s in
     let said : membersFrom (imageOf b) 0 layout ≡ membersOf b = fields-back layout (membersOf b) fit [] in
     accepted-is (imageOf b) b (fields-formed layout (membersOf b) fit [])
     (ap (λ (mss : List (List ℕ)). emptiesHold0 (getD mss 5 [])) said ∙ board-empties b w)
-    (ap boardFrom said ∙ board-back b w)
+    (ap boardFrom said ∙ board-back b w r)
     s
+
+-- the board that is read is at the rate of a fresh one, accepted or not
+pub reading-rate : (l : List ℕ) → rateOf (readingOf l .board .clock) ≡ freshRate
+unfolding readingOf boardFrom
+reading-rate l =
+    choose (λ (b : Board). rateOf (b .clock) ≡ freshRate) (eqb (readingRefusal l) 0) (λ _. refl) (λ _. refl)
 
 -- ---- an accepted image
 

@@ -1,14 +1,29 @@
--- Rows that are computed from the rules: how long an image is, and two images, byte for byte. Assumes nothing.
+-- Rows that are computed from the rules: how long an image is, two images, byte for byte, and the refusals of boards by
+-- their rates. Assumes nothing.
 use Prim.Native.Nat.{ℕ, _+_, _*_, _^_}
 use mathlib.Core.Path.{_≡_, refl}
-use mathlib.Core.Bool.{true, false}
+use mathlib.Core.Bool.{Bool, true, false, _&&_}
 use mathlib.Core.List.{List, [], _∷_}
+use lib.Dec.{eqb}
 use Rattle.wide.specs.Fields.{be}
 use Rattle.format.specs.Format.{membersBytes, recordOf}
+use Rattle.channel.specs.Channel.{lineOf, soundTimer}
+use Rattle.clock.specs.Fields.{freshRate}
+use Rattle.clock.specs.Sound.{
+  soundRate,
+  soundOffset,
+  soundAlarm,
+  soundParts as clockParts,
+  alarmAhead,
+  soundClock,
+}
+use Rattle.board.specs.Loops.{foldFrom}
+use Rattle.board.specs.Board.{line, soundParts, sound}
 use Rattle.board.specs.declared.Latch.the-variants.{Empty, Held}
 use Rattle.board.specs.declared.Board.{Board}
-use Rattle.board.specs.Fields.{freshBoard}
+use Rattle.board.specs.Fields.{freshBoardAt, freshBoard}
 use Rattle.image.specs.Image.{imageLength, fieldBytes, fieldsBytes, imageOf}
+use Rattle.parking.specs.Parking.{writingRefusal}
 
 pub length-computed : imageLength ≡ 269
 length-computed = refl
@@ -99,6 +114,7 @@ markedBoard =
           ∷ [];
       «timer_enable» = 25;
       clock = record {
+        rate = freshRate;
         control = 26;
         seconds = 27;
         subsecond = 28;
@@ -155,3 +171,17 @@ markedImage =
 pub members-in-order : imageOf markedBoard ≡ markedImage
 unfolding imageOf fieldsBytes fieldBytes recordOf membersBytes be
 members-in-order = refl
+
+-- S-7: boards by their rates, with room for an image and one byte short: 1, then 15, then 11
+abbrev refused : ℕ → ℕ → ℕ → Bool
+refused rate long short =
+    eqb (writingRefusal (freshBoardAt rate) 269) long && eqb (writingRefusal (freshBoardAt rate) 268) short
+
+pub rates-parked :
+    (refused 48_000_000 0 11 && refused 12_000_000 15 15 && refused 1_000_000 15 15
+    && (refused 0 1 1 && refused 24_000_000 1 1 && refused 48_000_001 1 1))
+    ≡ true
+unfolding
+    sound soundParts line foldFrom lineOf soundTimer soundRate soundOffset soundAlarm clockParts alarmAhead
+    soundClock
+rates-parked = refl

@@ -1,4 +1,5 @@
 pub mod Kept
+pub mod Rate
 pub mod Calls
 pub mod Refusals
 pub mod Counts

@@ -14,18 +14,7 @@ use Rattle.clock.specs.declared.Clock.{Clock}
 use Rattle.clock.specs.Clock.{rateOf, checkAlarm}
 use Rattle.clock.specs.Registers.{mergeByte}
 use Rattle.clock.specs.Sound.{soundRate}
-use Rattle.clock.proofs.Rate.{
-  Rate,
-  three-rate,
-  SameRate,
-  at-rate,
-  check-rate,
-  control-rate,
-  seconds-rate,
-  alarm-rate,
-  enable-rate,
-  acknowledge-rate,
-}
+use Rattle.clock.proofs.Rate.{Rate, three-rate, at-rate, check-rate}
 use Rattle.clock.proofs.Soundness.{
   Sound,
   facts-sound as clock-sound,
@@ -66,19 +55,11 @@ use Rattle.offsets.specs.Registers.{
   channelOf,
   placeOf,
 }
-use Rattle.registers.specs.Reads.{
-  Read,
-  readLive,
-  countHeld,
-  readCountHigh,
-  readChannel,
-  secondsLatched,
-  readLow,
-  readHigh,
-  readAt,
-}
+use Rattle.registers.specs.Reads.{checked, readAt}
 use Rattle.offsets.specs.Writes.{clearedBy, timerWritten, clockWritten, writtenAt}
 use Rattle.registers.specs.Calls.{readCall, writeCall}
+use Rattle.registers.proofs.Cases.{read-cases}
+use Rattle.registers.proofs.Rate.{written-rate}
 use Rattle.registers.proofs.Channels.{
   GoodTimer,
   set-all,
@@ -141,51 +122,9 @@ check-kept k s =
     at-rate SoundAt k (checkAlarm (rateOf k) k) (check-rate (rateOf k) k)
     (s .0, check-sound (rateOf k) k (s .1 .parts))
 
-abbrev Kept : Read → Type 0
-Kept r = Unwired (r .board)
-
-module _ (offset : ℕ) where
-  live-unwired : (b : Board) → Unwired b → Kept (readLive offset b)
-  unfolding readLive
-  live-unwired b p =
-      record { four = p .four; timers = p .timers; enable = p .enable; clock = check-kept (b .clock) (p .clock) }
-
-  -- by a latch, whatever it holds after, or live
-  latch-unwired : (b : Board) (v : Bool) (ls : Latches) (byte : ℕ) → Unwired b →
-      Kept (cond v (record { board = withLatches ls b; byte = byte }) (readLive offset b))
-  latch-unwired b v ls byte p =
-      choose Kept v (λ _. latches-unwired b ls p) (λ _. live-unwired b p)
-
-  count-high-unwired : (b : Board) → Unwired b → Kept (readCountHigh offset b)
-  unfolding readCountHigh
-  count-high-unwired b p = latch-unwired b (heldOf (countLatch (channelOf offset) b)) _ _ p
-
-  channel-unwired : (b : Board) → Unwired b → Kept (readChannel offset b)
-  unfolding readChannel
-  channel-unwired b p =
-      choose Kept (eqb (placeOf offset) countLowAt)
-      (λ _. live-unwired (countHeld (channelOf offset) b) (latches-unwired b _ p))
-      (λ _. choose Kept (within 0x0C 0x0F (placeOf offset)) (λ _. count-high-unwired b p) (λ _. live-unwired b p))
-
-  latched-unwired : (b : Board) → Unwired b → Unwired (secondsLatched offset b)
-  unfolding secondsLatched
-  latched-unwired b p = choose Unwired (eqb offset secondsLowAt) (λ _. latches-unwired b _ p) (λ _. p)
-
-  low-unwired : (b : Board) → Unwired b → Kept (readLow offset b)
-  unfolding readLow
-  low-unwired b p = latch-unwired b (heldOf (b .latches .low)) _ _ p
-
-  high-unwired : (b : Board) → Unwired b → Kept (readHigh offset b)
-  unfolding readHigh
-  high-unwired b p = latch-unwired b (heldOf (b .latches .high)) _ _ p
-
-  read-at-unwired : (b : Board) → Unwired b → Kept (readAt offset b)
-  unfolding readAt
-  read-at-unwired b p =
-      choose Kept (within 0x208 0x20B offset) (λ _. low-unwired (secondsLatched offset b) (latched-unwired b p))
-      (λ _. choose Kept (within 0x20C 0x20F offset) (λ _. high-unwired b p)
-      (λ _. choose Kept (inChannels offset) (λ _. channel-unwired b p)
-      (λ _. live-unwired b p)))
+checked-unwired : (b : Board) → Unwired b → Unwired (checked b)
+checked-unwired b p =
+    record { four = p .four; timers = p .timers; enable = p .enable; clock = check-kept (b .clock) (p .clock) }
 
 -- ---- a write
 
@@ -213,25 +152,10 @@ module _ (i v : ℕ) (four : i < 4) (byte : v < 256) (k : Clock) (s : SoundAt (r
       (λ _. choose S (eqb register clockAckAt) (λ _. acknowledge-sound (rateOf k) i v k (s .1))
       (λ _. s .1)))))))
 
-  -- and a byte leaves the rate
-  abbrev Q : Clock → Type 0
-  Q = SameRate k
-
-  written-rate : (register : ℕ) → Q (clockWritten register i v k)
-  unfolding clockWritten
-  written-rate register =
-      choose Q (eqb register clockControlAt) (λ _. control-rate (rateOf k) k (r .positive) i v)
-      (λ _. choose Q (eqb register secondsLowAt) (λ _. seconds-rate (rateOf k) k (i + 4) v)
-      (λ _. choose Q (eqb register secondsHighAt) (λ _. seconds-rate (rateOf k) k i v)
-      (λ _. choose Q (eqb register alarmLowAt) (λ _. alarm-rate (rateOf k) k (i + 4) v)
-      (λ _. choose Q (eqb register alarmHighAt) (λ _. alarm-rate (rateOf k) k i v)
-      (λ _. choose Q (eqb register alarmEnableAt) (λ _. enable-rate i v k)
-      (λ _. choose Q (eqb register clockAckAt) (λ _. acknowledge-rate i v k)
-      (λ _. record { same = refl })))))))
-
   clock-written-sound : (register : ℕ) → SoundAt (rateOf (clockWritten register i v k)) (clockWritten register i v k)
   clock-written-sound register =
-      at-rate SoundAt k (clockWritten register i v k) (written-rate register) (s .0, written-sound register)
+      at-rate SoundAt k (clockWritten register i v k) (written-rate register i v k (r .positive))
+      (s .0, written-sound register)
 
 module _ (v : ℕ) (byte : v < 256) (b : Board) (p : Unwired b) where
   timer-unwired : (register i : ℕ) → Unwired (timerWritten register i v b)
@@ -285,7 +209,8 @@ module _ (v : ℕ) (byte : v < 256) (b : Board) (p : Unwired b) where
 
 pub read-keeps : (address : ℕ) → Keeps (readCall address)
 read-keeps address b g z =
-    unwired-good (readAt (address + base) b .board) (read-at-unwired (address + base) b (good-unwired b g))
+    unwired-good (readAt (address + base) b .board)
+    (read-cases Unwired latches-unwired checked-unwired (address + base) b (good-unwired b g))
 
 pub write-keeps : (address v : ℕ) → v < 256 → Keeps (writeCall address v)
 write-keeps address v byte b g z =

@@ -1,6 +1,8 @@
 pub mod Timing
 pub mod Latches
 mod Channels
+mod Cases
+pub mod Rate
 pub mod Kept
 pub mod CodeReads
 mod Settings

@@ -7,6 +7,8 @@ use mathlib.Core.List.{List, [], append-nil}
 use lib.ListN.{length, getD, drop, drop-of-length-le}
 use lib.Dec.{eqb}
 use borrow.Author.Tests.{eq-eqb, ne-eqb, le-ltb}
+use Rattle.clock.specs.Clock.{rateOf}
+use Rattle.clock.specs.Fields.{freshRate}
 use Rattle.board.specs.declared.Board.{Board}
 use Rattle.board.specs.Board.{sound}
 use Rattle.board.proofs.Soundness.{facts-sound}
@@ -14,9 +16,10 @@ use Rattle.board.proofs.Steps.{good}
 use Rattle.parking.specs.declared.Reading.{Reading}
 use Rattle.image.specs.Image.{imageLength, imageOf}
 use Rattle.parking.specs.Parking.{bufferAfter, readingRefusal, readingOf}
-use Rattle.parking.proofs.RoundTrip.{refusal-is, accepted-sound, accepted-words, accepted-long}
+use Rattle.parking.proofs.RoundTrip.{refusal-is, reading-rate, accepted-sound, accepted-words, accepted-long}
 use Rattle.list.specs.declared.Outcome.{Outcome}
 use Rattle.list.specs.Run.{runOf, over}
+use Rattle.list.proofs.Rate.{run-rate}
 use Rattle.resume.specs.declared.Resumed.{Resumed}
 use Rattle.resume.specs.Resumed.{runParked, resumedOf, imageAfter, answersAfter}
 use Rattle.resume.proofs.RunWords.{run-sound}
@@ -40,12 +43,13 @@ module _ (image l a : List ℕ) (r : Reading) (e : r ≡ readingOf image) (n : r
 -- ---- an image that is read
 
 -- the board that the run left is written over the whole image
-written-over : (b : Board) (image : List ℕ) → sound b ≡ true → length image ≡ imageLength →
-    bufferAfter b image ≡ imageOf b
+written-over : (b : Board) (image : List ℕ) → sound b ≡ true → rateOf (b .clock) ≡ freshRate →
+    length image ≡ imageLength → bufferAfter b image ≡ imageOf b
 unfolding bufferAfter
-written-over b image s n =
+written-over b image s r n =
     let none : drop imageLength image ≡ [] = drop-of-length-le image {i = imageLength} (omega (arith, n)) in
-    rw (s, le-ltb (length image) imageLength (omega (arith, n)), none) (append-nil (imageOf b))
+    rw (s, eq-eqb (rateOf (b .clock)) freshRate r, le-ltb (length image) imageLength (omega (arith, n)), none)
+    (append-nil (imageOf b))
 
 module _ (image l a : List ℕ) (bytes : (i : ℕ) → getD image i 0 < 256) (list-bytes : (i : ℕ) → getD l i 0 < 256)
     (r : Reading) (e : r ≡ readingOf image) (z : r .refusal ≡ 0) where
@@ -63,6 +67,12 @@ module _ (image l a : List ℕ) (bytes : (i : ℕ) → getD image i 0 < 256) (li
       (good (readingOf image .board) (accepted-words image bytes accepted .fits) (accepted-sound image accepted))
       list-bytes .facts)
 
+  -- and at the rate of the image's
+  left-rate : rateOf (runParked image l (length a) .outcome .board .clock) ≡ freshRate
+  left-rate =
+      run-rate (readingOf image .board) l (length a) (accepted-words image bytes accepted .fits) list-bytes .same
+      ∙ reading-rate image
+
   module _ (o : Outcome) (x w : List ℕ)
       (ran : o ≡ runOf (r .board) l (length a) .outcome)
       (answered : x ≡ over (runOf (r .board) l (length a) .answers) a)
@@ -77,7 +87,8 @@ module _ (image l a : List ℕ) (bytes : (i : ℕ) → getD image i 0 < 256) (li
     same-image =
         written
         ∙ ap (λ (y : Outcome). bufferAfter (y .board) image) same-outcome
-        ∙ written-over (runParked image l (length a) .outcome .board) image left-sound (accepted-long image accepted)
+        ∙ written-over (runParked image l (length a) .outcome .board) image left-sound left-rate
+        (accepted-long image accepted)
 
     pub resumed-read :
         (record { refusal = o .refusal; calls = o .calls; used = o .used; written = o .written }

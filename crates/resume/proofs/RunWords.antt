@@ -132,7 +132,7 @@ use Rattle.perform.proofs.Kept.{call-keeps}
 use Rattle.list.specs.declared.Outcome.{Outcome}
 use Rattle.list.specs.Run.{Turn, done, refused, turnOf, stepped, runOn, nothingDone, runOf}
 use Rattle.list.proofs.Turns.{step-good}
-use Rattle.list.proofs.TwoParts.{run-good}
+use Rattle.list.proofs.TwoParts.{run-invariant, run-good}
 use Rattle.image.specs.Words.{
   TimerWords,
   ClockWords,
@@ -573,27 +573,12 @@ record GoodWords (b : Board) : Type 0 where
   good : Good b
   words : BoardWords b
 
-run-on-words : (k : ℕ) (l : List ℕ) (room : ℕ) (s : Outcome) (out : List ℕ) → ((i : ℕ) → getD l i 0 < 256) →
-    GoodWords (s .board) → GoodWords (runOn k l room s out .outcome .board)
-unfolding runOn
-run-on-words zero [] room s out h g = g
-run-on-words (suc k) [] room s out h g = g
-run-on-words (suc k) (x ∷ l) room s out h g = run-on-words k l room s out (λ i. h (suc i)) g
-run-on-words zero (x ∷ l) room s out h g =
-    onward (λ k o a. run-on-words k l room o a (λ i. h (suc i))) (turnOf (s .board) (x ∷ l) (room - length out)) refl
-  where
-    next : GoodWords (stepped s (turnOf (s .board) (x ∷ l) (room - length out)) .board)
-    next = record {
-      good = step-good (x ∷ l) h s (g .good) (room - length out);
-      words = step-words (x ∷ l) h s (g .good) (g .words) (room - length out);
-    }
-
-    onward :
-        ((k : ℕ) (o : Outcome) (a : List ℕ) → GoodWords (o .board) → GoodWords (runOn k l room o a .outcome .board)) →
-        (t : Turn) → turnOf (s .board) (x ∷ l) (room - length out) ≡ t →
-        GoodWords (runOn 0 (x ∷ l) room s out .outcome .board)
-    onward on (refused n) e = rw (e, runOn) (rw e at next)
-    onward on (done b n a) e = rw (e, runOn) (on (n - 1) (stepped s (done b n a)) (out ++ a) (rw e at next))
+step-good-words : (l : List ℕ) → ((i : ℕ) → getD l i 0 < 256) → (s : Outcome) → GoodWords (s .board) → (room : ℕ) →
+    GoodWords (stepped s (turnOf (s .board) l room) .board)
+step-good-words l bytes s g room = record {
+  good = step-good l bytes s (g .good) room;
+  words = step-words l bytes s (g .good) (g .words) room;
+}
 
 -- the whole run: its board is sound, so it is not refused for that
 module _ (b : Board) (l : List ℕ) (room : ℕ) (g : Good b) where
@@ -608,4 +593,5 @@ module _ (b : Board) (l : List ℕ) (room : ℕ) (g : Good b) where
   pub run-words : BoardWords b → ((i : ℕ) → getD l i 0 < 256) → BoardWords (runOf b l room .outcome .board)
   run-words w bytes =
       run-board BoardWords
-      (run-on-words 0 l room (nothingDone b 0) [] bytes (record { good = g; words = w }) .words)
+      (run-invariant GoodWords step-good-words 0 l room (nothingDone b 0) [] bytes
+      (record { good = g; words = w }) .words)

@@ -7,6 +7,8 @@ use mathlib.Core.List.{List, _++_}
 use lib.ListN.{length, getD}
 use borrow.Author.Tests.{eq-eqb}
 use Rattle.wide.proofs.Choices.{either}
+use Rattle.clock.specs.Clock.{rateOf}
+use Rattle.clock.specs.Fields.{freshRate}
 use Rattle.board.specs.declared.Board.{Board}
 use Rattle.board.specs.Fields.{freshBoard}
 use Rattle.board.specs.Board.{sound}
@@ -17,11 +19,12 @@ use Rattle.image.specs.Image.{imageOf}
 use Rattle.parking.specs.Parking.{readingRefusal, readingOf}
 use Rattle.image.specs.Words.{BoardWords}
 use Rattle.parking.specs.Demand.{parkedAndRead}
-use Rattle.parking.proofs.RoundTrip.{read-back, accepted-words}
+use Rattle.parking.proofs.RoundTrip.{read-back, reading-rate, accepted-words}
 use Rattle.parking.proofs.Words.{fresh-words}
 use Rattle.parking.proofs.Parkings.{parked-back}
 use Rattle.list.specs.Run.{Run, runOf}
 use Rattle.list.proofs.TwoParts.{joined, run-keeps, two-parts}
+use Rattle.list.proofs.Rate.{run-rate}
 use Rattle.resume.specs.Resumed.{runParked, imageAfter}
 use Rattle.resume.proofs.RunWords.{run-words}
 
@@ -52,9 +55,11 @@ module _ (b : Board) (w : BoardWords b) (l m : List ℕ) (room : ℕ) (bytes : (
       ∙ ap (λ (c : Board). joined First (runOf c m (room - length (First .answers))))
       (sym (parked-back (First .outcome .board) left-sound left-words))
 
-  -- what the image of its board says is its board
-  pub left-back : readingOf (imageOf (First .outcome .board)) ≡ record { board = First .outcome .board; refusal = 0 }
-  left-back = read-back (First .outcome .board) left-sound left-words
+  -- what the image of its board says is its board, where that can be parked
+  pub left-back : rateOf (b .clock) ≡ freshRate →
+      readingOf (imageOf (First .outcome .board)) ≡ record { board = First .outcome .board; refusal = 0 }
+  left-back r =
+      read-back (First .outcome .board) left-sound (run-rate b l room (w .fits) bytes .same ∙ r) left-words
 
 -- from a fresh board, for every list
 pub fresh-in-parts : (l m : List ℕ) (room : ℕ) → ((i : ℕ) → getD l i 0 < 256) →
@@ -85,7 +90,8 @@ module _ (image l m : List ℕ) (room : ℕ) (image-bytes : (i : ℕ) → getD i
   -- the image between the parts is read as the board that the first leaves
   between : readingOf (imageAfter image l room) ≡ record { board = Left; refusal = 0 }
   between =
-      ap readingOf (image-left image l room read) ∙ left-back (readingOf image .board) words l m room bytes z
+      ap readingOf (image-left image l room read)
+      ∙ left-back (readingOf image .board) words l m room bytes z (reading-rate image)
 
   between-read : readingRefusal (imageAfter image l room) ≡ 0
   unfolding readingOf
