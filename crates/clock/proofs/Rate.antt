@@ -87,7 +87,7 @@ module _ (rate : ℕ) (e : soundRate rate ≡ true) where
   pub period : (p : ℕ) → 0 < p → p ≤ 1_000 → (1 < rate / p) × (rate / p ≤ 2 ^ 32)
   period p h l = (
     le-div-iff-mul-le {k = p} {x = 2} {y = rate} h .1 (omega (arith, rate-least)),
-    omega (arith, div-le-self rate p, rate-fits)
+    omega (arith, div-le-self rate p, rate-fits),
   )
 
 -- so many periods go into a second

@@ -1,13 +1,17 @@
 -- Runs one after another: what a run gives is the rule's, and the loop over runs keeps it.
-use mathlib.Core.Path.{_≡_, refl, ap, _∙_}
+use mathlib.Core.Path.{_≡_, refl, ap, _∙_, subst}
 use mathlib.Core.List.{List}
 use Prim.Native.Nat.{ℕ, suc, _+_, _≤_, _<_}
 use native.Mathlib.Omega.{arith}
 use lib.ListN.{length}
+use borrow.Author.Tests.{eq-eqb, ne-eqb}
 use Rattle.board.specs.declared.Board.{Board}
 use Rattle.list.specs.declared.Outcome.{Outcome}
 use Rattle.list.specs.Run.{runOf, over}
-use Rattle.pec.specs.Repeats.{Held, ran, repeats}
+use Rattle.board.specs.declared.calls.EmptyAnswer.{EmptyAnswer}
+use Rattle.board.specs.Calls.{freshOf}
+use Rattle.list.specs.Run.{nothingDone}
+use Rattle.pec.specs.Repeats.{Held, startedOn, ran, repeats, ranAt, repeatsAt}
 
 -- an outcome and a buffer together
 abbrev pub held : Outcome → List ℕ → Held
@@ -68,3 +72,34 @@ results h r a (e, f) = (
   ap (λ o. o .refusal) e,
   (f, (ap (λ o. o .calls) e, (ap (λ o. o .used) e, ap (λ o. o .written) e))),
 )
+
+-- from a board that is another's equal
+pub started-same :
+    (first l : List ℕ) (times : ℕ) (buffer : List ℕ) (b c : Board) (r : Outcome) (x : List ℕ) → b ≡ c →
+    (r ≡ repeats times l (ran first (startedOn b buffer)) .outcome)
+    × (x ≡ repeats times l (ran first (startedOn b buffer)) .buffer) →
+    (r ≡ repeats times l (ran first (startedOn c buffer)) .outcome)
+    × (x ≡ repeats times l (ran first (startedOn c buffer)) .buffer)
+started-same first l times buffer b c r x e h =
+    subst
+    (λ (d : Board).
+    (r ≡ repeats times l (ran first (startedOn d buffer)) .outcome)
+    × (x ≡ repeats times l (ran first (startedOn d buffer)) .buffer))
+    e h
+
+-- ---- over a fresh board of a rate
+
+module _ (rate : ℕ) (first l : List ℕ) (times : ℕ) (buffer : List ℕ) (a : EmptyAnswer) (made : a ≡ freshOf rate) where
+  -- refused: nothing is run
+  pub at-refused : (a .refusal ≡ 0 → ⊥) →
+      (nothingDone (a .board) (a .refusal) ≡ repeatsAt rate first l times buffer .outcome)
+      × (buffer ≡ repeatsAt rate first l times buffer .buffer)
+  unfolding repeatsAt
+  at-refused n = rw (← made, ne-eqb (a .refusal) 0 n) (refl, refl)
+
+  pub at-run : a .refusal ≡ 0 → (r : Outcome) (x : List ℕ) →
+      (r ≡ repeats times l (ran first (startedOn (a .board) buffer)) .outcome)
+      × (x ≡ repeats times l (ran first (startedOn (a .board) buffer)) .buffer) →
+      (r ≡ repeatsAt rate first l times buffer .outcome) × (x ≡ repeatsAt rate first l times buffer .buffer)
+  unfolding repeatsAt
+  at-run z r x h = rw (← made, eq-eqb (a .refusal) 0 z) h

@@ -1,8 +1,8 @@
 -- Runs one after another over one board and one answer buffer, as the C interface makes them.
 use Prim.Native.Nat.{ℕ, zero, suc}
+use mathlib.Core.Bool.{cond}
 use mathlib.Core.List.{List}
 use lib.ListN.{length}
-use mathlib.Core.Bool.{cond}
 use lib.Dec.{eqb}
 use Rattle.board.specs.declared.Board.{Board}
 use Rattle.board.specs.Fields.{freshBoard}

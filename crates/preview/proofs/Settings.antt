@@ -19,7 +19,7 @@ use Rattle.channel.specs.Channel.{
 }
 use Rattle.channel.specs.Prescaler.{advanced}
 use Rattle.channel.specs.Modes.{oneShot, distance, freeRunning, tickedIn, ticked}
-use Rattle.clock.specs.Fields.{freshClock, withControl, withAlarm}
+use Rattle.clock.specs.Fields.{freshClockAt, freshClock, withControl, withAlarm}
 use Rattle.clock.specs.Clock.{
   shifted,
   ownNanoseconds,
@@ -31,7 +31,7 @@ use Rattle.clock.specs.Clock.{
   endAdvance,
   advanceClock,
 }
-use Rattle.clock.specs.Sound.{soundOffset, soundAlarm, soundParts as clockParts, alarmAhead, soundClock}
+use Rattle.clock.specs.Sound.{soundRate, soundOffset, soundAlarm, soundParts as clockParts, alarmAhead, soundClock}
 use Rattle.controller.specs.Bits.{withBit}
 use Rattle.controller.specs.Controller.{sourceSet}
 use Rattle.board.specs.declared.Board.{Board}
@@ -58,10 +58,11 @@ settingA = running (withCompare 10 (withPrescaler 2 (inMode 0)))
 abbrev away : ℕ → Board
 away compare = running (withCompare compare (withFlags false true (inMode 2)))
 
--- setting F: D is 96,000,000
-abbrev settingF : Board
-settingF =
-    withClock (withAlarm (record { enable = 1; seconds = 2; pending = false; armed = true }) freshClock) freshBoard
+-- setting F of a rate: D is 96,000,000 at document 01's
+abbrev settingF : ℕ → Board
+settingF rate =
+    withClock (withAlarm (record { enable = 1; seconds = 2; pending = false; armed = true }) (freshClockAt rate))
+    freshBoard
 
 -- the clock's control: 5 is enabled and in realtime, 4 in realtime alone
 abbrev controlled : ℕ → Board → Board
@@ -81,7 +82,9 @@ shown b totals room =
 pub rows :
     -- at D and about it, in any order and with repeats; the bytes behind the totals' stay
     (shown settingA (30 ∷ 29 ∷ 0 ∷ 31 ∷ (2 ^ 64 - 1) ∷ 29 ∷ 30 ∷ []) 9 ≡ 0 ∷ 1 ∷ 0 ∷ 0 ∷ 1 ∷ 1 ∷ 0 ∷ 1 ∷ 7 ∷ 7 ∷ [])
-    × (shown settingF (96_000_000 ∷ 95_999_999 ∷ []) 2 ≡ 0 ∷ 1 ∷ 0 ∷ [])
+    × (shown (settingF 48_000_000) (96_000_000 ∷ 95_999_999 ∷ []) 2 ≡ 0 ∷ 1 ∷ 0 ∷ [])
+    × (shown (settingF 12_000_000) (24_000_000 ∷ 23_999_999 ∷ []) 2 ≡ 0 ∷ 1 ∷ 0 ∷ [])
+    × (shown (settingF 1_000_000) (2_000_000 ∷ 1_999_999 ∷ []) 2 ≡ 0 ∷ 1 ∷ 0 ∷ [])
     -- a D of 2^64 − 1 is the largest that a total reaches
     × (shown (away (2 ^ 64 - 1)) ((2 ^ 64 - 1) ∷ (2 ^ 64 - 2) ∷ []) 2 ≡ 0 ∷ 1 ∷ 0 ∷ [])
     × (shown (away 0) ((2 ^ 64 - 1) ∷ 0 ∷ []) 2 ≡ 0 ∷ 0 ∷ 0 ∷ [])
@@ -100,7 +103,7 @@ pub rows :
     × (shown (controlled 4 settingA) (30 ∷ 29 ∷ []) 2 ≡ 0 ∷ 1 ∷ 0 ∷ [])
 unfolding
     enabledOf irqEnabledOf disabled soundTimer lineOf advanced oneShot distance freeRunning tickedIn ticked shifted
-    ownNanoseconds timeOf timeSeconds alarmReached checkAlarm movedTime endAdvance advanceClock soundOffset soundAlarm
+    ownNanoseconds timeOf timeSeconds alarmReached checkAlarm movedTime endAdvance advanceClock soundRate soundOffset soundAlarm
     clockParts alarmAhead soundClock withBit sourceSet mapFrom foldFrom line wired soundParts sound movedBoard
     advancedBoard previewRefusal previewOf previewedBuffer
-rows = (refl, refl, refl, refl, refl, refl, refl, refl, refl, refl, refl, refl, refl, refl)
+rows = (refl, refl, refl, refl, refl, refl, refl, refl, refl, refl, refl, refl, refl, refl, refl, refl)

@@ -3,7 +3,7 @@ use mathlib.Core.Path.{refl, _∙_}
 use native.Mathlib.Omega.{arith}
 use Prim.Native.Nat.{_-_}
 use borrow.Author.Needs.{needs}
-use Rattle.pec.specs.Repeats.{started}
+use Rattle.pec.specs.Repeats.{startedOn}
 use Rattle.pec.proofs.Runs.{held, Repeating, ran-of, begun, more, ended}
 use Rattle.pec.proofs.repeated.Statement.{statement}
 use Rattle.pec.proofs.repeated.Tie as tie
@@ -13,9 +13,6 @@ Inv-loop first list times answers₀ r₀ k₀ answers r k = Repeating list time
 
 abbrev μ-loop : tie.MeasureT-loop
 μ-loop first list times answers₀ r₀ k₀ answers r k = times - k
-
-fresh-requires : tie.Need-fresh-requires Inv-loop μ-loop
-fresh-requires c κs = search needs
 
 run-requires : tie.Need-run-requires Inv-loop μ-loop
 run-requires c κs = search needs
@@ -31,9 +28,7 @@ add-k c =
     omega (
       arith,
       c .before .before .before .before .before .loop-test .taken,
-      c .before .before .before .before .before .before .before .before .before .before .before .before .before .before
-          .before
-          .good,
+      c .before .before .before .before .before .before .before .before .before .before .before .before .before .before .good,
     )
 
 loop-less : tie.Need-loop-less Inv-loop μ-loop
@@ -52,11 +47,10 @@ same-length c = c .before .loop .inv .same ∙ c .before .before .before .before
 
 returns : tie.Need-returns Inv-loop μ-loop
 returns c =
-    let a = c .before .before .before .before .before .before .before .before .before .before .args in
+    let a = c .before .before .before .before .before .before .before .before .before .args in
     let r = c .before .before .before .before .run .ensures in
     ended _ _ _ _ _ _ _ (c .before .loop .inv) (c .loop-test .left) _
-    (ran-of _ (started (a .answers .now)) _ _ _ (c .before .before .before .before .before .before .fresh .ensures)
-    (r .0) (r .1))
+    (ran-of _ (startedOn (a .board) (a .answers .now)) _ _ _ refl (r .0) (r .1))
 
 pub repeated-spec : {M : Type 1} → statement M
 repeated-spec =
@@ -64,7 +58,6 @@ repeated-spec =
     (tie.spec
     Inv-loop
     μ-loop
-    fresh-requires
     run-requires
     loop-holds
     run-requires-2
