@@ -1,9 +1,8 @@
 -- A rate: what proofs use of it, that the rates of a sound board are such, and that no rule changes a clock's. Proofs
 -- take what they need of the rate from here, and not from its value. Assumes nothing.
-use Prim.Native.Nat.{ℕ, _+_, _*_, _/_, _%_, _^_, _≤_, _<_}
+use Prim.Native.Nat.{ℕ, _+_, _*_, _%_, _^_, _≤_, _<_}
 use mathlib.Core.Path.{_≡_, refl, _∙_, subst⁻¹}
 use mathlib.Core.Bool.{true, _&&_}
-use native.Mathlib.Nat.{le-div-iff-mul-le, div-le-self}
 use native.Mathlib.Omega.{arith}
 use lib.Dec.{leb, eqb}
 use borrow.Author.Tests.{eqb-true}
@@ -22,6 +21,7 @@ use Rattle.clock.specs.Clock.{
   advanceClock,
 }
 use Rattle.clock.specs.Sound.{soundRate}
+use Rattle.clock.specs.CodeTime.{isPeriod}
 use Rattle.clock.specs.Fields.{
   freshRate,
   withControl,
@@ -80,30 +80,46 @@ module _ (rate : ℕ) (e : soundRate rate ≡ true) where
   pub rate-fits : rate ≤ 2 ^ 32
   rate-fits = of-three (λ n. n ≤ 2 ^ 32) rate e (omega arith) (omega arith) (omega arith)
 
-  rate-least : 1_000_000 ≤ rate
-  rate-least = of-three (λ n. 1_000_000 ≤ n) rate e (omega arith) (omega arith) (omega arith)
+  -- a second and the time between two polls are periods that the code divides by
+  pub second-period : isPeriod rate ≡ true
+  unfolding isPeriod
+  second-period = rw e
 
-  -- a period, of which a second has p
-  pub period : (p : ℕ) → 0 < p → p ≤ 1_000 → (1 < rate / p) × (rate / p ≤ 2 ^ 32)
-  period p h l = (
-    le-div-iff-mul-le {k = p} {x = 2} {y = rate} h .1 (omega (arith, rate-least)),
-    omega (arith, div-le-self rate p, rate-fits),
-  )
+  pub limit-period : isPeriod (pollLimit rate) ≡ true
+  unfolding isPeriod soundRate
+  limit-period = of-three (λ n. isPeriod (pollLimit n) ≡ true) rate e refl refl refl
 
--- so many periods go into a second
-pub periods-above : (n p : ℕ) → 0 < p → p ≤ n → 0 < n / p
-periods-above n p h l = le-div-iff-mul-le {k = p} {x = 1} {y = n} h .1 (omega arith)
+-- ---- the periods that the code divides by
 
--- one that is neither of the first two is the last
-pub last-rate : (rate : ℕ) → soundRate rate ≡ true → (rate ≡ 1_000_000 → ⊥) → (rate ≡ 12_000_000 → ⊥) →
-    rate ≡ freshRate
-last-rate rate e =
-    of-three (λ n. (n ≡ 1_000_000 → ⊥) → (n ≡ 12_000_000 → ⊥) → n ≡ freshRate) rate e (λ p _. absurd (p refl))
-    (λ _ q. absurd (q refl)) (λ _ _. refl)
+pub of-six : (P : ℕ → Type 0) (p : ℕ) → isPeriod p ≡ true →
+    P 48_000_000 → P 12_000_000 → P 1_000_000 → P 48_000 → P 12_000 → P 1_000 → P p
+unfolding isPeriod
+of-six P p e a b c d f g =
+    either (soundRate p) (λ s. of-three P p s c b a)
+    (λ n. of-three (λ m. p * 1_000 ≡ m → P p) (p * 1_000) (rw n at e) (λ h. at 1_000 g (omega arith))
+    (λ h. at 12_000 f (omega arith)) (λ h. at 48_000 d (omega arith)) refl)
+  where
+    at : (q : ℕ) → P q → p ≡ q → P p
+    at q h i = subst⁻¹ P i h
 
--- a second is one period
-pub second : (rate : ℕ) → rate / 1 ≡ rate
-second rate = omega arith
+module _ (p : ℕ) (e : isPeriod p ≡ true) where
+  pub period-above : 1 < p
+  period-above =
+      of-six (λ n. 1 < n) p e (omega arith) (omega arith) (omega arith) (omega arith) (omega arith) (omega arith)
+
+  pub period-fits : p ≤ 2 ^ 32
+  period-fits =
+      of-six (λ n. n ≤ 2 ^ 32) p e (omega arith) (omega arith) (omega arith) (omega arith) (omega arith) (omega arith)
+
+  -- one that is none of the first five is the last
+  pub last-period : (p ≡ 48_000_000 → ⊥) → (p ≡ 12_000_000 → ⊥) → (p ≡ 1_000_000 → ⊥) → (p ≡ 48_000 → ⊥) →
+      (p ≡ 12_000 → ⊥) → p ≡ 1_000
+  last-period =
+      of-six
+      (λ n. (n ≡ 48_000_000 → ⊥) → (n ≡ 12_000_000 → ⊥) → (n ≡ 1_000_000 → ⊥) → (n ≡ 48_000 → ⊥) →
+      (n ≡ 12_000 → ⊥) → n ≡ 1_000)
+      p e (λ h _ _ _ _. absurd (h refl)) (λ _ h _ _ _. absurd (h refl)) (λ _ _ h _ _. absurd (h refl))
+      (λ _ _ _ h _. absurd (h refl)) (λ _ _ _ _ h. absurd (h refl)) (λ _ _ _ _ _. refl)
 
 -- ---- no rule changes the rate
 

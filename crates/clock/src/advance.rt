@@ -1,10 +1,11 @@
 // The alarm check, and an advance of the clock.
 ghost use mathlib.Core.Path.{_≡_};
 ghost use mathlib.Core.Bool.{true};
-ghost use Prim.Native.Nat.{_+_, _/_, _%_, _<_, _≤_};
+ghost use Prim.Native.Nat.{_+_, _/_, _%_};
 ghost use Rattle.clock.specs.Clock.{rateOf, alarmReached, checkAlarm, movedTime};
 ghost use Rattle.clock.specs.Clock.{polled, endAdvance, advanceClock};
-ghost use Rattle.clock.specs.Sound.{soundRate, Timed};
+ghost use Rattle.clock.specs.Sound.{Timed};
+ghost use Rattle.clock.specs.CodeTime.{isPeriod};
 use crate::Alarm;
 use crate::Clock;
 use crate::from_host;
@@ -15,15 +16,12 @@ use crate::rates::divided;
 use channel::Cycles;
 use wide::flags::both;
 
-// Cycles that follow `part` of a period, of which a second of the rate has so many. The sum of the two may pass a word,
-// so it is not formed.
-fn elapsed(part: u32, cycles: Cycles, rate: u32, per_second: u64) -> Periods
-    requires { ⌜ (soundRate rate ≡ true) × ((0 < «per_second») × («per_second» ≤ 1_000)) ⌝ }
-    ensures { λ r. ⌜ (r .whole ≡ (part + cycles .0) / (rate / «per_second»))
-        × (r .rest ≡ (part + cycles .0) % (rate / «per_second»)) ⌝ }
+// Cycles that follow `part` of a period. The sum of the two may pass a word, so it is not formed.
+fn elapsed(part: u32, cycles: Cycles, period: u64) -> Periods
+    requires { ⌜ isPeriod period ≡ true ⌝ }
+    ensures { λ r. ⌜ (r .whole ≡ (part + cycles .0) / period) × (r .rest ≡ (part + cycles .0) % period) ⌝ }
 {
     let c = cycles.0;
-    let period = rate as u64 / per_second;
     // Cycles that stay within the period need no division.
     if c < period {
         let sum = part as u64 + c;
@@ -34,8 +32,8 @@ fn elapsed(part: u32, cycles: Cycles, rate: u32, per_second: u64) -> Periods
             };
         }
     }
-    let a = divided(c, rate, per_second);
-    let b = divided(part as u64 + a.rest, rate, per_second);
+    let a = divided(c, period);
+    let b = divided(part as u64 + a.rest, period);
     Periods {
         whole: a.whole + b.whole,
         rest: b.rest,
@@ -81,7 +79,7 @@ impl Clock {
     {
         let seconds = self.seconds;
         if both(own_time(self.control), 0 < cycles.0) {
-            let e = elapsed(self.subsecond, cycles, self.rate, 1);
+            let e = elapsed(self.subsecond, cycles, self.rate());
             let whole = e.whole;
             let rest = e.rest;
             if u64::MAX - seconds < whole {
@@ -97,7 +95,7 @@ impl Clock {
         requires { ⌜ Timed (rateOf self) self ⌝ }
         ensures { λ r. ⌜ r ≡ polled (rateOf self) (self .poll + cycles .0) self ⌝ }
     {
-        let e = elapsed(self.poll, cycles, self.rate, Self::POLLS_PER_SECOND);
+        let e = elapsed(self.poll, cycles, self.poll_limit());
         let whole = e.whole;
         let rest = e.rest;
         let k = self.with_poll(rest as u32);

@@ -1,10 +1,24 @@
-// The rates of a sound board, and numbers divided by their periods: a second, or the time between two polls.
+// The rates of a sound board, and numbers divided by their periods.
 ghost use mathlib.Core.Path.{_≡_};
 ghost use mathlib.Core.Bool.{true};
-ghost use Prim.Native.Nat.{_/_, _%_, _<_, _≤_};
+ghost use Prim.Native.Nat.{_/_, _%_, _<_};
 ghost use Rattle.clock.specs.Sound.{soundRate};
+ghost use Rattle.clock.specs.CodeTime.{isPeriod};
 use crate::Clock;
 use wide::flags::either;
+
+// The periods of a sound board in cycles: a second, and the time between two polls, at each rate.
+const SECOND_48_MHZ: u64 = Clock::RATE as u64;
+
+const SECOND_12_MHZ: u64 = Clock::RATE_12_MHZ as u64;
+
+const SECOND_1_MHZ: u64 = Clock::RATE_1_MHZ as u64;
+
+const POLL_48_MHZ: u64 = SECOND_48_MHZ / Clock::POLLS_PER_SECOND;
+
+const POLL_12_MHZ: u64 = SECOND_12_MHZ / Clock::POLLS_PER_SECOND;
+
+const POLL_1_MHZ: u64 = SECOND_1_MHZ / Clock::POLLS_PER_SECOND;
 
 // A rate is one that a sound board has.
 pub fn sound_rate(rate: u32) -> bool
@@ -32,15 +46,17 @@ fn by_period(n: u64, period: u64) -> Periods
     }
 }
 
-// A number divided by a period of the rate, of which a second has so many. The rate is looked at once, and each of the
-// divisions is by a constant.
-pub(crate) fn divided(n: u64, rate: u32, per_second: u64) -> Periods
-    requires { ⌜ (soundRate rate ≡ true) × ((0 < «per_second») × («per_second» ≤ 1_000)) ⌝ }
-    ensures { λ r. ⌜ (r .whole ≡ n / (rate / «per_second»)) × (r .rest ≡ n % (rate / «per_second»)) ⌝ }
+// A number divided by a period: by a constant, chosen among the periods of a sound board.
+pub(crate) fn divided(n: u64, period: u64) -> Periods
+    requires { ⌜ isPeriod period ≡ true ⌝ }
+    ensures { λ r. ⌜ (r .whole ≡ n / period) × (r .rest ≡ n % period) ⌝ }
 {
-    match rate {
-        Clock::RATE_1_MHZ => by_period(n, Clock::RATE_1_MHZ as u64 / per_second),
-        Clock::RATE_12_MHZ => by_period(n, Clock::RATE_12_MHZ as u64 / per_second),
-        _ => by_period(n, Clock::RATE as u64 / per_second),
+    match period {
+        SECOND_48_MHZ => by_period(n, SECOND_48_MHZ),
+        SECOND_12_MHZ => by_period(n, SECOND_12_MHZ),
+        SECOND_1_MHZ => by_period(n, SECOND_1_MHZ),
+        POLL_48_MHZ => by_period(n, POLL_48_MHZ),
+        POLL_12_MHZ => by_period(n, POLL_12_MHZ),
+        _ => by_period(n, POLL_1_MHZ),
     }
 }

@@ -146,7 +146,7 @@ impl Clock {
         ensures { λ r. ⌜ DurationIs (ownNanoseconds (rateOf self) self) r ⌝ }
     {
         let cycles = self.subsecond as u64;
-        let part = divided(cycles * Clock::NANOS_PER_SECOND as u64, self.rate, 1);
+        let part = divided(cycles * Clock::NANOS_PER_SECOND as u64, self.rate());
         Duration {
             seconds: self.seconds,
             nanoseconds: part.whole as u32,

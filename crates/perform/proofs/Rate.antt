@@ -4,12 +4,13 @@ use mathlib.Core.Path.{refl}
 use mathlib.Core.Option.{Option, none, some}
 use mathlib.Core.List.{List}
 use lib.Dec.{eqb}
-use Rattle.wide.proofs.Choices.{choose}
+use Rattle.wide.proofs.Choices.{choose, either}
 use Rattle.clock.specs.Clock.{rateOf}
-use Rattle.clock.proofs.Rate.{SameRate, advance-rate}
+use Rattle.clock.proofs.Rate.{three-rate, SameRate, advance-rate}
 use Rattle.board.specs.declared.Board.{Board}
-use Rattle.board.specs.Board.{wired}
-use Rattle.board.specs.Calls.{Call, boardAfter, movedBoard, skipLength, movedBy}
+use Rattle.board.specs.Board.{wired, sound}
+use Rattle.board.specs.Calls.{Call, DirectAnswer, refusalOf, boardAfter, answerOf, movedBoard, skipLength, movedBy}
+use Rattle.board.proofs.Soundness.{sound-facts}
 use Rattle.offsets.specs.Registers.{base}
 use Rattle.registers.proofs.Rate.{read-rate, write-rate}
 use Rattle.perform.specs.Calls.{argument, callOf}
@@ -39,3 +40,14 @@ call-rate tag m b pos =
   where
     P : Call → Type 0
     P c = SameRate (b .clock) (wired (c .board) .clock)
+
+-- of a direct call's answer, refused or accepted
+pub answer-rate : (tag : ℕ) (m : List ℕ) (b : Board) → SameRate (b .clock) (answerOf (callOf tag m) b .board .clock)
+unfolding answerOf
+answer-rate tag m b =
+    either (sound b)
+    (λ s. choose (λ (a : DirectAnswer). SameRate (b .clock) (a .board .clock))
+    (eqb (refusalOf b (callOf tag m b .refusal)) 0)
+    (λ _. call-rate tag m b (three-rate (rateOf (b .clock)) (sound-facts b s .rate) .positive))
+    (λ _. record { same = refl }))
+    (λ s. rw s (record { same = refl }))

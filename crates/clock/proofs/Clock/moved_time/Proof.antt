@@ -5,7 +5,7 @@ use native.Mathlib.Nat.{mod-lt}
 use native.Mathlib.Omega.{arith}
 use Rattle.clock.proofs.Tests.{both-told}
 use Rattle.clock.proofs.Branches.{moved-past, moved-on, moved-not}
-use Rattle.clock.proofs.Rate.{three-rate, rate-fits, second}
+use Rattle.clock.proofs.Rate.{three-rate, rate-fits, second-period}
 use Rattle.clock.specs.Clock.{rateOf}
 use borrow.Author.Needs.{needs}
 use Rattle.clock.proofs.Clock.moved_time.Statement.{statement}
@@ -17,8 +17,13 @@ own-time-requires c κs = search needs
 both-requires : tie.Need-both-requires
 both-requires c κs = search needs
 
+rate-requires : tie.Need-rate-requires
+rate-requires c κs = search needs
+
 elapsed-requires : tie.Need-elapsed-requires
-elapsed-requires c κs = (c .before .before .before .before .pre .known, (omega arith, omega arith))
+elapsed-requires c κs =
+    let start = c .before .before .before .before .before in
+    rw (c .rate .ensures) (second-period (rateOf (start .args .self)) (start .pre .known))
 
 sub-if2 : tie.Need-sub-if2
 sub-if2 c = search needs
@@ -28,10 +33,10 @@ with-time-requires c κs = search needs
 
 returns : tie.Need-returns
 returns c =
-    let tests = c .before .before .before in
+    let tests = c .before .before .before .before in
     let a = tests .before .before .before .before .args in
     let x = c .before .before .elapsed in
-    let e = rw (second (rateOf (a .self))) at (x .ensures) in
+    let e = rw (c .before .before .before .rate .ensures) at (x .ensures) in
     c .with-time .ensures
     ∙ moved-past (rateOf (a .self)) (a .cycles .0) (a .self) (x .result .whole)
     (both-told (tests .before .both .ensures) (tests .before .before .before .own-time .ensures) refl
@@ -43,10 +48,10 @@ add-with-time c = search needs
 
 cast-with-time : tie.Need-cast-with-time
 cast-with-time c =
-    let start = c .before .before .before .before .before .before in
+    let start = c .before .before .before .before .before .before .before in
     let k = start .args .self in
     let n = k .subsecond + start .args .cycles .0 in
-    let e = rw (second (rateOf k)) at (c .before .elapsed .ensures) in
+    let e = rw (c .before .before .rate .ensures) at (c .before .elapsed .ensures) in
     let known = start .pre .known in
     omega (arith, e .1, mod-lt n {m = rateOf k} (three-rate (rateOf k) known .positive), rate-fits (rateOf k) known)
 
@@ -55,10 +60,10 @@ with-time-requires-2 c κs = search needs
 
 returns-2 : tie.Need-returns-2
 returns-2 c =
-    let tests = c .before .before .before in
+    let tests = c .before .before .before .before in
     let a = tests .before .before .before .before .args in
     let x = c .before .before .elapsed in
-    let e = rw (second (rateOf (a .self))) at (x .ensures) in
+    let e = rw (c .before .before .before .rate .ensures) at (x .ensures) in
     c .with-time2 .ensures
     ∙ moved-on (rateOf (a .self)) (a .cycles .0) (a .self) (x .result .whole) (x .result .rest)
     (both-told (tests .before .both .ensures) (tests .before .before .before .own-time .ensures) refl
@@ -77,6 +82,7 @@ moved-time-spec =
     (tie.spec
     own-time-requires
     both-requires
+    rate-requires
     elapsed-requires
     sub-if2
     with-time-requires

@@ -1,7 +1,7 @@
 -- `Clock::own_duration` meets its contract. Assumes nothing.
 use native.Mathlib.Omega.{arith}
 use Rattle.clock.proofs.Durations.{nanos-below}
-use Rattle.clock.proofs.Rate.{second}
+use Rattle.clock.proofs.Rate.{second-period}
 use Rattle.clock.specs.Clock.{rateOf, ownNanoseconds}
 use borrow.Author.Needs.{needs}
 use Rattle.clock.proofs.Clock.own_duration.Statement.{statement}
@@ -16,27 +16,32 @@ cast-divided c = search needs
 mul-divided : tie.Need-mul-divided
 mul-divided c = search needs
 
-divided-requires : tie.Need-divided-requires
-divided-requires c κs = (c .before .pre .known, (omega arith, omega arith))
+rate-requires : tie.Need-rate-requires
+rate-requires c κs = search needs
 
-cast-t6 : tie.Need-cast-t6
-cast-t6 c =
-    let start = c .before .before .before in
+divided-requires : tie.Need-divided-requires
+divided-requires c κs =
+    let start = c .before .before in
+    rw (c .rate .ensures) (second-period (rateOf (start .args .self)) (start .pre .known))
+
+cast-t7 : tie.Need-cast-t7
+cast-t7 c =
+    let start = c .before .before .before .before in
     let k = start .args .self in
     let e = c .before .divided .ensures .0 in
-    rw (e, second (rateOf k)) (omega (arith, nanos-below (rateOf k) (k .subsecond) (start .pre .subsecond)))
+    rw (e, c .before .before .rate .ensures) (omega (arith, nanos-below (rateOf k) (k .subsecond) (start .pre .subsecond)))
 
 returns : tie.Need-returns
 unfolding ownNanoseconds
 returns c =
-    let start = c .before .before .before in
+    let start = c .before .before .before .before in
     let k = start .args .self in
     let e = c .before .divided .ensures .0 in
     record {
-      total = rw (e, second (rateOf k));
-      small = rw (e, second (rateOf k)) (nanos-below (rateOf k) (k .subsecond) (start .pre .subsecond));
+      total = rw (e, c .before .before .rate .ensures);
+      small = rw (e, c .before .before .rate .ensures) (nanos-below (rateOf k) (k .subsecond) (start .pre .subsecond));
     }
 
 pub own-duration-spec : {M : Type 1} → statement M
 own-duration-spec =
-    tie.close (tie.spec cast-cycles cast-divided mul-divided divided-requires cast-t6 returns)
+    tie.close (tie.spec cast-cycles cast-divided mul-divided rate-requires divided-requires cast-t7 returns)

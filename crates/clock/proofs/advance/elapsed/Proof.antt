@@ -1,22 +1,15 @@
 -- `advance::elapsed` meets its contract. Assumes nothing.
-use Prim.Native.Nat.{_/_}
 use mathlib.Core.Path.{sym}
 use native.Mathlib.Nat.{div-eq-of-lt, mod-eq-of-lt}
 use native.Mathlib.Omega.{arith}
 use Rattle.clock.proofs.Periods.{part-fits, steps, steps-fit}
-use Rattle.clock.proofs.Rate.{period}
+use Rattle.clock.proofs.Rate.{period-above, period-fits}
 use borrow.Author.Needs.{needs}
 use Rattle.clock.proofs.advance.elapsed.Statement.{statement}
 use Rattle.clock.proofs.advance.elapsed.Tie as tie
 
-div-period : tie.Need-div-period
-div-period c = search needs
-
 add-sum : tie.Need-add-sum
-add-sum c =
-    let a = c .before .args in
-    let p = c .before .pre in
-    omega (arith, c .if1 .taken, period (a .rate) (p .0) (a .per-second) (p .1 .0) (p .1 .1) .1)
+add-sum c = omega (arith, c .if1 .taken, period-fits (c .before .args .period) (c .before .pre))
 
 returns : tie.Need-returns
 returns c = (sym (div-eq-of-lt (c .if2 .taken)), sym (mod-eq-of-lt (c .if2 .taken)))
@@ -28,51 +21,47 @@ add-divided : tie.Need-add-divided
 add-divided c =
     let start = c .before .before .before in
     let a = start .args in
-    let p = start .pre in
-    let v = period (a .rate) (p .0) (a .per-second) (p .1 .0) (p .1 .1) in
+    let v = a .period in
     record {
       fits =
           rw (c .before .divided .ensures .1)
-          (part-fits (a .part) (a .cycles .0) (a .rate / a .per-second) (v .0) (v .1) (omega arith) (omega arith));
+          (part-fits (a .part) (a .cycles .0) v (period-above v (start .pre)) (period-fits v (start .pre)) (omega arith)
+          (omega arith));
     }
 
 divided-requires-2 : tie.Need-divided-requires-2
 divided-requires-2 c κs = search needs
 
-add-t10 : tie.Need-add-t10
-add-t10 c =
+add-t11 : tie.Need-add-t11
+add-t11 c =
     let start = c .before .before .before .before .before .before in
     let a = start .args in
-    let p = start .pre in
-    let v = period (a .rate) (p .0) (a .per-second) (p .1 .0) (p .1 .1) in
+    let v = a .period in
     let d = c .before .before .before .before .divided in
-    let e = c .before .before .divided2 in
     record {
       fits =
-          steps-fit (a .part) (a .cycles .0) (a .rate / a .per-second) _ _ _ 0 (d .ensures .0) (d .ensures .1)
-          (e .ensures .0) (v .0) (v .1) (omega arith) (omega arith);
+          steps-fit (a .part) (a .cycles .0) v _ _ _ 0 (d .ensures .0) (d .ensures .1)
+          (c .before .before .divided2 .ensures .0) (period-above v (start .pre)) (period-fits v (start .pre))
+          (omega arith) (omega arith);
     }
 
 returns-2 : tie.Need-returns-2
 returns-2 c =
     let start = c .before .before .before .before .before .before in
     let a = start .args in
-    let p = start .pre in
-    let v = period (a .rate) (p .0) (a .per-second) (p .1 .0) (p .1 .1) in
     let d = c .before .before .before .before .divided in
     let e = c .before .before .divided2 in
-    steps (a .part) (a .cycles .0) (a .rate / a .per-second) _ _ _ _ (d .ensures .0) (d .ensures .1) (e .ensures .0)
-    (omega (arith, v .0)) (e .ensures .1)
+    steps (a .part) (a .cycles .0) (a .period) _ _ _ _ (d .ensures .0) (d .ensures .1) (e .ensures .0)
+    (omega (arith, period-above (a .period) (start .pre))) (e .ensures .1)
 
 pub elapsed-spec : {M : Type 1} → statement M
 elapsed-spec =
     tie.close
     (tie.spec
-    div-period
     add-sum
     returns
     divided-requires
     add-divided
     divided-requires-2
-    add-t10
+    add-t11
     returns-2)
