@@ -11,7 +11,7 @@ use Rattle.list.specs.Run.{runOf, over}
 use Rattle.board.specs.declared.calls.EmptyAnswer.{EmptyAnswer}
 use Rattle.board.specs.Calls.{freshOf}
 use Rattle.list.specs.Run.{nothingDone}
-use Rattle.pec.specs.Repeats.{Held, startedOn, ran, repeats, ranAt, repeatsAt}
+use Rattle.pec.specs.Repeats.{Held, startedOn, ran, repeats, repeatsAt}
 
 -- an outcome and a buffer together
 abbrev pub held : Outcome → List ℕ → Held

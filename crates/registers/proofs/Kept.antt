@@ -2,14 +2,14 @@
 use Prim.Native.Nat.{ℕ, _+_, _<_}
 use native.Mathlib.Nat.{mod-lt}
 use native.Mathlib.Omega.{arith}
-use mathlib.Core.Path.{_≡_, refl, _∙_}
-use mathlib.Core.Bool.{Bool, true, cond, _&&_}
+use mathlib.Core.Path.{_≡_, _∙_}
+use mathlib.Core.Bool.{true, _&&_}
 use lib.Dec.{eqb}
 use lib.ListN.{length, length-set}
 use Rattle.wide.specs.Bits.{bit}
 use Rattle.wide.proofs.Choices.{choose}
 use Rattle.channel.specs.Channel.{freshTimer}
-use Rattle.channel.specs.Registers.{countLowAt, byteWritten}
+use Rattle.channel.specs.Registers.{byteWritten}
 use Rattle.clock.specs.declared.Clock.{Clock}
 use Rattle.clock.specs.Clock.{rateOf, checkAlarm}
 use Rattle.clock.specs.Registers.{mergeByte}
@@ -29,8 +29,8 @@ use Rattle.clock.proofs.Soundness.{
 use Rattle.board.specs.declared.Latches.{Latches}
 use Rattle.board.specs.declared.Board.{Board}
 use Rattle.board.specs.Loops.{All}
-use Rattle.board.specs.Fields.{withLatches, countLatch}
-use Rattle.board.specs.Board.{heldOf, wired}
+use Rattle.board.specs.Fields.{withLatches}
+use Rattle.board.specs.Board.{wired}
 use Rattle.board.proofs.Loops.{map-length, map-all}
 use Rattle.board.proofs.Soundness.{facts-sound, clock-facts}
 use Rattle.board.proofs.Steps.{Good, wired-level}
@@ -46,7 +46,6 @@ use Rattle.offsets.specs.Registers.{
   alarmHighAt,
   alarmEnableAt,
   clockAckAt,
-  within,
   inTimers,
   inClock,
   inChannels,

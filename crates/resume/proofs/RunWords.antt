@@ -5,10 +5,10 @@ use native.Mathlib.Omega.{arith}
 use mathlib.Core.Path.{_≡_, refl, _∙_}
 use mathlib.Core.Bool.{Bool, true, false, not, _&&_}
 use mathlib.Core.Option.{Option, none, some}
-use mathlib.Core.List.{List, [], _∷_, _++_}
+use mathlib.Core.List.{List, [], _∷_}
 use lib.Bits.{and-le-l}
 use lib.Dec.{ltb, eqb}
-use lib.ListN.{length, getD, set, length-set}
+use lib.ListN.{getD, set, length-set}
 use borrow.Author.Tests.{eqb-true, not-true}
 use Rattle.wide.specs.Bits.{bit}
 use Rattle.wide.specs.Words.{lowWord, highWord}
@@ -130,7 +130,7 @@ use Rattle.perform.specs.Calls.{argument, callOf, refusalAt}
 use Rattle.perform.proofs.Refusals.{clear}
 use Rattle.perform.proofs.Kept.{call-keeps}
 use Rattle.list.specs.declared.Outcome.{Outcome}
-use Rattle.list.specs.Run.{Turn, done, refused, turnOf, stepped, runOn, nothingDone, runOf}
+use Rattle.list.specs.Run.{Turn, turnOf, stepped, runOn, nothingDone, runOf}
 use Rattle.list.proofs.Turns.{step-good}
 use Rattle.list.proofs.TwoParts.{run-invariant, run-good}
 use Rattle.image.specs.Words.{

@@ -1,5 +1,4 @@
 -- `rates::divided` meets its contract. Assumes nothing.
-use native.Mathlib.Omega.{arith}
 use Rattle.clock.proofs.Rate.{last-period}
 use borrow.Author.Needs.{needs}
 use Rattle.clock.proofs.rates.divided.Statement.{statement}

@@ -1,5 +1,4 @@
 -- `rates::sound_rate` meets its contract. Assumes nothing.
-use lib.Dec.{eqb}
 use Rattle.clock.specs.Sound.{soundRate}
 use borrow.Author.Needs.{needs}
 use Rattle.clock.proofs.rates.sound_rate.Statement.{statement}
