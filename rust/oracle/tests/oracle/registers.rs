@@ -3,7 +3,6 @@
 use std::collections::BTreeSet;
 
 use calls::Call;
-use oracle::board::Board;
 use oracle::fields::{Fields, Latch};
 use oracle::generate::Random;
 use oracle::registers::{self, channel, of_channel};
