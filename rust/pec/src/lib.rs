@@ -3,8 +3,8 @@
 //! The functions here call the static library `libpec.a`, which `rt staticlib pec` proves and writes from
 //! crates/pec. Each is safe: the library's contracts ask nothing of their callers, and it keeps nothing between
 //! calls. A call list and its answers are bytes that the caller lends; the types of the crate rust/calls, which stand
-//! here too, make and read them. [`run`] takes a fresh board, and [`run_at`] one of a rate of its own; a [`Board`] goes
-//! on from list to list, and its image keeps it while no program runs; [`Board::preview`] tells of many totals of cycles
+//! here too, make and read them. [`run`] takes a fresh board, and [`run_at`] one of another rate; a [`Board`] goes on
+//! from list to list, and its image keeps it while no program runs; [`Board::preview`] tells of many totals of cycles
 //! whether its line would be high after each. A [`Controller`] is the interrupt controller by itself, and a
 //! [`Dispatcher`] above it serves its sources in turn.
 //!
