@@ -1,5 +1,5 @@
-//! Every field of the board, in document 01's order, and what document 01 says of them:
-//! sound, the line and the time. Written from that document, not from the Rust.
+//! Every field of the board, the rate and then in document 01's order, and what document 01 says of them: sound, the
+//! line and the time. Written from that document, not from the Rust.
 
 use calls::{DEFAULT_RATE, NANOSECONDS_PER_SECOND, RATES};
 

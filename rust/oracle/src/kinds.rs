@@ -50,15 +50,16 @@ pub struct Group {
 #[cfg(feature = "proved")]
 pub const GROUPS: [Group; 2] = [parking::GROUP, previews::GROUP];
 
-/// The kind of a name for boards of a rate, or every kind where none is given; nothing where there is none of that name.
+/// The kind of a name for boards of a rate, or every kind where no name is given; nothing where there is none of that
+/// name.
 pub fn named(rate: u32, wanted: Option<&str>) -> Vec<Kind> {
     let mut kinds = kinds(rate);
     kinds.retain(|kind| wanted.is_none_or(|wanted| wanted == kind.name));
     kinds
 }
 
-/// The group of a name, or every group where none is given; nothing where there is none of that name, or at another rate
-/// than that of parked boards, which the operations are on.
+/// The group of a name, or every group where none is given; nothing where there is none of that name, or at another
+/// rate than that of parked boards, which the operations are on.
 #[cfg(feature = "proved")]
 pub fn groups(rate: u32, wanted: Option<&str>) -> Vec<Group> {
     let mut groups = Vec::from(GROUPS);

@@ -1,5 +1,5 @@
-//! What the programs that measure share: the rate that is asked for, repeats in nanoseconds, instructions that callgrind
-//! counts, and whether two builds of the library give the same answers.
+//! What the programs that measure share: the rate that is asked for, repeats in nanoseconds, instructions that
+//! callgrind counts, and whether two builds of the library give the same answers.
 
 use std::env;
 use std::iter;

@@ -1,6 +1,6 @@
-//! The two replacements in timing.rs: the body of `host_time_ns` becomes the board's host time, and `MASTER_CLOCK` comes
-//! from the module that the text is built in, so that one text is built for each rate. build.rs makes them; the tests
-//! check that they are refused where the text is missing or doubled.
+//! The two replacements in timing.rs: the body of `host_time_ns` becomes the board's host time, and `MASTER_CLOCK`
+//! comes from the module that the text is built in, so that one text is built for each rate. build.rs makes them; the
+//! tests check that they are refused where the text is missing or doubled.
 
 /// A piece of timing.rs, to the letter, and what stands in its place.
 pub struct Replacement {

@@ -24,6 +24,7 @@ pub trait Timing: Sized {
     fn cycles_until_irq(&self) -> Option<u64>;
 }
 
+// The builds, by their millions of cycles a second.
 pub use at_12_000_000::access::TimingDevice as At12;
 pub use at_1_000_000::access::TimingDevice as At1;
 pub use at_48_000_000::access::TimingDevice as At48;

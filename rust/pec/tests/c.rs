@@ -174,13 +174,14 @@ fn a_run_and_a_preview_use_little_stack() {
     ]);
     calls.extend([Call::ControllerWrite { address: 5, byte: 255 }, Call::Output]);
     let text = printed("stack", C, &list_of(&calls));
-    let [alone, run, parked, preview] = [0, 1, 2, 3].map(|place| {
-        let figure = text.split_whitespace().nth(place).expect("four figures");
+    let [alone, run, at_a_rate, parked, preview] = [0, 1, 2, 3, 4].map(|place| {
+        let figure = text.split_whitespace().nth(place).expect("five figures");
         figure.parse::<usize>().expect("decimal")
     });
     assert!(alone > 0, "{text}");
     for (name, used) in [
         ("a run", run),
+        ("a run at a rate", at_a_rate),
         ("a run over a parked board", parked),
         ("a preview", preview),
     ] {

@@ -21,14 +21,8 @@ use oracle::compare::parked::{self, Parking};
 use oracle::compare::{controller, dispatcher, matches, passes, prescaler, previews, skips};
 use oracle::compare::{Count, Difference, Pair};
 use oracle::dispatcher::Turn;
-use oracle::list::{self, Runner};
+use oracle::list::Runner;
 use oracle::proved;
-
-const PAIR: Pair = Pair {
-    rate: DEFAULT_RATE,
-    rust: list::run_repeated,
-    other: pec::run_repeated,
-};
 
 const AT_RATES: AtRates = AtRates {
     run: pec::run_at,
@@ -137,6 +131,7 @@ fn compare(all: bool, first: u64, last: u64) -> Result<Count, String> {
     println!("  in these, {shown} totals, each against an advance of the Rust");
     if all {
         let text = |difference: Box<Difference>| difference.to_string();
+        let default = pair(DEFAULT_RATE, proved::runner);
         for rate in RATES {
             part(&at("registers", rate), &mut total, || {
                 passes::registers(&pair(rate, proved::runner)).map_err(text)
@@ -150,15 +145,15 @@ fn compare(all: bool, first: u64, last: u64) -> Result<Count, String> {
         part("rates that no board has, and the three", &mut total, || {
             clock::rates(&AT_RATES)
         })?;
-        part("damaged lists", &mut total, || passes::damaged(&PAIR).map_err(text))?;
+        part("damaged lists", &mut total, || passes::damaged(&default).map_err(text))?;
         part("short buffers", &mut total, || {
-            passes::short_buffers(&PAIR).map_err(text)
+            passes::short_buffers(&default).map_err(text)
         })?;
-        part("skips", &mut total, || skips::lists(&PAIR).map_err(text))?;
+        part("skips", &mut total, || skips::lists(&default).map_err(text))?;
         part("skips of parked boards", &mut total, || skips::parked(&PARKING))?;
-        part("matches", &mut total, || matches::lists(&PAIR).map_err(text))?;
+        part("matches", &mut total, || matches::lists(&default).map_err(text))?;
         println!("  in these as in all lists, an advance's counts are against the oracle's own reading of S-4");
-        part("prescalers", &mut total, || prescaler::lists(&PAIR).map_err(text))?;
+        part("prescalers", &mut total, || prescaler::lists(&default).map_err(text))?;
         part("prescalers of parked boards", &mut total, || {
             prescaler::parked(&PARKING)
         })?;

@@ -1,5 +1,5 @@
-//! The clock at each rate: the end of a second, the alarm's deadline, subseconds as nanoseconds, the clock switched off,
-//! on and to host time, and the poll of an alarm on host time. And the rates that no board has.
+//! The clock at each rate: the end of a second, the alarm's deadline, subseconds as nanoseconds, the clock switched
+//! off, on and to host time, and the poll of an alarm on host time. And the rates that no board has.
 
 use std::collections::BTreeSet;
 
@@ -11,7 +11,7 @@ use crate::fields::Fields;
 use crate::generate;
 use crate::list;
 use crate::registers;
-use crate::writes::{alarm, byte, two_words};
+use crate::writes::{alarm, alarm_due, byte, two_words};
 
 /// A board to advance: the calls that make it of a fresh one of a rate, and the advances that are made on it.
 pub struct Start {
@@ -59,7 +59,7 @@ pub fn subseconds(rate: u32) -> BTreeSet<u32> {
 }
 
 /// Clocks that count, from the first second and up to the last, with alarms from the next second on: settings F and G,
-/// with every subsecond, and alarms whose deadline is about 2^64.
+/// with every subsecond, and alarms whose deadline is within a second of 2^64.
 pub fn counting(rate: u32) -> Vec<Start> {
     let mut starts = Vec::new();
     for seconds in [0, 5, u64::MAX - 2, u64::MAX] {
@@ -84,6 +84,17 @@ pub fn counting(rate: u32) -> Vec<Start> {
         }
     }
     starts
+}
+
+/// Alarms whose deadline is 2^64 - 2 to 2^64 + 1: a skip gets to the first two, and is refused with 13 for the others.
+pub fn far(rate: u32) -> Vec<Start> {
+    let top = 1_u128 << 64;
+    let due = [top - 2, top - 1, top, top + 1];
+    due.map(|deadline| Start {
+        calls: alarm_due(rate, deadline),
+        advances: about([1, top - 2, deadline]),
+    })
+    .into()
 }
 
 /// Alarms on host time, due and not, after a poll's beginning, a cycle, and all but a cycle of it.
@@ -165,11 +176,12 @@ fn shown() -> Vec<Call> {
     calls
 }
 
-/// Each board with each of its advances and what is shown after it; and what the board holds before.
+/// Each board with each of its advances and what is shown after it; and what the board holds before, with a skip.
 pub fn lists(pair: &Pair) -> Compared {
     let mut count = Count::default();
     let rate = pair.rate;
-    for start in [counting(rate), polled(rate), switched(rate)].into_iter().flatten() {
+    let starts = [counting(rate), far(rate), polled(rate), switched(rate)];
+    for start in starts.into_iter().flatten() {
         let board = list_of(&start.calls);
         for cycles in start.advances {
             let calls = [&[Call::Advance { cycles }][..], &shown()].concat();
@@ -234,6 +246,9 @@ pub fn rates(other: &AtRates) -> Result<Count, String> {
     Ok(count)
 }
 
+/// A way to run a list at a rate on the board that is given, into an answer buffer.
+type Way<'a> = &'a dyn Fn(&AtRates, &mut [u8]) -> Outcome;
+
 /// A list at a rate: in a run; as the first of a run that is repeated no times; and twice over the board that a read
 /// leaves.
 fn compare_at(rate: u32, other: &AtRates, list: &[u8], buffer: usize) -> Result<Count, String> {
@@ -241,7 +256,7 @@ fn compare_at(rate: u32, other: &AtRates, list: &[u8], buffer: usize) -> Result<
         address: registers::CLOCK_CONTROL + 3,
     };
     let first = read.encode();
-    let ways: [(&str, &dyn Fn(&AtRates, &mut [u8]) -> Outcome); 3] = [
+    let ways: [(&str, Way); 3] = [
         ("run", &|board, answers| (board.run)(rate, list, answers)),
         ("first", &|board, answers| {
             (board.run_repeated)(rate, list, &[], 0, answers)

@@ -1,5 +1,5 @@
-//! The timing device and its state as one part of the board, with every field set and read. This text is a child of each
-//! build of timing.rs.
+//! The timing device and its state as one part of the board, with every field set and read. This text is a child of
+//! each build of timing.rs.
 
 use super::*;
 use crate::fields::{Channel, Fields, Latch};

@@ -178,8 +178,8 @@ fn overdue(fields: &Fields, number: usize) -> bool {
     fields.channels[number].compare < fields.channels[number].counter
 }
 
-/// Runs a list by direct calls over a fresh board of a rate, into a buffer of that length; gives the outcome, the answers
-/// and the fields.
+/// Runs a list by direct calls over a fresh board of a rate, into a buffer of that length; gives the outcome, the
+/// answers and the fields.
 fn run_by_direct_calls(rate: u32, list: &[u8], length: usize, counts: &mut Counts) -> (Outcome, Vec<u8>, Fields) {
     let (mut board, _) = Board::fresh_at(rate);
     let mut outcome = Outcome::default();

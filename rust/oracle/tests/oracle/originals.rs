@@ -1,5 +1,5 @@
-//! The two replacements in timing.rs change nothing else, and are refused where they must be; and the three builds of the
-//! text have the three rates.
+//! The two replacements in timing.rs change nothing else, and are refused where they must be; and the three builds of
+//! the text have the three rates.
 
 use oracle::timing::{At1, At12, At48, Timing};
 

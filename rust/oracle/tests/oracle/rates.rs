@@ -1,10 +1,12 @@
-//! The comparison at the three rates: its clocks have the deadlines, subseconds and polls that they are made for, and it
-//! finds planted faults, of boards that go by another rate than their own and of rates that no board has.
+//! The comparison at the three rates: its clocks have the deadlines, subseconds and polls that they are made for, and
+//! it finds planted faults, of boards that go by another rate than their own and of rates that no board has.
 
 use std::collections::BTreeSet;
 
 use calls::{list_of, Call, Outcome, Refusal};
-use oracle::compare::clock::{counting, lists, other_rates, polled, rates, subseconds, switched, AtRates, RULES};
+use oracle::compare::clock::{
+    counting, far, lists, other_rates, polled, rates, subseconds, switched, AtRates, RULES,
+};
 use oracle::compare::passes::{self, REGISTERS_BUFFER};
 use oracle::compare::{Pair, Runner};
 use oracle::fields::Fields;
@@ -50,6 +52,19 @@ fn the_counting_clocks_have_their_subseconds_and_deadlines() {
         assert!(deadlines.iter().any(|due| (top - u128::from(rate)..top).contains(due)));
         assert!(deadlines.iter().any(|due| (top..top + u128::from(rate)).contains(due)));
         assert!(rises > 100, "{rises}");
+    }
+}
+
+#[test]
+fn the_far_alarms_are_due_about_2_to_the_64() {
+    for rate in RATES {
+        let due = far(rate).into_iter().map(|start| {
+            let mut board = made_at(rate, &start.calls);
+            let due = deadline(&mut board).expect("the alarm is armed");
+            assert_eq!(number(&board.call(Call::Skip)), if due < 1 << 64 { 0 } else { 13 });
+            due
+        });
+        assert!(due.eq((1 << 64) - 2..(1 << 64) + 2));
     }
 }
 
@@ -146,8 +161,8 @@ const FAULTS: [(&str, Fault); 7] = [
     ),
 ];
 
-/// The Rust at a rate but for a fault, of a number, by which some calls go by another rate, as far as the board is sound
-/// at that.
+/// The Rust at a rate but for a fault, of a number, by which some calls go by another rate, as far as the board is
+/// sound at that.
 fn faulty<const FAULT: usize, const RATE: u32, const OTHER: u32>(
     first: &[u8],
     list: &[u8],
