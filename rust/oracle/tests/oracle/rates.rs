@@ -133,6 +133,36 @@ fn the_rust_agrees_with_itself_at_every_rate() {
     assert_eq!(count.comparisons as usize, 3 * 2 * 23 * (other_rates().len() + 3));
 }
 
+#[test]
+fn another_rate_is_refused_with_15_before_all_else() {
+    let calls = [Call::Advance { cycles: 7 }, Call::Output];
+    for list in [&[][..], &[0xFF], &[4, 0, 8, 0], &list_of(&calls)] {
+        for length in [0, 80] {
+            for rate in other_rates() {
+                let mut buffer = [0xEE; 80];
+                assert_eq!(
+                    run_at(rate, list, &mut buffer[..length]),
+                    refused(Refusal::UnsupportedRate)
+                );
+                for (first, list, times) in [(list, &[][..], 0), (&[], list, 2)] {
+                    let outcome = run_repeated_at(rate, first, list, times, &mut buffer[..length]);
+                    assert_eq!(outcome, refused(Refusal::UnsupportedRate));
+                }
+                assert_eq!(buffer, [0xEE; 80]);
+            }
+            // At the three, a run is that of the board.
+            for rate in RATES {
+                let [mut said, mut repeated, mut buffer] = [[0xEE; 80]; 3];
+                let (mut board, _) = Board::fresh_at(rate);
+                let outcome = board.run(list, &mut buffer[..length]);
+                assert_eq!(run_at(rate, list, &mut said[..length]), outcome);
+                assert_eq!(run_repeated_at(rate, list, &[], 0, &mut repeated[..length]), outcome);
+                assert_eq!((said, repeated), (buffer, buffer));
+            }
+        }
+    }
+}
+
 /// Whether a call is one that a fault carries out at another rate, from the fields before it.
 type Fault = fn(&Fields, Call) -> bool;
 
