@@ -97,7 +97,14 @@ pub fn runner(rate: u32) -> Option<Runner> {
 
 /// The same with zeros in the place of an advance's counts: what is measured.
 pub fn uncounted_runner(rate: u32) -> Option<Runner> {
-    of_rate(rate, [uncounted::<At1>, uncounted::<At12>, uncounted::<At48>])
+    of_rate(
+        rate,
+        [
+            run_repeated_uncounted::<At1>,
+            run_repeated_uncounted::<At12>,
+            run_repeated_uncounted::<At48>,
+        ],
+    )
 }
 
 /// The runner of a rate among those of the three.
@@ -112,7 +119,7 @@ fn repeated<T: Timing>(first: &[u8], list: &[u8], times: u64, answers: &mut [u8]
     repeat::<T>(run, first, list, times, answers)
 }
 
-fn uncounted<T: Timing>(first: &[u8], list: &[u8], times: u64, answers: &mut [u8]) -> Outcome {
+fn run_repeated_uncounted<T: Timing>(first: &[u8], list: &[u8], times: u64, answers: &mut [u8]) -> Outcome {
     repeat::<T>(run_uncounted, first, list, times, answers)
 }
 
