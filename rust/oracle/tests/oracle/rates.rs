@@ -135,7 +135,8 @@ fn the_rust_agrees_with_itself_at_every_rate() {
 
 #[test]
 fn another_rate_is_refused_with_15_before_all_else() {
-    let calls = [Call::Advance { cycles: 7 }, Call::Output];
+    // The lowest byte of the seconds is 12, 1 or 0 by the rate.
+    let calls = [Call::Advance { cycles: 12_000_000 }, Call::Read { address: 0x8B }];
     for list in [&[][..], &[0xFF], &[4, 0, 8, 0], &list_of(&calls)] {
         for length in [0, 80] {
             for rate in other_rates() {
