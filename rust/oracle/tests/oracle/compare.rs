@@ -2,6 +2,7 @@
 //! those that are measured.
 
 use calls::{list_of, Call, Outcome};
+use oracle::board::AnyBoard;
 use oracle::compare::passes::{self, BUFFER, REGISTERS_BUFFER};
 use oracle::compare::{readouts, shortest};
 use oracle::kinds;
@@ -118,6 +119,18 @@ fn the_lists_of_the_passes_run_to_their_ends() {
     }
     for readout in readouts() {
         assert_eq!(run_repeated(&readout, &[], 0, &mut vec![0; BUFFER]).refusal, None);
+    }
+}
+
+#[test]
+fn the_last_prepared_board_stands_a_cycle_after_its_first_second() {
+    for rate in RATES {
+        let (mut board, _) = AnyBoard::fresh_at(rate);
+        let prepared = passes::prepared(rate);
+        let fired = prepared.last().expect("there are boards");
+        assert_eq!(board.run(fired, &mut vec![0; REGISTERS_BUFFER]).refusal, None);
+        let fields = board.fields();
+        assert_eq!((fields.seconds, fields.subsecond, fields.alarm_pending), (1, 1, true));
     }
 }
 

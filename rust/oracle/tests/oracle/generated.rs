@@ -125,6 +125,24 @@ impl Counts {
             "clock stands at its top",
             counts && !saturates && after.seconds == u64::MAX,
         );
+        // From afar to about the end of a second that has begun, which no alarm waits for, and of a poll that has; and
+        // about numbers that the rate gives.
+        let limit = poll_at(before.rate);
+        for (event, more) in [("a cycle before", 0), ("at", 1), ("a cycle after", 2)] {
+            let ends = |begun: u32, whole: u32| {
+                begun > 3 && cycles > 100 && u128::from(begun) + u128::from(cycles) + 1 == u128::from(whole) + more
+            };
+            self.note(
+                format!("{event} the end of a second"),
+                counts && !before.alarm_armed && ends(before.subsecond, before.rate),
+            );
+            self.note(format!("{event} the end of a poll"), polled && ends(before.poll, limit));
+        }
+        let second = u64::from(before.rate);
+        for number in [second, limit.into(), u64::MAX / second] {
+            self.note(format!("two cycles less than {number}"), cycles == number - 2);
+            self.note(format!("two cycles more than {number}"), cycles == number + 2);
+        }
     }
 
     fn read(&mut self, address: u16, before: &Fields, after: &Fields) {
