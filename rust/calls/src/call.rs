@@ -203,6 +203,8 @@ pub fn list_of(calls: &[Call]) -> Vec<u8> {
 impl Call {
     /// The first call of a list, and its bytes; or the refusal, 2 to 5. An empty list, which a run does not refuse, has
     /// no first call and gives 2.
+    // A program may have a loop over calls for each rate: without this none of them would have it in line.
+    #[inline]
     pub fn decode(list: &[u8]) -> Result<(Self, usize), Refusal> {
         let (tag, said, rest) = header(list)?;
         let decoded = by_form!(tag, FORM => {

@@ -3,10 +3,10 @@
 use std::error::Error;
 use std::fmt;
 
-/// Why a run stopped before the end of its list, why a direct call was not carried out, why a board was not parked or
-/// an image not read, or why totals were not previewed. Numbers 1 to 11 are document 01's, 12 is that of the request for
-/// parked boards, S-1, 13 that of the request for skips that get there, S-2, and 14 that of the request for previews,
-/// S-6; so are the words in quotes.
+/// Why a run stopped before the end of its list, why a direct call was not carried out, why a board was not made, not
+/// parked or an image not read, or why totals were not previewed. Numbers 1 to 11 are document 01's, 12 is that of the
+/// request for parked boards, S-1, 13 that of the request for skips that get there, S-2, 14 that of the request for
+/// previews, S-6, and 15 that of the request for three clock rates, S-7; so are the words in quotes.
 #[derive(Clone, Copy, Debug, PartialEq, Eq, PartialOrd, Ord, Hash)]
 #[repr(u8)]
 pub enum Refusal {
@@ -38,11 +38,14 @@ pub enum Refusal {
     DeadlineTooLarge = 13,
     /// Previews: 'the clock is enabled in realtime'.
     ClockInRealtime = 14,
+    /// A fresh board, or one to be parked: 'another rate'. A fresh board takes one of [`RATES`](crate::RATES), and only
+    /// boards at [`DEFAULT_RATE`](crate::DEFAULT_RATE) are parked.
+    UnsupportedRate = 15,
 }
 
 impl Refusal {
     /// Every refusal, in the order of the numbers.
-    pub const ALL: [Self; 14] = [
+    pub const ALL: [Self; 15] = [
         Self::UnsoundBoard,
         Self::TruncatedHeader,
         Self::UnknownTag,
@@ -57,14 +60,15 @@ impl Refusal {
         Self::MalformedImage,
         Self::DeadlineTooLarge,
         Self::ClockInRealtime,
+        Self::UnsupportedRate,
     ];
 
-    /// Its number, 1 to 14.
+    /// Its number, 1 to 15.
     pub fn number(self) -> u8 {
         self as u8
     }
 
-    /// The refusal of a number; none for 0, which is no refusal, and for numbers above 14.
+    /// The refusal of a number; none for 0, which is no refusal, and for numbers above 15.
     pub fn from_number(number: u8) -> Option<Self> {
         let place = usize::from(number).checked_sub(1)?;
         Self::ALL.get(place).copied()
@@ -88,6 +92,7 @@ impl fmt::Display for Refusal {
             Self::MalformedImage => "the image is malformed",
             Self::DeadlineTooLarge => "the deadline is above 2^64 - 1, too large for one skip",
             Self::ClockInRealtime => "the clock is enabled in realtime",
+            Self::UnsupportedRate => "the rate is not one that is supported",
         })
     }
 }

@@ -302,6 +302,7 @@ fn refusals_have_their_numbers_and_words() {
         "the image is malformed",
         "the deadline is above 2^64 - 1, too large for one skip",
         "the clock is enabled in realtime",
+        "the rate is not one that is supported",
     ];
     assert_eq!(words.len(), Refusal::ALL.len());
     for (number, words) in (1..).zip(words) {
@@ -313,7 +314,7 @@ fn refusals_have_their_numbers_and_words() {
         };
         assert_eq!(outcome.refusal_number(), number);
     }
-    assert!((15..=255)
+    assert!((16..=255)
         .chain([0])
         .all(|number| Refusal::from_number(number).is_none()));
     assert_eq!(Outcome::default().refusal_number(), 0);

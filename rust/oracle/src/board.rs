@@ -2,7 +2,7 @@
 
 use std::cell::RefCell;
 
-use calls::{Answer, Call, Refusal, LINE_SOURCE};
+use calls::{Answer, Call, Outcome, Refusal, LINE_SOURCE};
 
 use crate::bus::Device;
 use crate::controller;
@@ -10,20 +10,24 @@ use crate::deadline;
 use crate::fields::Fields;
 use crate::host_time;
 use crate::irqc::IrqController;
+use crate::list;
 use crate::matches;
 use crate::registers::CHANNELS;
-use crate::timing::access::Timing;
+use crate::timing::{At1, At12, At48, Timing};
 
-/// A board. One that is not sound stays as its fields: every call refuses it, and the Rust cannot hold all
-/// of them, such as a negative zero offset or a value in an empty latch.
-pub enum Board {
-    Sound(Devices),
+/// A board at the rate of a build of timing.rs. One that is not sound stays as its fields: every call refuses it, and
+/// the Rust cannot hold all of them, such as a negative zero offset or a value in an empty latch.
+pub enum BoardAt<T> {
+    Sound(Devices<T>),
     Unsound(Box<Fields>),
 }
 
+/// A board of which no rate is said.
+pub type Board = BoardAt<At48>;
+
 /// The parts of a sound board.
-pub struct Devices {
-    timing: Timing,
+pub struct Devices<T> {
+    timing: T,
     // In a cell because the levels are read by operations that alter it for a moment.
     controller: RefCell<IrqController>,
     host_seconds: u64,
@@ -44,20 +48,21 @@ pub struct Reply {
     pub answer: Answer,
 }
 
-impl Board {
+impl<T: Timing> BoardAt<T> {
     /// Document 01's fresh board, made of the Rust's own initial states.
     pub fn fresh() -> Self {
         Self::Sound(Devices {
-            timing: Timing::fresh(),
+            timing: T::fresh(),
             controller: RefCell::new(IrqController::new()),
             host_seconds: 0,
             host_nanoseconds: 0,
         })
     }
 
-    /// The board with the given fields.
+    /// The board with the given fields, which are of this rate where they are sound.
     pub fn from_fields(fields: &Fields) -> Self {
         if fields.sound() {
+            assert_eq!(fields.rate, T::RATE, "a sound board is made at its own rate");
             Self::Sound(Devices::from_fields(fields))
         } else {
             Self::Unsound(Box::new(*fields))
@@ -102,7 +107,7 @@ impl Board {
     }
 }
 
-impl Devices {
+impl<T: Timing> Devices<T> {
     /// The line after an advance of a copy of the originals' state, at the board's host time.
     pub fn line_after(&self, cycles: u64) -> bool {
         host_time::set(self.host_seconds, self.host_nanoseconds);
@@ -114,7 +119,7 @@ impl Devices {
         controller::set(&mut irqc, fields.controller_pending, fields.controller_levels);
         irqc.set_enable_mask(fields.controller_enable);
         Self {
-            timing: Timing::from_fields(fields),
+            timing: T::from_fields(fields),
             controller: RefCell::new(irqc),
             host_seconds: fields.host_seconds,
             host_nanoseconds: fields.host_nanoseconds,
@@ -129,7 +134,7 @@ impl Devices {
             controller_pending: irqc.pending(),
             controller_enable: irqc.enable_mask(),
             controller_levels: controller::levels(&mut irqc),
-            ..Fields::default()
+            ..Fields::fresh_at(T::RATE)
         };
         self.timing.store(&mut fields);
         fields
@@ -211,9 +216,10 @@ impl Devices {
         }
     }
 
-    /// Document 01's D.
+    /// Document 01's D. It is not the Rust's, and seldom asked: in line, it would lengthen a run's other calls.
+    #[inline(never)]
     fn exact_deadline(&self) -> Option<u128> {
-        let mut fields = Fields::default();
+        let mut fields = Fields::fresh_at(T::RATE);
         self.timing.store(&mut fields);
         deadline::exact(&fields)
     }
@@ -238,5 +244,74 @@ impl Devices {
             passed,
             line: self.timing.irq_asserted(),
         }
+    }
+}
+
+/// A board of any of the three rates, for what chooses the rate while it runs. What is measured does not go by it.
+pub enum AnyBoard {
+    At1(BoardAt<At1>),
+    At12(BoardAt<At12>),
+    At48(BoardAt<At48>),
+}
+
+/// The value of an expression over the board at its rate.
+macro_rules! at_its_rate {
+    ($any:expr, $board:ident => $then:expr) => {
+        match $any {
+            Self::At1($board) => $then,
+            Self::At12($board) => $then,
+            Self::At48($board) => $then,
+        }
+    };
+}
+
+impl AnyBoard {
+    /// Document 01's fresh board, of which no rate is said.
+    pub fn fresh() -> Self {
+        Self::At48(Board::fresh())
+    }
+
+    /// A fresh board of a rate; with another rate than the three, 15 beside a fresh board of which no rate is said.
+    pub fn fresh_at(rate: u32) -> (Self, Option<Refusal>) {
+        match rate {
+            At1::RATE => (Self::At1(BoardAt::fresh()), None),
+            At12::RATE => (Self::At12(BoardAt::fresh()), None),
+            At48::RATE => (Self::At48(BoardAt::fresh()), None),
+            _ => (Self::fresh(), Some(Refusal::UnsupportedRate)),
+        }
+    }
+
+    /// The board with the given fields. One of another rate than the three is not sound.
+    pub fn from_fields(fields: &Fields) -> Self {
+        match fields.rate {
+            At1::RATE => Self::At1(BoardAt::from_fields(fields)),
+            At12::RATE => Self::At12(BoardAt::from_fields(fields)),
+            _ => Self::At48(BoardAt::from_fields(fields)),
+        }
+    }
+
+    /// Every field of the board.
+    pub fn fields(&self) -> Fields {
+        at_its_rate!(self, board => board.fields())
+    }
+
+    /// Document 01's sound, found from the fields as they now are.
+    pub fn sound(&self) -> bool {
+        self.fields().sound()
+    }
+
+    /// A direct call.
+    pub fn call(&mut self, call: Call) -> Reply {
+        at_its_rate!(self, board => board.call(call))
+    }
+
+    /// The refusal that a direct call would give.
+    pub fn refusal(&self, call: Call) -> Option<Refusal> {
+        at_its_rate!(self, board => board.refusal(call))
+    }
+
+    /// Runs a list.
+    pub fn run(&mut self, list: &[u8], answers: &mut [u8]) -> Outcome {
+        at_its_rate!(self, board => list::run(board, list, answers))
     }
 }

@@ -3,8 +3,6 @@
 use std::cell::RefCell;
 use std::rc::Rc;
 
-use crate::timing::PeCTimingState;
-
 /// A memory-mapped device.
 pub trait Device {
     fn read(&mut self, addr: u32) -> u8;
@@ -19,7 +17,8 @@ pub trait Device {
 pub struct Bus;
 
 impl Bus {
-    pub(crate) fn attach_pec_timing(&mut self, _state: Rc<RefCell<PeCTimingState>>) {}
+    /// Of the state of any build of timing.rs.
+    pub(crate) fn attach_pec_timing<State>(&mut self, _state: Rc<RefCell<State>>) {}
 
     pub fn add_device(&mut self, _base: u32, _name: &str, _device: Box<dyn Device>) {}
 }

@@ -2,6 +2,7 @@
 //! shows a difference.
 
 pub mod boards;
+pub mod clock;
 #[cfg(feature = "proved")]
 pub mod controller;
 pub mod dispatcher;
@@ -16,15 +17,15 @@ use std::fmt::{self, Write};
 
 use calls::{list_of, Call, Outcome};
 
+use crate::list;
 use crate::registers::{self, channel, of_channel, CHANNELS};
 
-/// A board under comparison: runs the first list over a fresh board, and then the second so many times over the board
-/// that is left. Gives the last run's outcome.
-pub type Runner = fn(&[u8], &[u8], u64, &mut [u8]) -> Outcome;
+pub use crate::list::Runner;
 
-/// The two boards: the Rust, and the one that is compared with it.
+/// The two boards, of one rate: the Rust, and the one that is compared with it.
 #[derive(Clone, Copy)]
 pub struct Pair {
+    pub rate: u32,
     pub rust: Runner,
     pub other: Runner,
 }
@@ -62,6 +63,7 @@ const fn old_bytes() -> [u8; 65_536] {
 /// Two runs that differ, on the shortest lists found.
 #[derive(Debug)]
 pub struct Difference {
+    pub rate: u32,
     pub first: Vec<u8>,
     pub second: Vec<u8>,
     pub buffer: usize,
@@ -70,6 +72,12 @@ pub struct Difference {
 }
 
 impl Pair {
+    /// The Rust at a rate, one of the three, and another board of it.
+    pub fn at(rate: u32, other: Runner) -> Self {
+        let rust = list::runner(rate).expect("the rate is one of the three");
+        Self { rate, rust, other }
+    }
+
     /// Compares the outcome and the whole buffer of a list over a fresh board, `second` being none, or of a second
     /// list over the board that the first leaves. Gives the calls that the last list carried out.
     pub fn compare(&self, first: &[u8], second: Option<&[u8]>, buffer: usize) -> Result<Count, Box<Difference>> {
@@ -103,6 +111,7 @@ impl Pair {
         let second = second.map(|second| shortest(second, |list| self.differ(&first, Some(list), buffer)));
         let (rust, other) = self.run(&first, second.as_deref(), buffer);
         Difference {
+            rate: self.rate,
             first,
             second: second.unwrap_or_default(),
             buffer,
@@ -193,8 +202,8 @@ impl fmt::Display for Difference {
     fn fmt(&self, f: &mut fmt::Formatter<'_>) -> fmt::Result {
         writeln!(
             f,
-            "the boards differ, with an answer buffer of {} bytes, after",
-            self.buffer
+            "the boards differ at {} cycles a second, with an answer buffer of {} bytes, after",
+            self.rate, self.buffer
         )?;
         write!(f, "{}", calls_text(&self.first))?;
         if !self.second.is_empty() {

@@ -1,7 +1,6 @@
 //! Document 01's exact deadline D, written from its sentences; the Rust has only the 64-bit figure.
 
 use crate::fields::{Channel, Fields};
-use crate::sys::MASTER_CLOCK;
 
 /// Document 01's D: the smallest of the channels' deadlines and the clock's, or none.
 pub fn exact(fields: &Fields) -> Option<u128> {
@@ -46,5 +45,5 @@ fn of_clock(fields: &Fields) -> Option<u128> {
         return Some(1);
     }
     let seconds = u128::from(fields.alarm - fields.seconds);
-    Some(seconds * u128::from(MASTER_CLOCK) - u128::from(fields.subsecond))
+    Some(seconds * u128::from(fields.rate) - u128::from(fields.subsecond))
 }

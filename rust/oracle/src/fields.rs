@@ -1,12 +1,7 @@
-//! Every field of the board, in document 01's order, and what document 01 says of them:
-//! sound, the line and the time. Written from that document, not from the Rust.
+//! Every field of the board, the rate and then in document 01's order, and what document 01 says of them: sound, the
+//! line and the time. Written from that document, not from the Rust.
 
-use calls::NANOSECONDS_PER_SECOND;
-
-use crate::sys::MASTER_CLOCK;
-
-/// Cycles from one poll of an alarm on host time to the next.
-pub const POLL_LIMIT: u32 = 48_000;
+use calls::{DEFAULT_RATE, NANOSECONDS_PER_SECOND, RATES};
 
 /// One channel.
 #[derive(Clone, Copy, Debug, Default, PartialEq, Eq)]
@@ -61,8 +56,10 @@ impl Latch {
 }
 
 /// The fields of a board, sound or not.
-#[derive(Clone, Copy, Debug, Default, PartialEq, Eq)]
+#[derive(Clone, Copy, Debug, PartialEq, Eq)]
 pub struct Fields {
+    /// Cycles a second, which S-7 adds: document 01's F.
+    pub rate: u32,
     pub channels: [Channel; 4],
     pub timer_enable: u8,
     pub clock_control: u8,
@@ -93,10 +90,44 @@ pub struct Fields {
 impl Fields {
     /// Document 01's fresh board: everything zero except clock control 1.
     pub fn fresh() -> Self {
+        Self::fresh_at(DEFAULT_RATE)
+    }
+
+    /// The same at a rate, of the three or not.
+    pub fn fresh_at(rate: u32) -> Self {
         Self {
+            rate,
+            channels: Default::default(),
+            timer_enable: 0,
             clock_control: 1,
-            ..Self::default()
+            seconds: 0,
+            subsecond: 0,
+            offset_negative: false,
+            offset_seconds: 0,
+            offset_nanoseconds: 0,
+            alarm_enable: 0,
+            alarm: 0,
+            alarm_pending: false,
+            alarm_armed: false,
+            seconds_shadow: 0,
+            seconds_mask: 0,
+            poll: 0,
+            alarm_shadow: 0,
+            alarm_mask: 0,
+            host_seconds: 0,
+            host_nanoseconds: 0,
+            count_latches: Default::default(),
+            clock_low_latch: Latch::default(),
+            clock_high_latch: Latch::default(),
+            controller_pending: 0,
+            controller_enable: 0,
+            controller_levels: 0,
         }
+    }
+
+    /// Cycles from one poll of an alarm on host time to the next: a thousandth of the rate.
+    pub fn poll_limit(&self) -> u32 {
+        self.rate / 1_000
     }
 
     /// A channel runs if it is enabled and its bit in timer enable is set.
@@ -139,7 +170,7 @@ impl Fields {
         if self.runs_from_host_time() {
             (self.host_ns() + self.offset_ns()).max(0)
         } else {
-            let fraction = u64::from(self.subsecond) * u64::from(NANOSECONDS_PER_SECOND) / u64::from(MASTER_CLOCK);
+            let fraction = u64::from(self.subsecond) * u64::from(NANOSECONDS_PER_SECOND) / u64::from(self.rate);
             nanoseconds(self.seconds, 0) + i128::from(fraction)
         }
     }
@@ -157,7 +188,7 @@ impl Fields {
             || self.alarm_pending && self.alarm_enable == 1
     }
 
-    /// Document 01's sound, clause by clause.
+    /// Document 01's sound, clause by clause, and S-7's: the rate is one of the three.
     pub fn sound(&self) -> bool {
         let channels = self
             .channels
@@ -170,17 +201,18 @@ impl Fields {
             .count_latches
             .iter()
             .chain([&self.clock_low_latch, &self.clock_high_latch]);
-        channels
+        RATES.contains(&self.rate)
+            && channels
             && self.timer_enable < 16
             && self.clock_control < 8
             && self.alarm_enable < 2
-            && self.subsecond < MASTER_CLOCK
+            && self.subsecond < self.rate
             && self.offset_nanoseconds < NANOSECONDS_PER_SECOND
             && self.host_nanoseconds < NANOSECONDS_PER_SECOND
             && !negative_zero
             && self.seconds_mask < 255
             && self.alarm_mask < 255
-            && self.poll < POLL_LIMIT
+            && self.poll < self.poll_limit()
             && !(self.alarm_pending && self.alarm_armed)
             && !alarm_overdue
             && (self.controller_levels >> 3 & 1 == 1) == self.line()

@@ -1,38 +1,46 @@
-//! Call lists and sound boards by seed, the same on every machine, with a bias to limits.
+//! Call lists and sound boards by seed, at a rate, the same on every machine, with a bias to limits.
 
-use calls::{Call, NANOSECONDS_PER_SECOND};
+use calls::{Call, DEFAULT_RATE, NANOSECONDS_PER_SECOND};
 
-use crate::board::Board;
+use crate::board::AnyBoard;
 use crate::deadline;
-use crate::fields::{Channel, Fields, Latch, POLL_LIMIT};
+use crate::fields::{Channel, Fields, Latch};
 use crate::registers::{self, channel, of_channel, CHANNELS};
-use crate::sys::MASTER_CLOCK;
 use crate::writes;
 
 const BUFFER: usize = 32_768;
 const SECOND: i128 = NANOSECONDS_PER_SECOND as i128;
 
-/// Numbers at which some rule changes; neighbours are taken too.
-const LIMITS: [u64; 9] = [
-    0,
-    POLL_LIMIT as u64,
-    MASTER_CLOCK as u64,
-    NANOSECONDS_PER_SECOND as u64,
-    1 << 32,
-    1 << 33,
-    1 << 63,
-    u64::MAX / MASTER_CLOCK as u64,
-    u64::MAX,
-];
+/// Numbers at which some rule changes for a board of a rate; neighbours are taken too.
+fn limits(rate: u32) -> [u64; 9] {
+    [
+        0,
+        Fields::fresh_at(rate).poll_limit().into(),
+        rate.into(),
+        NANOSECONDS_PER_SECOND.into(),
+        1 << 32,
+        1 << 33,
+        1 << 63,
+        u64::MAX / u64::from(rate),
+        u64::MAX,
+    ]
+}
 
-/// The generator splitmix64.
+/// The generator splitmix64, with the rate of the boards that its numbers are for.
 pub struct Random {
     state: u64,
+    rate: u32,
 }
 
 impl Random {
+    /// For boards of which no rate is said.
     pub fn new(seed: u64) -> Self {
-        Self { state: seed }
+        Self::at(DEFAULT_RATE, seed)
+    }
+
+    /// For boards of a rate, one of the three.
+    pub fn at(rate: u32, seed: u64) -> Self {
+        Self { state: seed, rate }
     }
 
     /// Any 64-bit number.
@@ -77,7 +85,7 @@ impl Random {
             1 => self.below(100),
             2 => u64::MAX - self.below(4),
             3 => {
-                let limit = self.pick(&LIMITS);
+                let limit = self.pick(&limits(self.rate));
                 self.near(limit)
             }
             _ => self.word() >> self.below(64),
@@ -137,15 +145,18 @@ impl Random {
 
     /// The fields of some sound board.
     pub fn sound_fields(&mut self) -> Fields {
-        let any_subsecond = self.below(u64::from(MASTER_CLOCK)) as u32;
+        let rate = self.rate;
+        let poll_limit = Fields::fresh_at(rate).poll_limit();
+        let any_subsecond = self.below(rate.into()) as u32;
         let any_timer_enable = self.below(16) as u8;
-        let any_poll = self.below(u64::from(POLL_LIMIT)) as u32;
+        let any_poll = self.below(poll_limit.into()) as u32;
         let mut fields = Fields {
+            rate,
             channels: [(); CHANNELS].map(|()| self.channel()),
             timer_enable: self.pick(&[15, any_timer_enable]),
             clock_control: self.below(8) as u8,
             seconds: self.number(),
-            subsecond: self.pick(&[0, 1, MASTER_CLOCK - 1, any_subsecond]),
+            subsecond: self.pick(&[0, 1, rate - 1, any_subsecond]),
             offset_negative: self.once_in(2),
             offset_seconds: self.number(),
             offset_nanoseconds: self.nanoseconds(),
@@ -155,7 +166,7 @@ impl Random {
             alarm_armed: !self.once_in(4),
             seconds_shadow: self.number(),
             seconds_mask: self.mask(),
-            poll: self.pick(&[0, POLL_LIMIT - 1, any_poll]),
+            poll: self.pick(&[0, poll_limit - 1, any_poll]),
             alarm_shadow: self.number(),
             alarm_mask: self.mask(),
             host_seconds: self.number(),
@@ -232,11 +243,16 @@ pub struct Generated {
     pub buffer: usize,
 }
 
-/// The list of a seed.
+/// The list of a seed, for a board of which no rate is said.
 pub fn list(seed: u64) -> Generated {
+    list_at(DEFAULT_RATE, seed)
+}
+
+/// The list of a seed, for a board of a rate, one of the three.
+pub fn list_at(rate: u32, seed: u64) -> Generated {
     let mut generator = Generator {
-        random: Random::new(seed),
-        board: Board::fresh(),
+        random: Random::at(rate, seed),
+        board: AnyBoard::from_fields(&Fields::fresh_at(rate)),
         list: Vec::new(),
         starts: Vec::new(),
         answer_bytes: 0,
@@ -251,7 +267,7 @@ pub fn list(seed: u64) -> Generated {
 /// near what the board then holds.
 struct Generator {
     random: Random,
-    board: Board,
+    board: AnyBoard,
     list: Vec<u8>,
     /// Where the calls start in the list.
     starts: Vec<usize>,
@@ -451,8 +467,8 @@ impl Generator {
         let about = self.random.pick(&[
             deadline.unwrap_or(any),
             later,
-            u64::from(MASTER_CLOCK - fields.subsecond),
-            u64::from(POLL_LIMIT - fields.poll),
+            u64::from(fields.rate - fields.subsecond),
+            u64::from(fields.poll_limit() - fields.poll),
         ]);
         let about = about.wrapping_add(self.random.below(3)).wrapping_sub(1);
         let small = self.random.below(50);

@@ -1,7 +1,8 @@
 //! Parked boards: the image of a board, the reading of one, and what the library's functions on images do. Written
-//! from the sentences of the request, S-1, and from document 01's list of fields.
+//! from the sentences of the request, S-1, and from document 01's list of fields. An image has no rate: only boards of
+//! which no rate is said are parked, S-7's 'until S-8'.
 
-use calls::{Outcome, Refusal};
+use calls::{Outcome, Refusal, DEFAULT_RATE};
 
 use crate::board::Board;
 use crate::fields::{Channel, Fields, Latch};
@@ -23,7 +24,7 @@ const CONTROLLER_LENGTH: u16 = 2 + 2 + 2;
 pub const IMAGE_SIZE: usize =
     7 * 3 + (4 * CHANNEL_LENGTH + CLOCK_LENGTH + LATCHES_LENGTH + CONTROLLER_LENGTH) as usize;
 
-/// The image of a board, sound or not.
+/// The image of a board, sound or not, whatever its rate.
 pub fn image_of(fields: &Fields) -> Vec<u8> {
     let mut image = Vec::new();
     for channel in &fields.channels {
@@ -130,7 +131,7 @@ fn form(image: &[u8]) -> Option<Fields> {
         alarm_mask: clock.byte()?,
         host_seconds: clock.eight()?,
         host_nanoseconds: clock.four()?,
-        ..Fields::default()
+        ..Fields::fresh()
     };
     clock.end()?;
     let mut latches = image.field(LATCHES, LATCHES_LENGTH)?;
@@ -223,9 +224,21 @@ impl<'a> Members<'a> {
     }
 }
 
-/// Parks a fresh board at the start of a buffer, where it has room: refusal 11 otherwise. Gives the bytes written.
+/// Parks a fresh board at the start of a buffer.
 pub fn park_fresh(buffer: &mut [u8]) -> Result<usize, Refusal> {
-    let image = image_of(&Fields::fresh());
+    park(&Fields::fresh(), buffer)
+}
+
+/// Parks a board at the start of a buffer and gives the bytes written; or 1, then 15 of another rate than an image's,
+/// then 11, a short buffer, which leave the buffer as it is.
+pub fn park(fields: &Fields, buffer: &mut [u8]) -> Result<usize, Refusal> {
+    if !fields.sound() {
+        return Err(Refusal::UnsoundBoard);
+    }
+    if fields.rate != DEFAULT_RATE {
+        return Err(Refusal::UnsupportedRate);
+    }
+    let image = image_of(fields);
     let room = buffer.get_mut(..image.len()).ok_or(Refusal::BufferTooSmall)?;
     room.copy_from_slice(&image);
     Ok(image.len())

@@ -1,5 +1,5 @@
-//! The kinds of list that are measured, and the groups of operations: `bench` takes their time, `instructions` counts
-//! their instructions.
+//! The kinds of list that are measured, at a rate, and the groups of operations: `bench` takes their time,
+//! `instructions` counts their instructions.
 
 #[cfg(feature = "proved")]
 pub mod parking;
@@ -7,10 +7,11 @@ pub mod parking;
 pub mod previews;
 
 use calls::Call;
+#[cfg(feature = "proved")]
+use calls::DEFAULT_RATE;
 
 use crate::generate::Random;
 use crate::registers::{self, channel, of_channel, CHANNELS};
-use crate::sys::MASTER_CLOCK;
 use crate::writes::{alarm, byte, program, RUNNING};
 
 /// The calls of a measured list.
@@ -49,18 +50,20 @@ pub struct Group {
 #[cfg(feature = "proved")]
 pub const GROUPS: [Group; 2] = [parking::GROUP, previews::GROUP];
 
-/// The kind of a name, or every kind where none is given; nothing where there is none of that name.
-pub fn named(wanted: Option<&str>) -> Vec<Kind> {
-    let mut kinds = kinds();
+/// The kind of a name for boards of a rate, or every kind where no name is given; nothing where there is none of that
+/// name.
+pub fn named(rate: u32, wanted: Option<&str>) -> Vec<Kind> {
+    let mut kinds = kinds(rate);
     kinds.retain(|kind| wanted.is_none_or(|wanted| wanted == kind.name));
     kinds
 }
 
-/// The group of a name, or every group where none is given; nothing where there is none of that name.
+/// The group of a name, or every group where none is given; nothing where there is none of that name, or at another
+/// rate than that of parked boards, which the operations are on.
 #[cfg(feature = "proved")]
-pub fn groups(wanted: Option<&str>) -> Vec<Group> {
+pub fn groups(rate: u32, wanted: Option<&str>) -> Vec<Group> {
     let mut groups = Vec::from(GROUPS);
-    groups.retain(|group| wanted.is_none_or(|wanted| wanted == group.name));
+    groups.retain(|group| rate == DEFAULT_RATE && wanted.is_none_or(|wanted| wanted == group.name));
     groups
 }
 
@@ -81,8 +84,8 @@ fn running(prescaler: u32) -> Vec<Call> {
     calls
 }
 
-fn kinds() -> Vec<Kind> {
-    let mut random = Random::new(1);
+fn kinds(rate: u32) -> Vec<Kind> {
+    let mut random = Random::at(rate, 1);
     let mut advances = || -> Vec<Call> {
         let cycles = (0..CALLS).map(|_| random.below(5_000));
         cycles.map(|cycles| Call::Advance { cycles }).collect()
@@ -129,7 +132,7 @@ fn kinds() -> Vec<Kind> {
     let burst = [1, 1 << 40].map(|cycles| Call::Advance { cycles });
     kinds.push(kind("prescaler-0-burst", every_number, burst.repeat(CALLS / 2)));
     // Ten years of interrupts, one each simulated minute: this prescaler gives a tick each millisecond.
-    let mut minute = program(0, RUNNING | 1, MASTER_CLOCK / 1_000 - 1, 60_000, 60_000);
+    let mut minute = program(0, RUNNING | 1, rate / 1_000 - 1, 60_000, 60_000);
     minute.push(byte(registers::ENABLE + 3, 1));
     kinds.push(Kind {
         name: "ten-years",

@@ -28,14 +28,10 @@ pub mod list;
 pub mod matches;
 pub mod measure;
 pub mod preview;
+#[cfg(feature = "proved")]
+pub mod proved;
 pub mod record;
 pub mod writes;
-
-/// Stand-in for the simulator's system constants.
-pub mod sys {
-    /// Document 01's F, cycles a second.
-    pub const MASTER_CLOCK: u32 = 48_000_000;
-}
 
 /// Stand-in for the module path that irqc.rs imports from.
 mod devices {
@@ -56,15 +52,8 @@ mod devices {
 #[rustfmt::skip]
 pub mod irqc;
 
-/// timing.rs with `host_time_ns` replaced by build.rs. The child modules reach its private items.
-#[allow(dead_code, unused_imports, clippy::manual_range_contains)]
-mod timing {
-    include!(concat!(env!("OUT_DIR"), "/timing.rs"));
-
-    #[warn(dead_code, unused_imports)]
-    pub(crate) mod access;
-    #[warn(dead_code, unused_imports)]
-    pub mod registers;
-}
+/// timing.rs, built for each rate. The three builds have one text, and one text is the child of each.
+#[allow(dead_code, unused_imports, clippy::duplicate_mod, clippy::manual_range_contains)]
+pub mod timing;
 
 pub use timing::registers;

@@ -1,16 +1,17 @@
 //! The call list of document 01: runs a list on a board into an answer buffer.
 
-use calls::{Answer, Call, Outcome, Refusal, HEADER_LENGTH};
+use calls::{Answer, Call, Outcome, Refusal, HEADER_LENGTH, RATES};
 
-use crate::board::Board;
+use crate::board::{AnyBoard, BoardAt};
 use crate::matches;
+use crate::timing::{At1, At12, At48, Timing};
 
 /// The tag of an advance.
 const ADVANCE: u8 = 0x04;
 
 /// Runs the list. The buffer then holds the answers from its first byte, then its old bytes. Each advance is run by
 /// itself, and its counts are found from the channels before and after it.
-pub fn run(board: &mut Board, list: &[u8], answers: &mut [u8]) -> Outcome {
+pub fn run<T: Timing>(board: &mut BoardAt<T>, list: &[u8], answers: &mut [u8]) -> Outcome {
     let mut total = Outcome::default();
     loop {
         let rest = &list[total.list_bytes..];
@@ -46,12 +47,12 @@ fn part_length(list: &[u8]) -> usize {
 }
 
 /// Runs the list with zeros in the place of an advance's counts. The Rust has no counts, so this is the run whose time
-/// and instructions are measured. It is the only loop over calls: beside a second one the compiler would not inline the
-/// Rust into either, and the Rust would be measured at half its speed.
-fn run_uncounted(board: &mut Board, list: &[u8], answers: &mut [u8]) -> Outcome {
+/// and instructions are measured. It is the only loop over calls of a rate: beside a second one the compiler would not
+/// inline the Rust into either, and the Rust would be measured at half its speed.
+fn run_uncounted<T: Timing>(board: &mut BoardAt<T>, list: &[u8], answers: &mut [u8]) -> Outcome {
     let mut outcome = Outcome::default();
     let sound = board.sound();
-    let Board::Sound(devices) = board else {
+    let BoardAt::Sound(devices) = board else {
         return refused(outcome, Refusal::UnsoundBoard);
     };
     if !sound {
@@ -80,30 +81,77 @@ fn run_uncounted(board: &mut Board, list: &[u8], answers: &mut [u8]) -> Outcome 
     outcome
 }
 
-/// Runs `first` over a fresh board, and then `list` so many times, each time over the board that the run before it
+/// What runs `first` over a fresh board, and then `list` so many times, each time over the board that the run before it
 /// left. The outcome is the last run's.
+pub type Runner = fn(&[u8], &[u8], u64, &mut [u8]) -> Outcome;
+
+/// The runner of a board of which no rate is said.
 pub fn run_repeated(first: &[u8], list: &[u8], times: u64, answers: &mut [u8]) -> Outcome {
-    repeat(run, first, list, times, answers)
+    repeated::<At48>(first, list, times, answers)
+}
+
+/// The runner at a rate; none where it is none of the three.
+pub fn runner(rate: u32) -> Option<Runner> {
+    of_rate(rate, [repeated::<At1>, repeated::<At12>, repeated::<At48>])
 }
 
 /// The same with zeros in the place of an advance's counts: what is measured.
-pub fn run_repeated_uncounted(first: &[u8], list: &[u8], times: u64, answers: &mut [u8]) -> Outcome {
-    repeat(run_uncounted, first, list, times, answers)
+pub fn uncounted_runner(rate: u32) -> Option<Runner> {
+    of_rate(
+        rate,
+        [
+            run_repeated_uncounted::<At1>,
+            run_repeated_uncounted::<At12>,
+            run_repeated_uncounted::<At48>,
+        ],
+    )
 }
 
-fn repeat(
-    run: impl Fn(&mut Board, &[u8], &mut [u8]) -> Outcome,
+/// The runner of a rate among those of the three.
+pub(crate) fn of_rate(rate: u32, runners: [Runner; 3]) -> Option<Runner> {
+    RATES
+        .into_iter()
+        .zip(runners)
+        .find_map(|(of, runner)| (of == rate).then_some(runner))
+}
+
+fn repeated<T: Timing>(first: &[u8], list: &[u8], times: u64, answers: &mut [u8]) -> Outcome {
+    repeat::<T>(run, first, list, times, answers)
+}
+
+fn run_repeated_uncounted<T: Timing>(first: &[u8], list: &[u8], times: u64, answers: &mut [u8]) -> Outcome {
+    repeat::<T>(run_uncounted, first, list, times, answers)
+}
+
+fn repeat<T: Timing>(
+    run: impl Fn(&mut BoardAt<T>, &[u8], &mut [u8]) -> Outcome,
     first: &[u8],
     list: &[u8],
     times: u64,
     answers: &mut [u8],
 ) -> Outcome {
-    let mut board = Board::fresh();
+    let mut board = BoardAt::fresh();
     let mut outcome = run(&mut board, first, answers);
     for _ in 0..times {
         outcome = run(&mut board, list, answers);
     }
     outcome
+}
+
+/// Runs a list over a fresh board of a rate; another rate than the three is refused with 15, before all else.
+pub fn run_at(rate: u32, list: &[u8], answers: &mut [u8]) -> Outcome {
+    match AnyBoard::fresh_at(rate) {
+        (_, Some(refusal)) => refused(Outcome::default(), refusal),
+        (mut board, None) => board.run(list, answers),
+    }
+}
+
+/// The same with a first list, and then a second so many times.
+pub fn run_repeated_at(rate: u32, first: &[u8], list: &[u8], times: u64, answers: &mut [u8]) -> Outcome {
+    match runner(rate) {
+        None => refused(Outcome::default(), Refusal::UnsupportedRate),
+        Some(runner) => runner(first, list, times, answers),
+    }
 }
 
 fn refused(outcome: Outcome, refusal: Refusal) -> Outcome {

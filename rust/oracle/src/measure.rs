@@ -1,11 +1,11 @@
-//! What the programs that measure share: repeats in nanoseconds, instructions that callgrind counts, and whether two
-//! builds of the library give the same answers.
+//! What the programs that measure share: the rate that is asked for, repeats in nanoseconds, instructions that
+//! callgrind counts, and whether two builds of the library give the same answers.
 
 use std::env;
 use std::iter;
 use std::process::Command;
 
-use calls::{HEADER_LENGTH, NANOSECONDS_PER_SECOND};
+use calls::{DEFAULT_RATE, HEADER_LENGTH, NANOSECONDS_PER_SECOND, RATES};
 
 /// How often each measured piece of work is timed.
 pub const REPEATS: usize = 25;
@@ -13,6 +13,18 @@ pub const REPEATS: usize = 25;
 /// The repetitions of a list in the two runs whose instructions are compared. The first repetition is in both: it
 /// leaves a board as the later ones find it.
 const REPETITIONS: [u64; 2] = [1, 9];
+
+/// The rate that arguments begin with, as `--rate RATE`, or else that of a board of which none is said; and the other
+/// arguments. An error where it is none of the three.
+pub fn rate_asked<'a>(arguments: &'a [&'a str]) -> Result<(u32, &'a [&'a str]), String> {
+    match arguments {
+        ["--rate", rate, others @ ..] => match rate.parse() {
+            Ok(rate) if RATES.contains(&rate) => Ok((rate, others)),
+            _ => Err(format!("the rate is one of {RATES:?}")),
+        },
+        others => Ok((DEFAULT_RATE, others)),
+    }
+}
 
 pub fn sorted(mut values: Vec<f64>) -> Vec<f64> {
     values.sort_by(f64::total_cmp);

@@ -1,25 +1,49 @@
-//! The one replacement in timing.rs: the body of `host_time_ns` becomes the board's host time.
-//! build.rs makes it; the tests check that it is refused where the text is missing or doubled.
+//! The two replacements in timing.rs: the body of `host_time_ns` becomes the board's host time, and `MASTER_CLOCK`
+//! comes from the module that the text is built in, so that one text is built for each rate. build.rs makes them; the
+//! tests check that they are refused where the text is missing or doubled.
 
-/// The body of `host_time_ns` in timing.rs, to the letter.
-pub const SYSTEM_TIME_BODY: &str = "    fn host_time_ns() -> i128 {
+/// A piece of timing.rs, to the letter, and what stands in its place.
+pub struct Replacement {
+    pub what: &'static str,
+    pub original: &'static str,
+    pub replaced: &'static str,
+}
+
+pub const REPLACEMENTS: [Replacement; 2] = [
+    Replacement {
+        what: "the body of host_time_ns",
+        original: "    fn host_time_ns() -> i128 {
         SystemTime::now()
             .duration_since(UNIX_EPOCH)
             .map(|duration| duration.as_nanos().min(i128::MAX as u128) as i128)
             .unwrap_or(0)
     }
-";
-
-/// What stands in its place.
-pub const BOARD_TIME_BODY: &str = "    fn host_time_ns() -> i128 {
+",
+        replaced: "    fn host_time_ns() -> i128 {
         crate::host_time::host_time_ns()
     }
-";
+",
+    },
+    Replacement {
+        what: "the import of MASTER_CLOCK",
+        original: "use crate::sys::MASTER_CLOCK;\n",
+        replaced: "use self::sys::MASTER_CLOCK;\n",
+    },
+];
 
-/// The text of timing.rs with that body replaced; an error where it does not stand there exactly once.
-pub fn replace_host_time(text: &str) -> Result<String, String> {
-    match text.matches(SYSTEM_TIME_BODY).count() {
-        1 => Ok(text.replacen(SYSTEM_TIME_BODY, BOARD_TIME_BODY, 1)),
-        count => Err(format!("the body of host_time_ns must stand once, found {count} times")),
+/// The text of timing.rs with both replaced; an error where one does not stand there exactly once.
+pub fn replace(text: &str) -> Result<String, String> {
+    let mut text = text.to_string();
+    for Replacement {
+        what,
+        original,
+        replaced,
+    } in REPLACEMENTS
+    {
+        text = match text.matches(original).count() {
+            1 => text.replacen(original, replaced, 1),
+            count => return Err(format!("{what} must stand once, found {count} times")),
+        };
     }
+    Ok(text)
 }

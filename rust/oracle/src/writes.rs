@@ -5,7 +5,6 @@ use calls::Call;
 
 use crate::fields::Channel;
 use crate::registers::{self, channel, of_channel};
-use crate::sys::MASTER_CLOCK;
 
 pub fn byte(address: u16, byte: u8) -> Call {
     Call::Write { address, byte }
@@ -98,10 +97,10 @@ pub fn set_channel(number: usize, wanted: &Channel) -> Vec<Call> {
     calls
 }
 
-/// Sets the alarm of a clock that stands at 0 and does not run from host time, due after exactly `deadline` cycles. It
-/// advances the board, by less than a second.
-pub fn alarm_due(deadline: u128) -> Vec<Call> {
-    let second = u128::from(MASTER_CLOCK);
+/// Sets the alarm of a clock of a rate that stands at 0 and does not run from host time, due after exactly `deadline`
+/// cycles. It advances the board, by less than a second.
+pub fn alarm_due(rate: u32, deadline: u128) -> Vec<Call> {
+    let second = u128::from(rate);
     let seconds = deadline.div_ceil(second);
     let mut calls = alarm(seconds as u64);
     calls.push(Call::Advance {

@@ -31,6 +31,21 @@ uint8_t pec_run_repeated(const uint8_t *first, size_t first_length, const uint8_
                          uint64_t times, uint8_t *answers, size_t answers_length, size_t *calls, size_t *used,
                          size_t *written);
 
+/* The rates of boards, in cycles a second: so many cycles are a second of the clock, and a thousandth of them lie
+   between two polls of an alarm on host time. The functions that take no rate are about boards at PEC_RATE_DEFAULT. */
+#define PEC_RATE_1_MHZ 1000000
+#define PEC_RATE_12_MHZ 12000000
+#define PEC_RATE_48_MHZ 48000000
+#define PEC_RATE_DEFAULT PEC_RATE_48_MHZ
+
+/* What `pec_run` and `pec_run_repeated` do, over a fresh board of a rate. A rate other than these three is refused with
+   15, ahead of all else: nothing is done, the answer buffer stays, and the counts are 0. */
+uint8_t pec_run_at(uint32_t rate, const uint8_t *list, size_t list_length, uint8_t *answers, size_t answers_length,
+                   size_t *calls, size_t *used, size_t *written);
+uint8_t pec_run_repeated_at(uint32_t rate, const uint8_t *first, size_t first_length, const uint8_t *list,
+                            size_t list_length, uint64_t times, uint8_t *answers, size_t answers_length,
+                            size_t *calls, size_t *used, size_t *written);
+
 /* Writes the listing of a run at the start of `text`, as much of it as fits: a line for each answer, its tag and value
    in hexadecimal, and a last line with calls done, refusal and list bytes used in decimal. The result is the listing's
    length, at most twice `answers_length` and 67; no zero byte follows it. */

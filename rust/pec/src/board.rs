@@ -6,7 +6,7 @@ use crate::parked::{image_refusal, park_fresh, preview_parked, run_parked, IMAGE
 use crate::{Outcome, Refusal};
 
 /// A board, held as its image: the bytes that park it. An image is the only image of its board, so boards are equal
-/// where their images are.
+/// where their images are. It has no rate, so that the board is at [`DEFAULT_RATE`](crate::DEFAULT_RATE).
 ///
 /// ```
 /// use pec::{list_of, Board, Call, Refusal};

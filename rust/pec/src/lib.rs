@@ -3,10 +3,10 @@
 //! The functions here call the static library `libpec.a`, which `rt staticlib pec` proves and writes from
 //! crates/pec. Each is safe: the library's contracts ask nothing of their callers, and it keeps nothing between
 //! calls. A call list and its answers are bytes that the caller lends; the types of the crate rust/calls, which stand
-//! here too, make and read them. [`run`] takes a fresh board; a [`Board`] goes on from list to list, and its image
-//! keeps it while no program runs; [`Board::preview`] tells of many totals of cycles whether its line would be high
-//! after each. A [`Controller`] is the interrupt controller by itself, and a [`Dispatcher`] above it serves its sources
-//! in turn.
+//! here too, make and read them. [`run`] takes a fresh board, and [`run_at`] one of another rate; a [`Board`] goes on
+//! from list to list, and its image keeps it while no program runs; [`Board::preview`] tells of many totals of cycles
+//! whether its line would be high after each. A [`Controller`] is the interrupt controller by itself, and a
+//! [`Dispatcher`] above it serves its sources in turn.
 //!
 //! ```
 //! use pec::{answers, list_of, Answer, Call, Refusal};
@@ -31,7 +31,9 @@ mod dispatcher;
 mod parked;
 
 pub use board::Board;
-pub use calls::{answers, list_of, Answer, Answers, Call, DamagedAnswers, Fault, Outcome, Refusal};
+pub use calls::{
+    answers, list_of, Answer, Answers, Call, DamagedAnswers, Fault, Outcome, Refusal, DEFAULT_RATE, RATES,
+};
 pub use controller::{Controller, IrqOutput};
 pub use dispatcher::Dispatcher;
 pub use parked::{image_refusal, park_fresh, preview_parked, run_parked, IMAGE_SIZE};
@@ -59,6 +61,29 @@ unsafe extern "C" {
         used: *mut usize,
         written: *mut usize,
     ) -> u8;
+    fn pec_run_at(
+        rate: u32,
+        list: *const u8,
+        list_length: usize,
+        answers: *mut u8,
+        answers_length: usize,
+        calls: *mut usize,
+        used: *mut usize,
+        written: *mut usize,
+    ) -> u8;
+    fn pec_run_repeated_at(
+        rate: u32,
+        first: *const u8,
+        first_length: usize,
+        list: *const u8,
+        list_length: usize,
+        times: u64,
+        answers: *mut u8,
+        answers_length: usize,
+        calls: *mut usize,
+        used: *mut usize,
+        written: *mut usize,
+    ) -> u8;
     fn pec_listing(
         answers: *const u8,
         answers_length: usize,
@@ -72,7 +97,7 @@ unsafe extern "C" {
 
 /// The refusal of a number that the library gives, 0 for none.
 fn refusal_of(number: u8) -> Option<Refusal> {
-    (number != 0).then(|| Refusal::from_number(number).expect("the library's refusals are 1 to 14"))
+    (number != 0).then(|| Refusal::from_number(number).expect("the library's refusals are 1 to 15"))
 }
 
 /// The outcome of a call of the library that writes calls, list bytes and answer bytes and gives the refusal's number,
@@ -104,6 +129,54 @@ pub fn run_repeated(first: &[u8], list: &[u8], times: u64, answers: &mut [u8]) -
     // SAFETY: as in `run`; the two lists are only read.
     outcome_of(|calls, used, written| unsafe {
         pec_run_repeated(
+            start,
+            length,
+            list.as_ptr(),
+            list.len(),
+            times,
+            from,
+            room,
+            calls,
+            used,
+            written,
+        )
+    })
+}
+
+/// Runs a list over a fresh board of a rate, one of [`RATES`]: so many cycles are a second of its clock, and a
+/// thousandth of them lie between two polls of an alarm on host time. [`run`] is the same at [`DEFAULT_RATE`].
+///
+/// Another rate is refused by [`Refusal::UnsupportedRate`], ahead of all else: nothing is done, and the buffer stays.
+///
+/// ```
+/// use pec::{list_of, run_at, Call, Outcome, Refusal, RATES};
+///
+/// // A second of cycles, and the clock's seconds, whose lowest byte is at address 0x08B.
+/// for rate in RATES {
+///     let list = list_of(&[Call::Advance { cycles: rate.into() }, Call::Read { address: 0x08B }]);
+///     let mut buffer = [0; 72];
+///     assert_eq!(run_at(rate, &list, &mut buffer).refusal, None);
+///     assert_eq!(buffer[68..], [2, 0, 1, 1]);
+/// }
+/// let refused = Outcome { refusal: Some(Refusal::UnsupportedRate), ..Outcome::default() };
+/// assert_eq!(run_at(24_000_000, &[], &mut []), refused);
+/// ```
+pub fn run_at(rate: u32, list: &[u8], answers: &mut [u8]) -> Outcome {
+    let (from, room) = (answers.as_mut_ptr(), answers.len());
+    // SAFETY: as in `run`.
+    outcome_of(|calls, used, written| unsafe {
+        pec_run_at(rate, list.as_ptr(), list.len(), from, room, calls, used, written)
+    })
+}
+
+/// What [`run_repeated`] does, over a fresh board of a rate; another rate is refused as by [`run_at`].
+pub fn run_repeated_at(rate: u32, first: &[u8], list: &[u8], times: u64, answers: &mut [u8]) -> Outcome {
+    let (from, room) = (answers.as_mut_ptr(), answers.len());
+    let (start, length) = (first.as_ptr(), first.len());
+    // SAFETY: as in `run`; the two lists are only read.
+    outcome_of(|calls, used, written| unsafe {
+        pec_run_repeated_at(
+            rate,
             start,
             length,
             list.as_ptr(),

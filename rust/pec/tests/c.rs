@@ -1,5 +1,6 @@
-//! C and C++ programs over the header and the archive: document 01's worked answers, counts of matches, parked boards, a
-//! skip that is refused, previews of many totals, turns of the dispatcher, and the memory that the library uses.
+//! C and C++ programs over the header and the archive: document 01's worked answers, boards of each rate, counts of
+//! matches, parked boards, a skip that is refused, previews of many totals, turns of the dispatcher, and the memory
+//! that the library uses.
 
 use std::env;
 use std::io::Write;
@@ -61,6 +62,26 @@ fn a_program_links_the_archive_from_c_and_from_cpp() {
     let run = format!("02 01\n04 00{zeros}\n0a 0000\nend 3 2 19\n159 02 01\n");
     for language in [C, CPP] {
         assert_eq!(printed("listing", language, &[]), format!("{run}{run}109 105\n"));
+    }
+}
+
+#[test]
+fn boards_of_each_rate_are_run_from_c_and_from_cpp() {
+    let due = "1000000: due after 2000000, line after a second and two: 0 1\n\
+               12000000: due after 24000000, line after a second and two: 0 1\n\
+               48000000: due after 96000000, line after a second and two: 0 1\n";
+    // The refusal, the three counts, which were 99, and the buffer; with room and without.
+    let refused: String = [0, 999_999, 24_000_000, 48_000_001, u32::MAX]
+        .into_iter()
+        .flat_map(|rate| {
+            [80, 0].map(|room| format!("{rate} into {room}: run 15 0 0 0 stays repeated 15 0 0 0 stays\n"))
+        })
+        .collect();
+    // The same lists at a rate of the three: a deadline is done, and the cut call behind it refused; or 11.
+    let accepted = "48000000 into 80: run 2 1 3 28 written repeated 2 1 3 28 written\n\
+                    48000000 into 0: run 11 0 0 0 stays repeated 11 0 0 0 stays\n";
+    for language in [C, CPP] {
+        assert_eq!(printed("rates", language, &[]), format!("{due}{refused}{accepted}"));
     }
 }
 
@@ -153,13 +174,14 @@ fn a_run_and_a_preview_use_little_stack() {
     ]);
     calls.extend([Call::ControllerWrite { address: 5, byte: 255 }, Call::Output]);
     let text = printed("stack", C, &list_of(&calls));
-    let [alone, run, parked, preview] = [0, 1, 2, 3].map(|place| {
-        let figure = text.split_whitespace().nth(place).expect("four figures");
+    let [alone, run, at_a_rate, parked, preview] = [0, 1, 2, 3, 4].map(|place| {
+        let figure = text.split_whitespace().nth(place).expect("five figures");
         figure.parse::<usize>().expect("decimal")
     });
     assert!(alone > 0, "{text}");
     for (name, used) in [
         ("a run", run),
+        ("a run at a rate", at_a_rate),
         ("a run over a parked board", parked),
         ("a preview", preview),
     ] {

@@ -1,6 +1,6 @@
 /* Prints the bytes of stack that a thread uses, first alone, then with a run of the list on standard input, then with a
-   run of it over a parked board, and then with previews of a parked board: the stack is filled before, and what no
-   longer holds the filling was used. */
+   run of it at a rate of its own, then with a run of it over a parked board, and then with previews of a parked board:
+   the stack is filled before, and what no longer holds the filling was used. */
 #define _POSIX_C_SOURCE 200809L
 #include "pec.h"
 
@@ -23,6 +23,14 @@ static void *run(void *unused)
 {
     size_t calls, used, written;
     pec_run_repeated(list, 0, list, list_length, 3, answers, sizeof answers, &calls, &used, &written);
+    return unused;
+}
+
+static void *run_at(void *unused)
+{
+    size_t calls, used, written;
+    pec_run_repeated_at(PEC_RATE_12_MHZ, list, 0, list, list_length, 3, answers, sizeof answers, &calls, &used,
+                        &written);
     return unused;
 }
 
@@ -65,8 +73,9 @@ static size_t used_by(void *(*work)(void *))
 int main(void)
 {
     list_length = fread(list, 1, sizeof list, stdin);
-    size_t written, alone = used_by(nothing), with_run = used_by(run), with_parked = used_by(run_parked);
+    size_t written, alone = used_by(nothing), with_run = used_by(run), with_rate = used_by(run_at),
+                    with_parked = used_by(run_parked);
     pec_fresh(fresh, sizeof fresh, &written);
-    printf("%zu %zu %zu %zu\n", alone, with_run, with_parked, used_by(preview));
+    printf("%zu %zu %zu %zu %zu\n", alone, with_run, with_rate, with_parked, used_by(preview));
     return 0;
 }

@@ -8,45 +8,56 @@
 //! prints how the Rust is built. Then it prints nanoseconds of the work on parked boards, which is the proved board's
 //! alone, and their ratios to an advance inside a long list; and of previews, with their ratios to an advance of a copy
 //! of the Rust's board. `bench NAME` prints one kind alone, `bench parking` the parked boards, `bench previews` the
-//! previews.
+//! previews. `bench --rate RATE [NAME]` prints the lists at another rate; there are no images of such boards, and so no
+//! other work.
 
 use std::process::ExitCode;
 use std::time::Instant;
 
 use calls::list_of;
-use oracle::compare::Runner;
 use oracle::kinds::{self, previews, Group, Kind, BUFFER, CALLS};
-use oracle::measure::{median_ratio, nanoseconds_each, sorted, REPEATS};
-use oracle::{list, matches};
+use oracle::measure::{median_ratio, nanoseconds_each, rate_asked, sorted, REPEATS};
+use oracle::{list, matches, proved};
 
 /// The times that one repeat carries out an operation of a group.
 const TIMES: u64 = 100 * CALLS as u64;
 
 fn main() -> ExitCode {
     if cfg!(debug_assertions) {
-        eprintln!("bench: not built for release");
-        return ExitCode::FAILURE;
+        return failed("not built for release");
     }
-    let wanted = std::env::args().nth(1);
-    let kinds = kinds::named(wanted.as_deref());
-    let groups = kinds::groups(wanted.as_deref());
+    let arguments: Vec<String> = std::env::args().skip(1).collect();
+    let arguments: Vec<&str> = arguments.iter().map(String::as_str).collect();
+    let (rate, wanted) = match rate_asked(&arguments) {
+        Ok((rate, [])) => (rate, None),
+        Ok((rate, [name])) => (rate, Some(*name)),
+        Ok(_) => return failed("usage: bench [--rate RATE] [NAME]"),
+        Err(reason) => return failed(&reason),
+    };
+    let kinds = kinds::named(rate, wanted);
+    let groups = kinds::groups(rate, wanted);
     if kinds.is_empty() && groups.is_empty() {
-        eprintln!("bench: no kind of that name");
-        return ExitCode::FAILURE;
+        return failed("no kind of that name");
     }
     if !kinds.is_empty() {
-        println!("The Rust is built for release with {}.\n", release_profile());
+        println!("The Rust is built for release with {}.", release_profile());
+        println!("The boards have {rate} cycles a second.\n");
         println!("| List | Calls | Rust, ns a call | proved, ns a call | ratio | Rust, s | proved, s |");
         println!("|---|---|---|---|---|---|---|");
     }
     for kind in &kinds {
-        measure(kind);
+        measure(rate, kind);
     }
     assert!(previews::agree(), "the previews are not what advances of copies show");
     for group in &groups {
         measure_group(group);
     }
     ExitCode::SUCCESS
+}
+
+fn failed(reason: &str) -> ExitCode {
+    eprintln!("bench: {reason}");
+    ExitCode::FAILURE
 }
 
 /// The operations of a group, in turns as the lists are.
@@ -82,7 +93,10 @@ fn release_profile() -> String {
     settings.join(", ")
 }
 
-fn measure(kind: &Kind) {
+fn measure(rate: u32, kind: &Kind) {
+    let of_rate = "the rate is one of the three";
+    let runners = [list::uncounted_runner(rate), proved::runner(rate)].map(|runner| runner.expect(of_rate));
+    let counting = list::runner(rate).expect(of_rate);
     let first = list_of(&kind.first);
     let list = list_of(&kind.list);
     let calls = kind.list.len() as u64 * kind.times;
@@ -91,7 +105,6 @@ fn measure(kind: &Kind) {
     // The two take turns, so that a slow spell of the machine meets both, and their ratio is that of two repeats next
     // to each other.
     for _ in 0..REPEATS {
-        let runners: [Runner; 2] = [list::run_repeated_uncounted, pec::run_repeated];
         for ((runner, seconds), buffer) in runners.into_iter().zip(&mut seconds).zip(&mut buffers) {
             let start = Instant::now();
             let outcome = runner(&first, &list, kind.times, buffer);
@@ -101,7 +114,7 @@ fn measure(kind: &Kind) {
         }
     }
     let mut counted = vec![0; BUFFER];
-    let outcome = list::run_repeated(&first, &list, kind.times, &mut counted);
+    let outcome = counting(&first, &list, kind.times, &mut counted);
     assert!(buffers[1] == counted, "{}: the answers differ", kind.name);
     counted.truncate(outcome.answer_bytes);
     matches::zero_counts(&mut counted);

@@ -2,10 +2,11 @@
 //!
 //! `compare FIRST LAST` compares the lists of the seeds from FIRST to LAST, what the boards hold after each, and lists
 //! over parked boards and previews by the same seeds. `compare all FIRST LAST` compares these, and every register with
-//! every byte, damaged lists, short buffers, skips to large deadlines, advances with counts of matches at limits,
-//! prescalers at their limits, damaged images, previews to large deadlines and of damaged images, the controller by
-//! itself, and the dispatcher. Ends with how many comparisons agreed, or prints the shortest list that shows a
-//! difference.
+//! every byte, the clock about its limits, rates that no board has, damaged lists, short buffers, skips to large
+//! deadlines, advances with counts of matches at limits, prescalers at their limits, damaged images, previews to large
+//! deadlines and of damaged images, the controller by itself, and the dispatcher. The lists of the seeds, the registers
+//! and the clock are compared at each of the three rates, and all else at that of a board of which none is said. Prints
+//! the comparisons of each part, and ends with how many agreed, or prints the shortest list that shows a difference.
 //!
 //! The Rust has neither the counts in an advance's answer nor the dispatcher: there the proved board is compared with
 //! the oracle's own reading of S-4 and of S-3. It has no previews either: each byte of one is compared with an advance of
@@ -14,15 +15,18 @@
 use std::process::ExitCode;
 use std::time::Instant;
 
+use calls::{DEFAULT_RATE, RATES};
+use oracle::compare::clock::{self, AtRates};
 use oracle::compare::parked::{self, Parking};
 use oracle::compare::{controller, dispatcher, matches, passes, prescaler, previews, skips};
 use oracle::compare::{Count, Difference, Pair};
 use oracle::dispatcher::Turn;
-use oracle::list;
+use oracle::list::Runner;
+use oracle::proved;
 
-const PAIR: Pair = Pair {
-    rust: list::run_repeated,
-    other: pec::run_repeated,
+const AT_RATES: AtRates = AtRates {
+    run: pec::run_at,
+    run_repeated: pec::run_repeated_at,
 };
 
 const PARKING: Parking = Parking {
@@ -41,6 +45,11 @@ fn proved_turn([pending, enable, levels]: [u16; 3], last: u8) -> Turn {
         served,
         remembered: dispatcher.last(),
     }
+}
+
+/// The Rust and the proved board at a rate.
+fn pair(rate: u32, runner: fn(u32) -> Option<Runner>) -> Pair {
+    Pair::at(rate, runner(rate).expect("the rate is one of the three"))
 }
 
 fn main() -> ExitCode {
@@ -76,17 +85,20 @@ fn usage() -> ExitCode {
 
 fn compare(all: bool, first: u64, last: u64) -> Result<Count, String> {
     let mut total = Count::default();
-    let mut own = 0;
-    let lists = part("lists by seed", &mut total, || {
-        let mut count = Count::default();
-        for seed in first..=last {
-            own += passes::seed_calls(&PAIR, seed);
-            count.add(passes::seed(&PAIR, seed).map_err(|difference| format!("seed {seed}: {difference}"))?);
-        }
-        Ok(count)
-    });
-    lists?;
-    println!("  of these, {own} calls of the seeds' own lists");
+    for rate in RATES {
+        let mut own = 0;
+        let lists = part(&at("lists by seed", rate), &mut total, || {
+            let pair = pair(rate, proved::runner);
+            let mut count = Count::default();
+            for seed in first..=last {
+                own += passes::seed_calls(&pair, seed);
+                count.add(passes::seed(&pair, seed).map_err(|difference| format!("seed {seed}: {difference}"))?);
+            }
+            Ok(count)
+        });
+        lists?;
+        println!("  of these, {own} calls of the seeds' own lists");
+    }
     part("parked boards by seed", &mut total, || {
         let mut count = Count::default();
         for seed in first..=last {
@@ -119,16 +131,29 @@ fn compare(all: bool, first: u64, last: u64) -> Result<Count, String> {
     println!("  in these, {shown} totals, each against an advance of the Rust");
     if all {
         let text = |difference: Box<Difference>| difference.to_string();
-        part("registers", &mut total, || passes::registers(&PAIR).map_err(text))?;
-        part("damaged lists", &mut total, || passes::damaged(&PAIR).map_err(text))?;
-        part("short buffers", &mut total, || {
-            passes::short_buffers(&PAIR).map_err(text)
+        let default = pair(DEFAULT_RATE, proved::runner);
+        for rate in RATES {
+            part(&at("registers", rate), &mut total, || {
+                passes::registers(&pair(rate, proved::runner)).map_err(text)
+            })?;
+        }
+        for rate in RATES {
+            part(&at("the clock", rate), &mut total, || {
+                clock::lists(&pair(rate, proved::runner_at)).map_err(text)
+            })?;
+        }
+        part("rates that no board has, and the three", &mut total, || {
+            clock::rates(&AT_RATES)
         })?;
-        part("skips", &mut total, || skips::lists(&PAIR).map_err(text))?;
+        part("damaged lists", &mut total, || passes::damaged(&default).map_err(text))?;
+        part("short buffers", &mut total, || {
+            passes::short_buffers(&default).map_err(text)
+        })?;
+        part("skips", &mut total, || skips::lists(&default).map_err(text))?;
         part("skips of parked boards", &mut total, || skips::parked(&PARKING))?;
-        part("matches", &mut total, || matches::lists(&PAIR).map_err(text))?;
+        part("matches", &mut total, || matches::lists(&default).map_err(text))?;
         println!("  in these as in all lists, an advance's counts are against the oracle's own reading of S-4");
-        part("prescalers", &mut total, || prescaler::lists(&PAIR).map_err(text))?;
+        part("prescalers", &mut total, || prescaler::lists(&default).map_err(text))?;
         part("prescalers of parked boards", &mut total, || {
             prescaler::parked(&PARKING)
         })?;
@@ -145,6 +170,19 @@ fn compare(all: bool, first: u64, last: u64) -> Result<Count, String> {
         println!("  in these, {turns} turns of the dispatcher, against the oracle's own reading of S-3");
     }
     Ok(total)
+}
+
+/// A part's name with its rate.
+fn at(name: &str, rate: u32) -> String {
+    format!("{name} at {} cycles a second", thousands(rate))
+}
+
+/// A number with its digits in groups of three.
+fn thousands(number: u32) -> String {
+    let digits = number.to_string();
+    let groups = digits.as_bytes().rchunks(3).rev();
+    let groups = groups.map(|group| std::str::from_utf8(group).expect("digits are ASCII"));
+    groups.collect::<Vec<_>>().join(",")
 }
 
 fn part(name: &str, total: &mut Count, compare: impl FnOnce() -> Result<Count, String>) -> Result<(), String> {

@@ -4,31 +4,35 @@
 //!
 //! `instructions` prints, for each kind of list, the instructions a call of both, and then those of the work on parked
 //! boards, which is the proved board's alone, and of previews. `instructions NAME` prints one kind alone,
-//! `instructions parking` the parked boards, `instructions previews` the previews. It counts by running itself under
-//! callgrind: `instructions NAME BOARD TIMES` repeats the list of that name so many times, and `instructions NAME TIMES`
-//! 4,000 times the operation of that name.
+//! `instructions parking` the parked boards, `instructions previews` the previews. `instructions --rate RATE [NAME]`
+//! prints the lists at another rate; there are no images of such boards, and so no other work. It counts by running
+//! itself under callgrind: `instructions --rate RATE NAME BOARD TIMES` repeats the list of that name so many times, and
+//! `instructions NAME TIMES` 4,000 times the operation of that name.
 
 use std::env;
 use std::process::ExitCode;
 
 use calls::list_of;
-use oracle::compare::Runner;
 use oracle::kinds::{self, BUFFER, CALLS, GROUPS};
-use oracle::list;
-use oracle::measure::instructions_each;
+use oracle::list::{self, Runner};
+use oracle::measure::{instructions_each, rate_asked};
+use oracle::proved;
 
-const BOARDS: [(&str, Runner); 2] = [("Rust", list::run_repeated_uncounted), ("Proved", pec::run_repeated)];
+/// A board's name, and its runner at a rate.
+type Board = (&'static str, fn(u32) -> Option<Runner>);
+
+const BOARDS: [Board; 2] = [("Rust", list::uncounted_runner), ("Proved", proved::runner)];
 
 fn main() -> ExitCode {
     let arguments: Vec<String> = env::args().skip(1).collect();
     let arguments: Vec<&str> = arguments.iter().map(String::as_str).collect();
-    let done = match arguments[..] {
-        [] => table(None),
-        [name] => table(Some(name)),
+    let done = rate_asked(&arguments).and_then(|(rate, others)| match *others {
+        [] => table(rate, None),
+        [name] => table(rate, Some(name)),
         [name, times] => repeat_operation(name, times),
-        [name, board, times] => repeat_list(name, board, times),
-        _ => Err("usage: instructions [NAME]".into()),
-    };
+        [name, board, times] => repeat_list(rate, name, board, times),
+        _ => Err("usage: instructions [--rate RATE] [NAME]".into()),
+    });
     match done {
         Ok(()) => ExitCode::SUCCESS,
         Err(reason) => {
@@ -38,9 +42,9 @@ fn main() -> ExitCode {
     }
 }
 
-fn table(wanted: Option<&str>) -> Result<(), String> {
-    let kinds = kinds::named(wanted);
-    let groups = kinds::groups(wanted);
+fn table(rate: u32, wanted: Option<&str>) -> Result<(), String> {
+    let kinds = kinds::named(rate, wanted);
+    let groups = kinds::groups(rate, wanted);
     if kinds.is_empty() && groups.is_empty() {
         return Err("no kind of that name".into());
     }
@@ -50,7 +54,9 @@ fn table(wanted: Option<&str>) -> Result<(), String> {
         println!("|---|---|---|");
     }
     for kind in &kinds {
-        let [rust, proved] = [rust, proved].map(|board| instructions_each(&[kind.name, board], kind.list.len()));
+        let rate = rate.to_string();
+        let counted = |board| instructions_each(&["--rate", &rate, kind.name, board], kind.list.len());
+        let [rust, proved] = [rust, proved].map(counted);
         println!("| {} | {} | {} |", kind.name, rust?, proved?);
     }
     for group in &groups {
@@ -79,14 +85,15 @@ fn repeat_operation(name: &str, times: &str) -> Result<(), String> {
     Ok(())
 }
 
-/// Repeats a list so many times on a board: what is counted.
-fn repeat_list(name: &str, board: &str, times: &str) -> Result<(), String> {
+/// Repeats a list so many times on a board of a rate: what is counted.
+fn repeat_list(rate: u32, name: &str, board: &str, times: &str) -> Result<(), String> {
     let times = repetitions(times)?;
     let (board, runner) = BOARDS
         .into_iter()
         .find(|(named, _)| *named == board)
         .ok_or("no board of that name")?;
-    let kinds = kinds::named(Some(name));
+    let runner = runner(rate).ok_or("no board of that rate")?;
+    let kinds = kinds::named(rate, Some(name));
     let kind = kinds.first().ok_or("no kind of that name")?;
     let mut answers = vec![0; BUFFER];
     let outcome = runner(&list_of(&kind.first), &list_of(&kind.list), times, &mut answers);

@@ -5,7 +5,8 @@
 //! repeats of the first library, and the instructions a call. It counts these by running itself under callgrind:
 //! `libraries repeat NAME FILE TIMES` repeats the list of that name so many times.
 //!
-//! The libraries must agree in every answer, as far as the shorter one goes: an earlier one may give fewer members.
+//! The libraries must agree in every answer, as far as the shorter one goes: an earlier one may give fewer members. Some
+//! take no rate, so that all are measured on boards of which none is said.
 
 use std::env;
 use std::ffi::{c_char, c_int, c_void, CStr, CString};
@@ -13,7 +14,7 @@ use std::mem::transmute;
 use std::process::ExitCode;
 use std::time::Instant;
 
-use calls::list_of;
+use calls::{list_of, DEFAULT_RATE};
 use oracle::kinds::{self, Kind, BUFFER};
 use oracle::measure::{agree, instructions_each, median_ratio, nanoseconds_each, REPEATS};
 
@@ -127,7 +128,7 @@ fn table(files: &[&str]) -> Result<(), String> {
     let libraries: Vec<Library> = files.iter().map(|file| Library::load(file)).collect::<Result<_, _>>()?;
     println!("| List | Library | ns a call | ratio to the first | instructions a call |");
     println!("|---|---|---|---|---|");
-    for kind in kinds::named(None) {
+    for kind in kinds::named(DEFAULT_RATE, None) {
         measure(&kind, &libraries)?;
     }
     Ok(())
@@ -172,7 +173,7 @@ fn measure(kind: &Kind, libraries: &[Library]) -> Result<(), String> {
 /// Repeats a list so many times: what is counted.
 fn repeat(name: &str, file: &str, times: &str) -> Result<(), String> {
     let times: u64 = times.parse().map_err(|_| "the repetitions are a number")?;
-    let kinds = kinds::named(Some(name));
+    let kinds = kinds::named(DEFAULT_RATE, Some(name));
     let kind = kinds.first().ok_or("no kind of that name")?;
     let library = Library::load(file)?;
     library.repeat(kind, &lists(kind), times, &mut vec![0; BUFFER])?;

@@ -1,7 +1,7 @@
 //! Parked boards against the rules of `image`: lists over images, in one run, in two and call by call; images that are
 //! damaged; and buffers that a fresh board is parked in.
 
-use calls::{list_of, Call, Outcome, Refusal};
+use calls::{list_of, Call, Outcome, Refusal, DEFAULT_RATE};
 
 use super::{calls_of, calls_text, hex, passes, shortest, Count, OLD};
 use crate::board::Board;
@@ -221,7 +221,7 @@ pub fn images() -> Vec<(String, Fields)> {
         list::run(&mut board, list, &mut vec![0; buffer]);
         board.fields()
     };
-    let prepared = passes::prepared();
+    let prepared = passes::prepared(DEFAULT_RATE);
     let prepared = prepared.iter().enumerate();
     let mut images: Vec<(String, Fields)> = prepared
         .map(|(number, list)| (format!("prepared board {number}"), after(list, passes::BUFFER)))

@@ -2,12 +2,11 @@
 
 use std::thread;
 
-use calls::{list_of, Call};
+use calls::{list_of, Call, DEFAULT_RATE};
 
 use super::{readouts, Count, Difference, Pair};
 use crate::generate;
 use crate::registers::{self, channel, of_channel, CHANNELS};
-use crate::sys::MASTER_CLOCK;
 use crate::writes::{alarm, byte, two_words, word};
 
 /// The answer buffer of a run that is to have room.
@@ -21,20 +20,20 @@ pub type Compared = Result<Count, Box<Difference>>;
 
 /// The list of a seed, then what the board holds after it, and then the list of the next seed over that board.
 pub fn seed(pair: &Pair, seed: u64) -> Compared {
-    let generated = generate::list(seed);
+    let generated = generate::list_at(pair.rate, seed);
     let list = &generated.list;
     let mut count = pair.compare(list, None, generated.buffer)?;
     for readout in readouts() {
         count.add(pair.compare(list, Some(&readout), BUFFER)?);
     }
-    let next = generate::list(seed.wrapping_add(1));
+    let next = generate::list_at(pair.rate, seed.wrapping_add(1));
     count.add(pair.compare(list, Some(&next.list), next.buffer)?);
     Ok(count)
 }
 
 /// The calls of the list of a seed that a run carries out, to count them.
 pub fn seed_calls(pair: &Pair, seed: u64) -> u64 {
-    let generated = generate::list(seed);
+    let generated = generate::list_at(pair.rate, seed);
     (pair.rust)(&generated.list, &[], 0, &mut vec![0; generated.buffer]).calls as u64
 }
 
@@ -62,7 +61,7 @@ pub fn registers(pair: &Pair) -> Compared {
 fn registers_from(pair: &Pair, start: usize, step: usize) -> Compared {
     let mut count = Count::default();
     let state = state_readout();
-    for board in prepared() {
+    for board in prepared(pair.rate) {
         for address in (0..registers::SIZE).skip(start).step_by(step) {
             let read = list_of(&[Call::Read { address }]);
             for readout in readouts() {
@@ -78,8 +77,8 @@ fn registers_from(pair: &Pair, start: usize, step: usize) -> Compared {
 }
 
 /// Lists that leave boards with little set, with every field set, about to commit, with an alarm due on host time and
-/// with latches held.
-pub fn prepared() -> Vec<Vec<u8>> {
+/// with latches held. Their calls are for boards of a rate.
+pub fn prepared(rate: u32) -> Vec<Vec<u8>> {
     let mut about_to_commit = vec![byte(registers::CLOCK_CONTROL + 3, 7)];
     about_to_commit.push(Call::HostTime {
         seconds: 1,
@@ -127,7 +126,7 @@ pub fn prepared() -> Vec<Vec<u8>> {
     busy.push(Call::ControllerWrite { address: 5, byte: 8 });
     let mut fired = busy.clone();
     fired.push(Call::Advance {
-        cycles: u64::from(MASTER_CLOCK) + 1,
+        cycles: u64::from(rate) + 1,
     });
     busy.push(Call::Advance { cycles: 10 });
 
@@ -178,7 +177,7 @@ fn every_tag() -> Vec<Call> {
         Call::ControllerRead { address: 0 },
         Call::Output,
         Call::Advance {
-            cycles: u64::from(MASTER_CLOCK),
+            cycles: u64::from(DEFAULT_RATE),
         },
         Call::Deadline,
         Call::Skip,

@@ -1,14 +1,13 @@
 //! Skips where the deadline is 2^64 - 1 cycles, a little less, more, or as large as it can be: below 2^64 they get
 //! there, else they are refused with 13.
 
-use calls::{list_of, Call, NANOSECONDS_PER_SECOND};
+use calls::{list_of, Call, DEFAULT_RATE, NANOSECONDS_PER_SECOND};
 
 use super::parked::{self, Parking};
 use super::passes::{Compared, BUFFER};
 use super::{readouts, Count, Pair};
 use crate::fields::Fields;
 use crate::registers::{self, CHANNELS};
-use crate::sys::MASTER_CLOCK;
 use crate::writes::{alarm, alarm_due, byte, channel_due, program, RUNNING};
 
 /// The deadlines about the limit of one skip.
@@ -117,15 +116,18 @@ fn several_channels() -> Vec<Start> {
 fn alarms() -> Vec<Start> {
     let mut starts = Vec::new();
     for deadline in ABOUT_THE_LIMIT {
-        starts.push(low(alarm_due(deadline), deadline));
+        starts.push(low(alarm_due(DEFAULT_RATE, deadline), deadline));
         for other in [deadline - 1, deadline, deadline + 1] {
             // Only a channel whose phase is 0 leaves the clock as it is.
             if let Some(channel) = channel_due(1, 2, 0, other) {
-                starts.push(low([alarm_due(deadline), channel].concat(), deadline.min(other)));
+                starts.push(low(
+                    [alarm_due(DEFAULT_RATE, deadline), channel].concat(),
+                    deadline.min(other),
+                ));
             }
         }
     }
-    let last = u128::from(u64::MAX) * u128::from(MASTER_CLOCK);
+    let last = u128::from(u64::MAX) * u128::from(DEFAULT_RATE);
     starts.push(low(alarm(u64::MAX), last));
     let mut on_host_time = vec![byte(registers::CLOCK_CONTROL + 3, 5)];
     on_host_time.extend(alarm(u64::MAX));

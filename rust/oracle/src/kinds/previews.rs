@@ -11,6 +11,7 @@ use super::{Group, Operation};
 use crate::board::{Board, Devices};
 use crate::generate::Random;
 use crate::image::read_image;
+use crate::timing::At48;
 
 pub const GROUP: Group = Group {
     name: "previews",
@@ -46,7 +47,7 @@ fn totals() -> Vec<u64> {
 }
 
 /// The Rust's board, of the image of the proved one.
-fn rust_board(image: &[u8]) -> Devices {
+fn rust_board(image: &[u8]) -> Devices<At48> {
     match Board::from_fields(&read_image(image).expect("a board's own image is accepted")) {
         Board::Sound(devices) => devices,
         Board::Unsound(_) => unreachable!("an accepted image is of a sound board"),

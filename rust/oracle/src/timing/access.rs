@@ -1,15 +1,17 @@
-//! The timing device and its state as one part of the board, with every field set and read.
+//! The timing device and its state as one part of the board, with every field set and read. This text is a child of
+//! each build of timing.rs.
 
 use super::*;
 use crate::fields::{Channel, Fields, Latch};
+use crate::timing::Timing;
 
 /// `PeCTimingDevice` with the `PeCTimingState` that it shares.
-pub(crate) struct Timing {
+pub struct TimingDevice {
     state: Rc<RefCell<PeCTimingState>>,
     device: PeCTimingDevice,
 }
 
-impl Timing {
+impl TimingDevice {
     fn new(state: PeCTimingState) -> Self {
         let state = Rc::new(RefCell::new(state));
         Self {
@@ -23,13 +25,29 @@ impl Timing {
         }
     }
 
-    /// The device as the Rust makes it.
-    pub(crate) fn fresh() -> Self {
+    /// The fields of the channels.
+    fn channels(&self) -> [Channel; TIMER_CHANNELS] {
+        self.state.borrow().timers.map(|timer| Channel {
+            control: narrow(timer.control),
+            counter: timer.counter,
+            compare: timer.compare,
+            reload: timer.reload,
+            prescaler: timer.prescaler,
+            phase: narrow(timer.prescaler_phase),
+            pending: timer.pending,
+            armed: timer.compare_armed,
+        })
+    }
+}
+
+impl Timing for TimingDevice {
+    const RATE: u32 = MASTER_CLOCK;
+
+    fn fresh() -> Self {
         Self::new(PeCTimingState::default())
     }
 
-    /// The device with the given fields, which must be sound.
-    pub(crate) fn from_fields(fields: &Fields) -> Self {
+    fn from_fields(fields: &Fields) -> Self {
         let mut timing = Self::new(PeCTimingState {
             timers: fields.channels.map(|channel| HardwareTimer {
                 control: u32::from(channel.control),
@@ -62,12 +80,12 @@ impl Timing {
         timing
     }
 
-    /// Writes the device's fields into `fields`. A value too wide for its field is a fault of this crate.
-    pub(crate) fn store(&self, fields: &mut Fields) {
+    fn store(&self, fields: &mut Fields) {
         let state = self.state.borrow();
         let offset = state.rtc_host_offset_ns;
         let magnitude = offset.unsigned_abs();
         let nanoseconds = NANOS_PER_SECOND as u128;
+        fields.rate = MASTER_CLOCK;
         fields.channels = self.channels();
         fields.timer_enable = state.timer_enable;
         fields.clock_control = narrow(state.rtc_control);
@@ -90,44 +108,29 @@ impl Timing {
         fields.clock_high_latch = Latch::from_word(self.device.rtc_seconds_hi_latch);
     }
 
-    /// The fields of the channels.
-    pub(crate) fn channels(&self) -> [Channel; TIMER_CHANNELS] {
-        self.state.borrow().timers.map(|timer| Channel {
-            control: narrow(timer.control),
-            counter: timer.counter,
-            compare: timer.compare,
-            reload: timer.reload,
-            prescaler: timer.prescaler,
-            phase: narrow(timer.prescaler_phase),
-            pending: timer.pending,
-            armed: timer.compare_armed,
-        })
-    }
-
-    pub(crate) fn read(&mut self, address: u16) -> u8 {
+    fn read(&mut self, address: u16) -> u8 {
         self.device.read(u32::from(address))
     }
 
-    pub(crate) fn write(&mut self, address: u16, byte: u8) {
+    fn write(&mut self, address: u16, byte: u8) {
         self.device.write(u32::from(address), byte);
     }
 
-    pub(crate) fn advance(&mut self, cycles: u64) {
+    fn advance(&mut self, cycles: u64) {
         self.state.borrow_mut().advance_system_cycles(cycles);
     }
 
-    /// The line after an advance of a copy of the state, which is made for it.
-    pub(crate) fn line_after(&self, cycles: u64) -> bool {
+    fn line_after(&self, cycles: u64) -> bool {
         let mut copy = copy_of(&self.state.borrow());
         copy.advance_system_cycles(cycles);
         copy.irq_asserted()
     }
 
-    pub(crate) fn irq_asserted(&self) -> bool {
+    fn irq_asserted(&self) -> bool {
         self.state.borrow().irq_asserted()
     }
 
-    pub(crate) fn cycles_until_irq(&self) -> Option<u64> {
+    fn cycles_until_irq(&self) -> Option<u64> {
         self.state.borrow().cycles_until_irq()
     }
 }

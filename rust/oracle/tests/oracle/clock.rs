@@ -1,7 +1,6 @@
 //! The clock: control changes, offsets, commits of the shadows, and the poll of an alarm on host time.
 
 use calls::Call;
-use oracle::board::Board;
 use oracle::fields::Fields;
 
 use crate::rules::{carry_out, set_source_3};
@@ -14,6 +13,11 @@ const ALARM: [u16; 8] = [0x98, 0x99, 0x9A, 0x9B, 0x94, 0x95, 0x96, 0x97];
 
 #[test]
 fn every_control_from_every_control() {
+    RATES.into_iter().for_each(every_control_at);
+}
+
+/// The same of clocks of a rate.
+fn every_control_at(rate: u32) {
     let offsets = [
         0,
         1,
@@ -24,7 +28,7 @@ fn every_control_from_every_control() {
         -i128::from(u64::MAX) * SECOND - SECOND + 1,
     ];
     let hosts = [(0, 0), (5, 500_000_000), (7, 1), (u64::MAX, 999_999_999)];
-    let times = [(0, 0), (7, 1), (7, 23_999_999), (5, 24_000_000), (u64::MAX, F - 1)];
+    let times = [(0, 0), (7, 1), (7, rate / 2 - 1), (5, rate / 2), (u64::MAX, rate - 1)];
     let alarms = [None, Some(0), Some(6), Some(8), Some(u64::MAX)];
     let (mut changes, mut negative, mut positive, mut zero, mut saturated, mut pending) = (0, 0, 0, 0, 0, 0);
     for (before, after) in (0..8).flat_map(|before| (0..8).map(move |after| (before, after))) {
@@ -44,7 +48,7 @@ fn every_control_from_every_control() {
                             poll: 77,
                             host_seconds,
                             host_nanoseconds,
-                            ..Fields::fresh()
+                            ..Fields::fresh_at(rate)
                         };
                         set_offset(&mut fields, offset);
                         if !fields.sound() {
@@ -260,29 +264,40 @@ fn committed_alarm_arms_clears_pending_and_is_checked() {
     }
 }
 
-/// A clock on host time whose alarm is due and not checked yet.
-fn due_on_host_time() -> Fields {
+/// A clock on host time, of a rate, whose alarm is due and not checked yet.
+fn due_on_host_time(rate: u32) -> Fields {
     Fields {
         clock_control: 5,
         alarm_enable: 1,
         alarm: 9,
         alarm_armed: true,
         host_seconds: 9,
-        ..Fields::fresh()
+        ..Fields::fresh_at(rate)
     }
 }
 
 #[test]
 fn poll_is_made_at_48_000_cycles() {
-    let fields = due_on_host_time();
+    poll_is_made_at(48_000_000, 48_000, 15_616);
+}
+
+#[test]
+fn poll_is_made_at_a_thousandth_of_another_rate() {
+    poll_is_made_at(1_000_000, 1_000, 616);
+    poll_is_made_at(12_000_000, 12_000, 3_616);
+}
+
+/// The same at a rate whose poll limit leaves this rest of 2^64.
+fn poll_is_made_at(rate: u32, limit: u32, rest: u32) {
+    let fields = due_on_host_time(rate);
     let mut board = Board::from_fields(&fields);
-    assert!(!advance(&mut board, u64::from(POLL) - 1));
-    assert_eq!(board.fields().poll, POLL - 1);
+    assert!(!advance(&mut board, u64::from(limit) - 1));
+    assert_eq!(board.fields().poll, limit - 1);
     assert!(advance(&mut board, 1));
     assert_eq!(board.fields().poll, 0);
 
     let mut board = Board::from_fields(&fields);
-    assert!(advance(&mut board, u64::from(POLL)));
+    assert!(advance(&mut board, u64::from(limit)));
     let mut board = Board::from_fields(&fields);
     assert!(advance(&mut board, 0), "an advance of 0 makes the check at once");
 
@@ -292,37 +307,66 @@ fn poll_is_made_at_48_000_cycles() {
         host_nanoseconds: 999_999_999,
         ..fields
     });
-    assert!(!advance(&mut board, u64::from(POLL) * 4 - 1));
-    assert_eq!(board.fields().poll, POLL - 1);
+    assert!(!advance(&mut board, u64::from(limit) * 4 - 1));
+    assert_eq!(board.fields().poll, limit - 1);
     host_time(&mut board, 9, 0);
     assert!(board.fields().alarm_armed);
     assert!(advance(&mut board, u64::MAX));
-    // 47,999 + 2^64 - 1 = 2^64 + 47,998; 2^64 modulo 48,000 is 15,616.
-    assert_eq!(board.fields().poll, (15_616 + 47_998) % POLL);
+    // limit - 1 + 2^64 - 1 = 2^64 + limit - 2.
+    assert_eq!(board.fields().poll, (rest + limit - 2) % limit);
     advance(&mut board, 1);
     assert_eq!(board.fields().poll, 0, "with the alarm pending the poll is zeroed");
 }
 
 #[test]
 fn clock_latches_keep_both_words() {
-    let mut board = Board::from_fields(&Fields {
-        seconds: 0x1_FFFF_FFFF,
-        ..Fields::fresh()
-    });
-    assert_eq!(read(&mut board, 0x88), 0xFF);
-    advance(&mut board, u64::from(F));
-    let words: Vec<u8> = [0x8C, 0x8D, 0x8E, 0x8F, 0x89, 0x8A, 0x8B]
-        .into_iter()
-        .map(|address| read(&mut board, address))
-        .collect();
-    assert_eq!(words, [0, 0, 0, 1, 0xFF, 0xFF, 0xFF]);
-    // Each word was freed by its own byte 3, so both are live again.
-    assert_eq!((read(&mut board, 0x8F), read(&mut board, 0x8B)), (2, 0));
+    for rate in RATES {
+        let mut board = Board::from_fields(&Fields {
+            seconds: 0x1_FFFF_FFFF,
+            ..Fields::fresh_at(rate)
+        });
+        assert_eq!(read(&mut board, 0x88), 0xFF);
+        advance(&mut board, u64::from(rate));
+        let words: Vec<u8> = [0x8C, 0x8D, 0x8E, 0x8F, 0x89, 0x8A, 0x8B]
+            .into_iter()
+            .map(|address| read(&mut board, address))
+            .collect();
+        assert_eq!(words, [0, 0, 0, 1, 0xFF, 0xFF, 0xFF]);
+        // Each word was freed by its own byte 3, so both are live again.
+        assert_eq!((read(&mut board, 0x8F), read(&mut board, 0x8B)), (2, 0));
+    }
+}
+
+#[test]
+fn a_second_has_as_many_cycles_as_the_rate_and_a_subsecond_its_nanoseconds() {
+    // The rate, cycles, and then the seconds and the nanoseconds that the registers show.
+    for (rate, cycles, seconds, nanoseconds) in [
+        (1_000_000, 1, 0, 1_000_u32),
+        (1_000_000, 999_999, 0, 999_999_000),
+        (1_000_000, 1_000_000, 1, 0),
+        (1_000_000, 2_000_001, 2, 1_000),
+        (12_000_000, 1, 0, 83),
+        (12_000_000, 2, 0, 166),
+        (12_000_000, 3, 0, 250),
+        (12_000_000, 11_999_999, 0, 999_999_916),
+        (12_000_000, 12_000_000, 1, 0),
+        (48_000_000, 1, 0, 20),
+        (48_000_000, 3, 0, 62),
+        (48_000_000, 6, 0, 125),
+        (48_000_000, 47_999_999, 0, 999_999_979),
+        (48_000_000, 48_000_000, 1, 0),
+    ] {
+        let (mut board, _) = Board::fresh_at(rate);
+        advance(&mut board, cycles);
+        let shown = [0x90, 0x91, 0x92, 0x93].map(|address| read(&mut board, address));
+        assert_eq!(u32::from_be_bytes(shown), nanoseconds, "{cycles} at {rate}");
+        assert_eq!(read(&mut board, 0x8B), seconds, "{cycles} at {rate}");
+    }
 }
 
 #[test]
 fn the_check_precedes_a_read_that_no_latch_serves() {
-    let mut fields = due_on_host_time();
+    let mut fields = due_on_host_time(F);
     for address in [0x000, 0x088, 0x089, 0x37F] {
         let after = fields_after(&fields, Call::Read { address });
         // Byte 0 of seconds low fills the latch and is served by it.

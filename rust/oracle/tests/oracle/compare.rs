@@ -2,13 +2,14 @@
 //! those that are measured.
 
 use calls::{list_of, Call, Outcome};
+use oracle::board::AnyBoard;
 use oracle::compare::passes::{self, BUFFER, REGISTERS_BUFFER};
 use oracle::compare::{readouts, shortest};
 use oracle::kinds;
-use oracle::list::run_repeated;
+use oracle::list::{run_repeated, run_repeated_at};
 use oracle::registers;
 
-use crate::support::pair;
+use crate::support::{pair, RATES};
 
 const ADVANCE: u8 = 4;
 const SKIP: u8 = 6;
@@ -110,9 +111,11 @@ fn the_shortest_list_keeps_only_what_fails() {
 fn the_lists_of_the_passes_run_to_their_ends() {
     let mut answers = vec![0; REGISTERS_BUFFER];
     let state = passes::state_readout();
-    for prepared in passes::prepared() {
-        assert_eq!(run_repeated(&prepared, &[], 0, &mut answers).refusal, None);
-        assert_eq!(run_repeated(&prepared, &state, 1, &mut answers).refusal, None);
+    for rate in RATES {
+        for prepared in passes::prepared(rate) {
+            assert_eq!(run_repeated_at(rate, &prepared, &[], 0, &mut answers).refusal, None);
+            assert_eq!(run_repeated_at(rate, &prepared, &state, 1, &mut answers).refusal, None);
+        }
     }
     for readout in readouts() {
         assert_eq!(run_repeated(&readout, &[], 0, &mut vec![0; BUFFER]).refusal, None);
@@ -120,13 +123,27 @@ fn the_lists_of_the_passes_run_to_their_ends() {
 }
 
 #[test]
+fn the_last_prepared_board_stands_a_cycle_after_its_first_second() {
+    for rate in RATES {
+        let (mut board, _) = AnyBoard::fresh_at(rate);
+        let prepared = passes::prepared(rate);
+        let fired = prepared.last().expect("there are boards");
+        assert_eq!(board.run(fired, &mut vec![0; REGISTERS_BUFFER]).refusal, None);
+        let fields = board.fields();
+        assert_eq!((fields.seconds, fields.subsecond, fields.alarm_pending), (1, 1, true));
+    }
+}
+
+#[test]
 fn the_measured_lists_run_to_their_ends() {
     let mut answers = vec![0; kinds::BUFFER];
-    for kind in kinds::named(None) {
-        let (first, list) = (list_of(&kind.first), list_of(&kind.list));
-        for times in 0..10 {
-            let outcome = run_repeated(&first, &list, times, &mut answers);
-            assert_eq!(outcome.refusal, None, "{}, {times} times", kind.name);
+    for rate in RATES {
+        for kind in kinds::named(rate, None) {
+            let (first, list) = (list_of(&kind.first), list_of(&kind.list));
+            for times in 0..10 {
+                let outcome = run_repeated_at(rate, &first, &list, times, &mut answers);
+                assert_eq!(outcome.refusal, None, "{} at {rate}, {times} times", kind.name);
+            }
         }
     }
 }

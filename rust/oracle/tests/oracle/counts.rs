@@ -4,11 +4,10 @@
 use std::collections::BTreeSet;
 
 use calls::{Answer, Call, Outcome};
-use oracle::board::Board;
 use oracle::compare::matches::{advances, lists, starts};
 use oracle::compare::Runner;
 use oracle::fields::{Channel, Fields};
-use oracle::list::{run, run_repeated};
+use oracle::list::run_repeated;
 
 use crate::support::*;
 

@@ -1,7 +1,6 @@
 //! Demand 3: the exact deadline over lists of advances and host times.
 
 use calls::Call;
-use oracle::board::Board;
 use oracle::fields::Fields;
 use oracle::generate::Random;
 
@@ -37,8 +36,14 @@ fn pending(fields: &Fields) -> bool {
 
 #[test]
 fn the_line_is_high_exactly_from_the_deadline_on() {
+    RATES.into_iter().for_each(the_line_at);
+}
+
+/// The same of boards of a rate.
+fn the_line_at(rate: u32) {
     let (mut rises, mut late_rises, mut without, mut refused, mut disabled_realtime) = (0, 0, 0, 0, 0);
-    for (mut random, mut fields) in sound_boards(60_000) {
+    let mut by_alarm = 0;
+    for (mut random, mut fields) in sound_boards_at(rate, 40_000) {
         if random.once_in(2) {
             // More boards on which only one deadline is left, and that one often above 2^64.
             for channel in &mut fields.channels[1..] {
@@ -76,26 +81,29 @@ fn the_line_is_high_exactly_from_the_deadline_on() {
             reached = check(&board, total);
         }
         rises += usize::from(reached);
+        by_alarm += usize::from(board.fields().alarm_pending && reached);
         late_rises += usize::from(reached && deadline > Some(u128::from(u64::MAX)));
     }
-    for count in [rises, late_rises, without, refused, disabled_realtime] {
+    for count in [rises, late_rises, without, refused, disabled_realtime, by_alarm] {
         assert!(
             count > 100,
-            "{rises} {late_rises} {without} {refused} {disabled_realtime}"
+            "{rises} {late_rises} {without} {refused} {disabled_realtime} {by_alarm}"
         );
     }
 }
 
 #[test]
 fn the_64_bit_deadline_is_the_smaller_of_the_exact_one_and_the_top() {
-    let (mut above, mut below, mut none) = (0, 0, 0);
-    for (_, fields) in sound_boards(100_000) {
-        // `deadline` compares the two figures.
-        match deadline(&mut Board::from_fields(&fields)) {
-            Some(exact) if exact > u128::from(u64::MAX) => above += 1,
-            Some(_) => below += 1,
-            None => none += 1,
+    for rate in RATES {
+        let (mut above, mut below, mut none) = (0, 0, 0);
+        for (_, fields) in sound_boards_at(rate, 40_000) {
+            // `deadline` compares the two figures.
+            match deadline(&mut Board::from_fields(&fields)) {
+                Some(exact) if exact > u128::from(u64::MAX) => above += 1,
+                Some(_) => below += 1,
+                None => none += 1,
+            }
         }
+        assert!(above > 500 && below > 500 && none > 500, "{above} {below} {none}");
     }
-    assert!(above > 500 && below > 500 && none > 500, "{above} {below} {none}");
 }

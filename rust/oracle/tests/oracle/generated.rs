@@ -4,10 +4,8 @@
 use std::collections::BTreeMap;
 
 use calls::{Answer, Call, Outcome, Refusal};
-use oracle::board::Board;
 use oracle::fields::Fields;
 use oracle::generate;
-use oracle::list::run;
 use oracle::registers::{self, channel, of_channel};
 
 use crate::rules::direct;
@@ -108,7 +106,7 @@ impl Counts {
         );
         let polled = before.runs_from_host_time() && before.alarm_armed && cycles > 0;
         self.note("realtime alarm by poll", polled && alarm);
-        let poll_due = u64::from(before.poll) + cycles.min(1 << 32) >= u64::from(POLL);
+        let poll_due = u64::from(before.poll) + cycles.min(1 << 32) >= u64::from(poll_at(before.rate));
         self.note("poll before the alarm", polled && !alarm && poll_due);
         self.note("no poll yet", polled && !poll_due);
         self.note(
@@ -119,7 +117,7 @@ impl Counts {
             "host time before the offset",
             before.runs_from_host_time() && before.host_ns() + before.offset_ns() < 0,
         );
-        let elapsed = (u128::from(before.subsecond) + u128::from(cycles)) / u128::from(F);
+        let elapsed = (u128::from(before.subsecond) + u128::from(cycles)) / u128::from(before.rate);
         let saturates = elapsed > u128::from(u64::MAX - before.seconds);
         let counts = before.clock_enabled() && !before.realtime();
         self.note("clock saturates", counts && saturates);
@@ -127,6 +125,24 @@ impl Counts {
             "clock stands at its top",
             counts && !saturates && after.seconds == u64::MAX,
         );
+        // From afar to about the end of a second that has begun, which no alarm waits for, and of a poll that has; and
+        // about numbers that the rate gives.
+        let limit = poll_at(before.rate);
+        for (event, more) in [("a cycle before", 0), ("at", 1), ("a cycle after", 2)] {
+            let ends = |begun: u32, whole: u32| {
+                begun > 3 && cycles > 100 && u128::from(begun) + u128::from(cycles) + 1 == u128::from(whole) + more
+            };
+            self.note(
+                format!("{event} the end of a second"),
+                counts && !before.alarm_armed && ends(before.subsecond, before.rate),
+            );
+            self.note(format!("{event} the end of a poll"), polled && ends(before.poll, limit));
+        }
+        let second = u64::from(before.rate);
+        for number in [second, limit.into(), u64::MAX / second] {
+            self.note(format!("two cycles less than {number}"), cycles == number - 2);
+            self.note(format!("two cycles more than {number}"), cycles == number + 2);
+        }
     }
 
     fn read(&mut self, address: u16, before: &Fields, after: &Fields) {
@@ -180,9 +196,10 @@ fn overdue(fields: &Fields, number: usize) -> bool {
     fields.channels[number].compare < fields.channels[number].counter
 }
 
-/// Runs a list by direct calls into a buffer of that length; gives the outcome, the answers and the fields.
-fn run_by_direct_calls(list: &[u8], length: usize, counts: &mut Counts) -> (Outcome, Vec<u8>, Fields) {
-    let mut board = Board::fresh();
+/// Runs a list by direct calls over a fresh board of a rate, into a buffer of that length; gives the outcome, the
+/// answers and the fields.
+fn run_by_direct_calls(rate: u32, list: &[u8], length: usize, counts: &mut Counts) -> (Outcome, Vec<u8>, Fields) {
+    let (mut board, _) = Board::fresh_at(rate);
     let mut outcome = Outcome::default();
     let mut answers = Vec::new();
     while outcome.list_bytes < list.len() {
@@ -230,6 +247,11 @@ fn run_by_direct_calls(list: &[u8], length: usize, counts: &mut Counts) -> (Outc
 
 #[test]
 fn generated_lists_reach_every_event_and_runs_equal_direct_calls() {
+    RATES.into_iter().for_each(generated_lists_at);
+}
+
+/// The same of the lists for a rate.
+fn generated_lists_at(rate: u32) {
     let mut counts = Counts::default();
     // Events that are named only when they happen; the others are named with each call of their tag.
     for number in (2..=11).chain([13]) {
@@ -242,10 +264,10 @@ fn generated_lists_reach_every_event_and_runs_equal_direct_calls() {
         counts.note(format!("clock control {before} to {after}"), false);
     }
     for seed in 0..SEEDS {
-        let generated = generate::list(seed);
+        let generated = generate::list_at(rate, seed);
         assert!(generated.list.len() <= 32_768, "listrun takes the list of seed {seed}");
-        let (expected, answers, fields) = run_by_direct_calls(&generated.list, generated.buffer, &mut counts);
-        let mut board = Board::fresh();
+        let (expected, answers, fields) = run_by_direct_calls(rate, &generated.list, generated.buffer, &mut counts);
+        let (mut board, _) = Board::fresh_at(rate);
         let mut buffer = vec![0xEE; generated.buffer];
         let outcome = run(&mut board, &generated.list, &mut buffer);
         assert_eq!(outcome, expected, "seed {seed}");
@@ -257,7 +279,7 @@ fn generated_lists_reach_every_event_and_runs_equal_direct_calls() {
         assert_eq!(board.fields(), fields, "seed {seed}");
     }
     let missing: Vec<_> = counts.0.iter().filter(|(_, &count)| count == 0).collect();
-    assert!(missing.is_empty(), "never reached: {missing:?}");
+    assert!(missing.is_empty(), "never reached at {rate}: {missing:?}");
 }
 
 #[test]
@@ -267,4 +289,9 @@ fn a_seed_gives_the_same_list_each_time() {
         assert_eq!((first.list, first.buffer), (second.list, second.buffer));
     }
     assert_ne!(generate::list(3).list, generate::list(4).list);
+    // Without a rate it is that for a board of which none is said, and that of another rate is another.
+    assert_eq!(generate::list(3).list, generate::list_at(F, 3).list);
+    for rate in [1_000_000, 12_000_000] {
+        assert!((0..20).any(|seed| generate::list(seed).list != generate::list_at(rate, seed).list));
+    }
 }

@@ -2,7 +2,7 @@
 
 use calls::{list_of, Call, Outcome, Refusal};
 use oracle::fields::{Channel, Fields, Latch};
-use oracle::image::{image_of, image_refusal, park_fresh, read_image, run_parked, IMAGE_SIZE};
+use oracle::image::{image_of, image_refusal, park, park_fresh, read_image, run_parked, IMAGE_SIZE};
 
 use crate::soundness::CLAUSES;
 use crate::support::*;
@@ -49,6 +49,7 @@ fn marked() -> Fields {
     };
     let latch = |value| Latch { held: true, value };
     Fields {
+        rate: F,
         channels: [channel(0), channel(1), channel(2), channel(3)],
         timer_enable: 5,
         clock_control: 6,
@@ -224,6 +225,44 @@ fn a_fresh_board_is_parked_where_there_is_room() {
     assert_eq!(buffer, [0xEE; IMAGE_SIZE + 1]);
     assert_eq!(park_fresh(&mut buffer), Ok(IMAGE_SIZE));
     assert_eq!((&buffer[..IMAGE_SIZE], buffer[IMAGE_SIZE]), (&FRESH[..], 0xEE));
+}
+
+#[test]
+fn only_boards_of_which_no_rate_is_said_are_parked() {
+    for rate in RATES {
+        let sound = Fields {
+            subsecond: rate - 1,
+            poll: poll_at(rate) - 1,
+            ..Fields::fresh_at(rate)
+        };
+        let unsound = Fields {
+            timer_enable: 16,
+            ..sound
+        };
+        let mut buffer = [7; IMAGE_SIZE + 1];
+        // 1 comes first, then 15, then 11; each leaves the buffer.
+        for length in [0, IMAGE_SIZE - 1, IMAGE_SIZE] {
+            assert_eq!(park(&unsound, &mut buffer[..length]), Err(Refusal::UnsoundBoard));
+            let parked = park(&sound, &mut buffer[..length]);
+            let expected = match length {
+                _ if rate != F => Err(Refusal::UnsupportedRate),
+                IMAGE_SIZE => Ok(IMAGE_SIZE),
+                _ => Err(Refusal::BufferTooSmall),
+            };
+            assert_eq!(parked, expected, "{rate} into {length}");
+            if parked.is_err() {
+                assert_eq!(buffer, [7; IMAGE_SIZE + 1]);
+            }
+        }
+        if rate == F {
+            assert_eq!((buffer[IMAGE_SIZE], read_image(&buffer[..IMAGE_SIZE])), (7, Ok(sound)));
+        }
+    }
+    // A rate that no board has is not sound.
+    let other = Fields::fresh_at(24_000_000);
+    assert_eq!(park(&other, &mut [0; IMAGE_SIZE]), Err(Refusal::UnsoundBoard));
+    // An image has no rate, so that its board is one of which none is said.
+    assert_eq!(read_image(&image_of(&Fields::fresh_at(1_000_000))), Ok(Fields::fresh()));
 }
 
 #[test]

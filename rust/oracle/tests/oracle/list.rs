@@ -1,9 +1,7 @@
 //! The call list: decoding, the order of the refusals, the answer buffer.
 
 use calls::{answer_length, list_of, tags, value_length, Call, Outcome, Refusal, HEADER_LENGTH};
-use oracle::board::Board;
 use oracle::fields::Fields;
-use oracle::list::run;
 
 use crate::support::*;
 

@@ -17,6 +17,7 @@ mod parked;
 mod prescaler;
 mod previews;
 mod program;
+mod rates;
 mod recorded;
 mod registers;
 mod rules;

@@ -2,11 +2,11 @@
 //! that of the rules, from the old compare and the new counter. And that the counts of an advance in parts add up.
 
 use calls::{list_of, Answer, Call, Refusal};
-use oracle::board::{Board, Reply};
+use oracle::board::Reply;
 use oracle::compare::boards::Start;
 use oracle::compare::Runner;
 use oracle::fields::{Channel, Fields};
-use oracle::list::{run_repeated, run_repeated_uncounted};
+use oracle::list::{runner, uncounted_runner};
 use oracle::matches::zero_counts;
 use oracle::writes::{byte, program};
 use oracle::{generate, registers};
@@ -326,27 +326,38 @@ fn cycle_by_cycle_the_counts_add_up() {
     assert_eq!(met, [1, 1 << 64, 1, 0]);
 }
 
+/// The runner at a rate that counts, and the one that is measured.
+fn runners_at(rate: u32) -> [Runner; 2] {
+    [runner, uncounted_runner].map(|of_rate| of_rate(rate).expect("the rate is one of the three"))
+}
+
 #[test]
 fn a_run_that_does_not_count_differs_in_the_counts_alone() {
-    let mut differ = 0;
-    for seed in 0..400 {
-        let generated = generate::list(seed);
-        let [uncounted, mut counted] = [run_repeated_uncounted, run_repeated].map(|runner| {
-            let mut answers = vec![0; generated.buffer];
-            let outcome = runner(&generated.list, &[], 0, &mut answers);
-            (outcome, answers)
-        });
-        differ += usize::from(uncounted != counted);
-        let written = counted.0.answer_bytes;
-        zero_counts(&mut counted.1[..written]);
-        assert_eq!(uncounted, counted, "seed {seed}");
+    for rate in RATES {
+        let runners = runners_at(rate);
+        let mut differ = 0;
+        for seed in 0..200 {
+            let generated = generate::list_at(rate, seed);
+            let [mut counted, uncounted] = runners.map(|runner| {
+                let mut answers = vec![0; generated.buffer];
+                let outcome = runner(&generated.list, &[], 0, &mut answers);
+                (outcome, answers)
+            });
+            differ += usize::from(uncounted != counted);
+            let written = counted.0.answer_bytes;
+            zero_counts(&mut counted.1[..written]);
+            assert_eq!(uncounted, counted, "seed {seed} at {rate}");
+        }
+        assert!(differ > 50, "{differ} at {rate}");
     }
-    assert!(differ > 100, "{differ}");
     // Setting B, the channel's interrupt not enabled: a count of 3, in the last of its 16 bytes, and 0.
     let mut first = program(0, 5, 0, 10, 4);
     first.push(byte(registers::ENABLE + 3, 1));
     let list = list_of(&[Call::Advance { cycles: 19 }]);
-    for (runner, count) in [(run_repeated as Runner, 3), (run_repeated_uncounted, 0)] {
+    for (runner, count) in RATES
+        .into_iter()
+        .flat_map(|rate| runners_at(rate).into_iter().zip([3, 0]))
+    {
         let mut record = [0xEE; 68];
         let outcome = runner(&list_of(&first), &list, 1, &mut record);
         assert_eq!((outcome.answer_bytes, outcome.refusal), (68, None));

@@ -1,14 +1,14 @@
 //! The lists that are measured do what they are made for, and answers of two builds are compared as far as both go.
 
-use calls::list_of;
-use oracle::board::Board;
+use calls::{list_of, Answer, Call, DEFAULT_RATE};
+use oracle::board::{AnyBoard, Board};
 use oracle::kinds::{named, BUFFER};
 use oracle::list::run;
-use oracle::measure::agree;
+use oracle::measure::{agree, rate_asked};
 
 #[test]
 fn the_burst_meets_points_to_its_end() {
-    let [kind] = &named(Some("prescaler-0-burst"))[..] else {
+    let [kind] = &named(DEFAULT_RATE, Some("prescaler-0-burst"))[..] else {
         panic!("there is one kind of that name")
     };
     let mut board = Board::fresh();
@@ -35,6 +35,50 @@ fn the_burst_meets_points_to_its_end() {
     }
     // And so for all the times of a benchmark.
     assert!(cycles.checked_mul(kind.times).is_some_and(|all| all < 1 << 61));
+}
+
+#[test]
+fn ten_years_are_minutes_at_every_rate() {
+    for (rate, minute) in [
+        (1_000_000, 60_000_000),
+        (12_000_000, 720_000_000),
+        (48_000_000, 2_880_000_000),
+    ] {
+        let [kind] = &named(rate, Some("ten-years"))[..] else {
+            panic!("there is one kind of that name")
+        };
+        let (mut board, _) = AnyBoard::fresh_at(rate);
+        assert_eq!(board.run(&list_of(&kind.first), &mut [0; 256]).refusal, None);
+        // A skip and an acknowledgement in turn, so many that they make ten years of 365 days.
+        for call in &kind.list[..6] {
+            let reply = board.call(*call);
+            assert_eq!(reply.refusal, None);
+            if *call == Call::Skip {
+                let passed = Answer::Skip {
+                    passed: minute,
+                    line: true,
+                };
+                assert_eq!(reply.answer, passed, "{rate}");
+            }
+        }
+        assert_eq!(kind.list.len() as u64 / 2 * kind.times, 10 * 365 * 24 * 60);
+    }
+}
+
+#[test]
+fn a_rate_is_asked_for_before_the_other_arguments() {
+    assert_eq!(rate_asked(&[]), Ok((48_000_000, &[][..])));
+    assert_eq!(rate_asked(&["skip"]), Ok((48_000_000, &["skip"][..])));
+    for (text, rate) in [
+        ("1000000", 1_000_000),
+        ("12000000", 12_000_000),
+        ("48000000", 48_000_000),
+    ] {
+        assert_eq!(rate_asked(&["--rate", text, "skip"]), Ok((rate, &["skip"][..])));
+    }
+    for text in ["24000000", "0", "x", "-1", "12000000000"] {
+        assert!(rate_asked(&["--rate", text]).is_err(), "{text}");
+    }
 }
 
 #[test]

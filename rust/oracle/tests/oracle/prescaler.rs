@@ -4,13 +4,12 @@
 use std::collections::BTreeSet;
 
 use calls::{Answer, Call, Outcome};
-use oracle::board::Board;
 use oracle::compare::parked::{Parking, RULES};
 use oracle::compare::prescaler::{advances, lists, parked, starts};
 use oracle::compare::Runner;
 use oracle::fields::{Channel, Fields};
 use oracle::image::{image_of, read_image, run_parked};
-use oracle::list::{run, run_repeated};
+use oracle::list::run_repeated;
 
 use crate::rules::{advance_by, compare, set_source_3, step, Step};
 use crate::support::*;
@@ -65,7 +64,8 @@ fn ticks_and_phases_at_the_edges() {
             // Free-running from 0: the counter after an advance is the number of its ticks. The clock does not run.
             let mut before = Fields {
                 timer_enable: 15,
-                ..Fields::default()
+                clock_control: 0,
+                ..Fields::fresh()
             };
             before.channels[number] = Channel {
                 control: 4 + 2,

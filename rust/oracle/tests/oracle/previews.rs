@@ -2,13 +2,14 @@
 //! the faults that the comparison finds.
 
 use calls::Refusal;
-use oracle::board::Board;
+use oracle::board::BoardAt;
 use oracle::compare::previews::{boards, images, limits, seed, totals, Previewer};
 use oracle::deadline;
 use oracle::fields::Fields;
 use oracle::generate::Random;
 use oracle::image::{image_of, read_image};
 use oracle::preview::preview_parked;
+use oracle::timing::At48;
 
 use crate::support::*;
 
@@ -308,7 +309,7 @@ fn an_advance_of_a_copy_shows_what_an_advance_answers_and_leaves_the_board() {
     // On host time too, where an alarm may be due.
     let mut seen = [0; 2];
     for (mut random, fields) in sound_boards(2_000) {
-        let Board::Sound(board) = Board::from_fields(&fields) else {
+        let BoardAt::<At48>::Sound(board) = BoardAt::from_fields(&fields) else {
             panic!("the fields are sound");
         };
         let totals = totals(&fields, &mut random);
@@ -316,7 +317,7 @@ fn an_advance_of_a_copy_shows_what_an_advance_answers_and_leaves_the_board() {
         let answered: Vec<bool> = totals.iter().map(|total| line_after(&fields, *total)).collect();
         assert_eq!(shown, answered, "{fields:?}");
         shown.iter().for_each(|high| seen[usize::from(*high)] += 1);
-        assert_eq!(Board::Sound(board).fields(), fields);
+        assert_eq!(BoardAt::Sound(board).fields(), fields);
     }
     assert!(seen.iter().all(|count| *count > 1_000), "{seen:?}");
 }

@@ -3,7 +3,6 @@
 use std::collections::BTreeSet;
 
 use calls::Call;
-use oracle::board::Board;
 use oracle::fields::{Fields, Latch};
 use oracle::generate::Random;
 use oracle::registers::{self, channel, of_channel};
@@ -11,8 +10,13 @@ use oracle::registers::{self, channel, of_channel};
 use crate::rules::{carry_out, set_source_3};
 use crate::support::*;
 
-/// The fresh board, one about to commit, one with its alarm due and latches held, a busy one, and random ones.
+/// The boards of each rate.
 fn boards() -> Vec<Fields> {
+    RATES.into_iter().flat_map(boards_at).collect()
+}
+
+/// The fresh board of a rate, one about to commit, one with its alarm due and latches held, a busy one, and a random one.
+fn boards_at(rate: u32) -> Vec<Fields> {
     let held = Latch {
         held: true,
         value: 0x0102_0304,
@@ -25,7 +29,7 @@ fn boards() -> Vec<Fields> {
         seconds_mask: 0xFE,
         alarm_mask: 0x7F,
         host_seconds: 1,
-        ..Fields::fresh()
+        ..Fields::fresh_at(rate)
     };
     let alarm_due = Fields {
         clock_control: 5,
@@ -36,9 +40,13 @@ fn boards() -> Vec<Fields> {
         count_latches: [held; 4],
         clock_low_latch: held,
         clock_high_latch: held,
-        ..Fields::fresh()
+        ..Fields::fresh_at(rate)
     };
-    let mut busy = running(1);
+    let mut busy = Fields {
+        rate,
+        subsecond: rate - 1,
+        ..running(1)
+    };
     for (number, channel) in busy.channels.iter_mut().enumerate() {
         channel.control = 12 + number as u8;
         channel.counter = 0x1122_3344_5566_7788;
@@ -51,10 +59,8 @@ fn boards() -> Vec<Fields> {
     busy.alarm_pending = true;
     busy.clock_control = 3;
     set_source_3(&mut busy);
-    let mut random = Random::new(7);
-    let mut boards = vec![Fields::fresh(), about_to_commit, alarm_due, busy];
-    boards.extend([(); 3].map(|()| random.sound_fields()));
-    boards
+    let random = Random::at(rate, 7).sound_fields();
+    vec![Fields::fresh_at(rate), about_to_commit, alarm_due, busy, random]
 }
 
 #[test]

@@ -1,17 +1,23 @@
 //! Document 01's settings A to J, the wrong readings that it names, and the skip, S-2's limit of it too.
 
 use calls::{list_of, Answer, Call, Outcome, Refusal};
-use oracle::board::{Board, Reply};
+use oracle::board::Reply;
 use oracle::fields::Fields;
-use oracle::generate::Random;
-use oracle::list::run;
+use oracle::list::run_at;
 
 use crate::support::*;
 
 /// The answers of a list on a fresh board, every call of which must be accepted.
 fn answers(calls: &[Call]) -> Vec<u8> {
+    answers_at(F, calls)
+}
+
+/// The same on a fresh board of a rate.
+fn answers_at(rate: u32, calls: &[Call]) -> Vec<u8> {
     let list = list_of(calls);
-    let (outcome, answers, _) = run_fresh(&list);
+    let mut answers = vec![0; 32_768];
+    let outcome = run_at(rate, &list, &mut answers);
+    answers.truncate(outcome.answer_bytes);
     assert_eq!(
         (outcome.calls, outcome.refusal, outcome.list_bytes),
         (calls.len(), None, list.len())
@@ -108,7 +114,7 @@ fn e_free_running_with_the_largest_prescaler() {
 #[test]
 fn f_alarm_after_two_seconds() {
     // Alarm high at address 0x98, low at 0x94, alarm enable at 0x9C.
-    let mut calls = writes(&[
+    let calls = writes(&[
         (0x98, 0),
         (0x99, 0),
         (0x9A, 0),
@@ -119,30 +125,55 @@ fn f_alarm_after_two_seconds() {
         (0x97, 2),
         (0x9F, 1),
     ]);
-    calls.extend([
-        Call::Deadline,
-        Call::Advance { cycles: 95_999_999 },
-        Call::Advance { cycles: 1 },
-    ]);
-    let expected = [
-        &written(9)[..],
-        &deadline_record(96_000_000, 96_000_000),
-        // The alarm is no channel's match.
-        &advance_record(0, [0; 4]),
-        &advance_record(1, [0; 4]),
-    ];
-    assert_eq!(answers(&calls), expected.concat());
+    for (rate, due) in [
+        (1_000_000, 2_000_000),
+        (12_000_000, 24_000_000),
+        (48_000_000, 96_000_000),
+    ] {
+        let behind = [
+            Call::Deadline,
+            Call::Advance { cycles: due - 1 },
+            Call::Deadline,
+            Call::Advance { cycles: 1 },
+        ];
+        let expected = [
+            &written(9)[..],
+            &deadline_record(due.into(), due),
+            // The alarm is no channel's match.
+            &advance_record(0, [0; 4]),
+            &deadline_record(1, 1),
+            &advance_record(1, [0; 4]),
+        ];
+        assert_eq!(answers_at(rate, &[&calls[..], &behind].concat()), expected.concat());
+        // A skip gets there at once.
+        let expected = [&written(9)[..], &[0x06, 0, 9], &due.to_be_bytes(), &[1]];
+        assert_eq!(
+            answers_at(rate, &[&calls[..], &[Call::Skip]].concat()),
+            expected.concat()
+        );
+    }
 }
 
 #[test]
 fn g_clock_at_its_top() {
-    let fields = Fields {
-        seconds: u64::MAX,
-        ..Fields::fresh()
-    };
-    for (cycles, subsecond) in [(47_999_999, 47_999_999), (48_000_000, 0)] {
+    for (rate, cycles, subsecond) in [
+        (1_000_000, 999_999, 999_999),
+        (1_000_000, 1_000_000, 0),
+        (12_000_000, 11_999_999, 11_999_999),
+        (12_000_000, 12_000_000, 0),
+        (48_000_000, 47_999_999, 47_999_999),
+        (48_000_000, 48_000_000, 0),
+    ] {
+        let fields = Fields {
+            seconds: u64::MAX,
+            ..Fields::fresh_at(rate)
+        };
         let after = fields_after(&fields, Call::Advance { cycles });
-        assert_eq!((after.seconds, after.subsecond), (u64::MAX, subsecond));
+        assert_eq!(
+            (after.seconds, after.subsecond),
+            (u64::MAX, subsecond),
+            "{cycles} at {rate}"
+        );
     }
 }
 
@@ -286,14 +317,29 @@ fn wrong_subsecond_1_kept_when_the_clock_is_switched_off() {
     let fields = Fields { subsecond: 6, ..fields };
     let after = fields_after(&fields, Call::Write { address: 0x83, byte: 0 });
     assert_eq!(after.subsecond, 6, "6 cycles are 125 ns exactly");
+    // At 12,000,000 a cycle is 83 1/3 ns, and 83 ns are 0.996 cycles; at 1,000,000 it is 1,000 ns.
+    for (rate, subsecond, after) in [
+        (12_000_000, 1, 0),
+        (12_000_000, 2, 1),
+        (12_000_000, 3, 3),
+        (12_000_000, 11_999_999, 11_999_998),
+        (1_000_000, 1, 1),
+        (1_000_000, 999_999, 999_999),
+        (48_000_000, 47_999_999, 47_999_998),
+    ] {
+        let fields = Fields {
+            subsecond,
+            ..Fields::fresh_at(rate)
+        };
+        let switched = fields_after(&fields, Call::Write { address: 0x83, byte: 0 });
+        assert_eq!(switched.subsecond, after, "{subsecond} at {rate}");
+    }
 }
 
 #[test]
 fn skip_by_line_and_deadline_of_any_board() {
-    let mut random = Random::new(0);
     let mut seen = [0; 4];
-    for _ in 0..20_000 {
-        let fields = random.sound_fields();
+    for (_, fields) in RATES.into_iter().flat_map(|rate| sound_boards_at(rate, 8_000)) {
         let mut board = Board::from_fields(&fields);
         let deadline = deadline(&mut board);
         let reply = board.call(Call::Skip);

@@ -1,13 +1,12 @@
 //! The comparison of skips: its boards have the deadlines that they are made for, and it finds planted faults.
 
 use calls::{list_of, Answer, Call, Outcome, Refusal};
-use oracle::board::Board;
 use oracle::compare::parked::{Parking, RULES};
 use oracle::compare::skips::{lists, parked, starts};
 use oracle::compare::Runner;
 use oracle::deadline;
 use oracle::image::{park_fresh, run_parked};
-use oracle::list::{run, run_repeated};
+use oracle::list::run_repeated;
 
 use crate::support::*;
 

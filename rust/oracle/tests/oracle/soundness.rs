@@ -1,9 +1,8 @@
 //! Sound: each clause of document 01, what is refused without it, and that every call keeps it.
 
 use calls::{list_of, Call, Outcome, Refusal};
-use oracle::board::Board;
+use oracle::compare::clock::other_rates;
 use oracle::fields::Fields;
-use oracle::list::run;
 
 use crate::support::*;
 
@@ -80,9 +79,17 @@ pub const CLAUSES: [(&str, Edit, Edit); 19] = [
     ),
 ];
 
+/// S-7's clause, on what no image says: 'a record carrying a rate outside the three is 1'.
+const RATE_CLAUSES: [(&str, Edit, Edit); 4] = [
+    ("rate 0", |f| f.rate = 0, |f| f.rate = 1_000_000),
+    ("rate below", |f| f.rate = 999_999, |f| f.rate = 1_000_000),
+    ("rate between", |f| f.rate = 24_000_000, |f| f.rate = 12_000_000),
+    ("rate above", |f| f.rate = 48_000_001, |f| f.rate = 48_000_000),
+];
+
 #[test]
 fn a_board_that_is_not_sound_is_refused_with_1() {
-    for (name, unsound, sound) in CLAUSES {
+    for (name, unsound, sound) in CLAUSES.into_iter().chain(RATE_CLAUSES) {
         let mut fields = Fields::fresh();
         unsound(&mut fields);
         assert!(!fields.sound(), "{name}");
@@ -134,17 +141,65 @@ fn a_board_that_is_not_sound_is_refused_with_1() {
 fn the_fresh_board_is_document_01s() {
     assert_eq!(Board::fresh().fields(), Fields::fresh());
     assert!(Board::fresh().sound());
+    assert_eq!(Fields::fresh(), Fields::fresh_at(F));
+}
+
+#[test]
+fn a_fresh_board_takes_one_of_three_rates() {
+    for rate in RATES {
+        let (board, refusal) = Board::fresh_at(rate);
+        assert_eq!((board.fields(), refusal), (Fields::fresh_at(rate), None));
+        assert!(board.sound());
+        // The same but for the rate.
+        let other = Fields {
+            rate: F,
+            ..board.fields()
+        };
+        assert_eq!(other, Fields::fresh());
+    }
+    for rate in other_rates() {
+        assert!(!RATES.contains(&rate));
+        let (board, refusal) = Board::fresh_at(rate);
+        assert_eq!(
+            (board.fields(), refusal),
+            (Fields::fresh(), Some(Refusal::UnsupportedRate))
+        );
+        assert!(!Fields::fresh_at(rate).sound(), "{rate}");
+    }
+}
+
+#[test]
+fn subsecond_and_poll_are_below_the_boards_own_limits() {
+    for rate in RATES {
+        for (subsecond, poll, sound) in [
+            (rate - 1, poll_at(rate) - 1, true),
+            (rate, 0, false),
+            (0, poll_at(rate), false),
+        ] {
+            let fields = Fields {
+                subsecond,
+                poll,
+                ..Fields::fresh_at(rate)
+            };
+            let refusal = number(&Board::from_fields(&fields).call(Call::Output));
+            assert_eq!(
+                (fields.sound(), refusal),
+                (sound, u8::from(!sound)),
+                "{subsecond} {poll} at {rate}"
+            );
+        }
+    }
 }
 
 #[test]
 fn fields_are_set_and_read_back() {
-    for (mut random, fields) in sound_boards(20_000) {
+    for (mut random, fields) in RATES.into_iter().flat_map(|rate| sound_boards_at(rate, 8_000)) {
         let board = Board::from_fields(&fields);
         assert!(fields.sound());
         assert_eq!(board.fields(), fields);
         // Reading leaves the controller as it is.
         assert_eq!(board.fields(), fields);
-        let mut any = Fields::fresh();
+        let mut any = Fields::fresh_at(random.word() as u32);
         any.controller_levels = random.word() as u16;
         any.offset_nanoseconds = random.word() as u32;
         assert_eq!(Board::from_fields(&any).fields(), any);
@@ -155,7 +210,7 @@ fn fields_are_set_and_read_back() {
 fn every_call_keeps_a_sound_board_sound() {
     let mut accepted = [0; 11];
     let mut refused = [0; 14];
-    for (mut random, fields) in sound_boards(60_000) {
+    for (mut random, fields) in RATES.into_iter().flat_map(|rate| sound_boards_at(rate, 25_000)) {
         let mut board = Board::from_fields(&fields);
         for _ in 0..4 {
             let before = board.fields();
@@ -163,6 +218,7 @@ fn every_call_keeps_a_sound_board_sound() {
             let reply = board.call(call);
             let after = board.fields();
             assert!(after.sound(), "{before:?} {call:?} {after:?}");
+            assert_eq!(after.rate, fields.rate);
             if reply.refusal.is_none() {
                 accepted[usize::from(call.tag())] += 1;
                 deadline(&mut board);

@@ -1,16 +1,28 @@
 //! Short forms that the tests share.
 
 use calls::{list_of, Answer, Call, Outcome, Refusal};
-use oracle::board::{Board, Reply};
+pub use oracle::board::AnyBoard as Board;
+use oracle::board::Reply;
 use oracle::compare::boards::Start;
 use oracle::compare::{Pair, Runner};
 use oracle::fields::Fields;
 use oracle::generate::Random;
-use oracle::list::{run, run_repeated};
 
-/// Cycles a second and cycles from poll to poll, as document 01 gives them.
+/// The rates, cycles a second, as S-7 gives them.
+pub const RATES: [u32; 3] = [1_000_000, 12_000_000, 48_000_000];
+/// Cycles a second of a board of which no rate is said, and cycles from poll to poll, as document 01 gives them.
 pub const F: u32 = 48_000_000;
 pub const POLL: u32 = 48_000;
+
+/// Cycles from poll to poll at a rate, 'a thousandth of it'.
+pub fn poll_at(rate: u32) -> u32 {
+    match rate {
+        1_000_000 => 1_000,
+        12_000_000 => 12_000,
+        48_000_000 => 48_000,
+        _ => panic!("{rate} is no rate"),
+    }
+}
 /// Nanoseconds in a second.
 pub const SECOND: i128 = 1_000_000_000;
 
@@ -144,12 +156,14 @@ pub fn made(start: &Start) -> Fields {
     fields
 }
 
-/// The Rust, and what is compared with it.
+/// The Rust, and what is compared with it, at the rate of a board of which none is said.
 pub fn pair(other: Runner) -> Pair {
-    Pair {
-        rust: run_repeated,
-        other,
-    }
+    Pair::at(F, other)
+}
+
+/// Runs a list over a board of any rate.
+pub fn run(board: &mut Board, list: &[u8], answers: &mut [u8]) -> Outcome {
+    board.run(list, answers)
 }
 
 /// A list over a board by a function that runs one call into the rest of the buffer. What is no whole call is given to
@@ -177,7 +191,18 @@ pub fn call_by_call(
     answers: &mut [u8],
     one: impl Fn(&mut Board, &[u8], &mut [u8]) -> Outcome,
 ) -> Outcome {
-    let mut board = Board::fresh();
+    call_by_call_over(Board::fresh(), first, list, times, answers, one)
+}
+
+/// The same over a given board.
+pub fn call_by_call_over(
+    mut board: Board,
+    first: &[u8],
+    list: &[u8],
+    times: u64,
+    answers: &mut [u8],
+    one: impl Fn(&mut Board, &[u8], &mut [u8]) -> Outcome,
+) -> Outcome {
     let mut outcome = each_call(&mut board, first, answers, &one);
     for _ in 0..times {
         outcome = each_call(&mut board, list, answers, &one);
@@ -187,8 +212,13 @@ pub fn call_by_call(
 
 /// Random sound boards, the same each time.
 pub fn sound_boards(count: usize) -> impl Iterator<Item = (Random, Fields)> {
-    (0..count as u64).map(|seed| {
-        let mut random = Random::new(seed);
+    sound_boards_at(F, count)
+}
+
+/// Random sound boards of a rate.
+pub fn sound_boards_at(rate: u32, count: usize) -> impl Iterator<Item = (Random, Fields)> {
+    (0..count as u64).map(move |seed| {
+        let mut random = Random::at(rate, seed);
         let fields = random.sound_fields();
         (random, fields)
     })
