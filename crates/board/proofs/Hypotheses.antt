@@ -95,8 +95,8 @@ pub shut-out :
     ≡ true
 unfolding
     enabledOf irqEnabledOf disabled soundTimer lineOf advanced ticked tickedIn oneShot ticksToGo deadlineOf shifted
-    ownNanoseconds timeOf timeSeconds alarmReached checkAlarm movedTime endAdvance advanceClock soundRate soundOffset soundAlarm
-    clockParts
+    ownNanoseconds timeOf timeSeconds alarmReached checkAlarm movedTime endAdvance advanceClock soundRate soundOffset
+    soundAlarm clockParts
     alarmAhead soundClock clockDeadline withBit sourceSet mapFrom foldFrom line exactDeadline wired soundParts sound
     movedBoard advancedBoard
     hostTimeRefusal answerOf after afterAll

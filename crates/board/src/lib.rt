@@ -65,7 +65,7 @@ impl Board {
         Self::fresh_with(Self::RATE)
     }
 
-    // A fresh board of a rate. Of a rate that no sound board has, it is a fresh board of which none is said, and refused.
+    // A fresh board of a rate. A rate that no sound board has is refused, with a fresh board of which none is said.
     pub fn fresh_at(rate: u32) -> EmptyAnswer
         ensures { λ r. ⌜ r ≡ freshOf rate ⌝ }
     {

@@ -121,8 +121,8 @@ settings =
     && not (signedDifference 5 5 .negative))
 
 settings-hold : settings ≡ true
-unfolding settings ratesRow after withArmed isSome secondsBytes alarmBytes f g seven nine ahead soundRate withByte shifted ownNanoseconds
-    timeOf timeSeconds alarmReached checkAlarm movedTime endAdvance advanceClock clockDeadline
+unfolding settings ratesRow after withArmed isSome secondsBytes alarmBytes f g seven nine ahead soundRate withByte
+    shifted ownNanoseconds timeOf timeSeconds alarmReached checkAlarm movedTime endAdvance advanceClock clockDeadline
     signedDifference setTime timeKept changeControl writeControl marked shadowByte offsetFor commitSeconds
     writeSeconds commitAlarm writeAlarm timeNanoseconds
 settings-hold = refl

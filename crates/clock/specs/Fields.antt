@@ -121,7 +121,8 @@ withHost h k = record {
   host = h;
 }
 
--- S-7: 'A fresh board of which no rate is said, as in `listrun`, document 01's settings and refusals, is at 48,000,000.'
+-- S-7: 'A fresh board of which no rate is said, as in `listrun`, document 01's settings and refusals, is at
+-- 48,000,000.'
 abbrev pub freshRate : ℕ
 freshRate = 48_000_000
 

@@ -302,8 +302,8 @@ unfolding
     skipped atRate seconds settingI settingJ lowCount steady worked gives same settings beAt be withByte enabledOf
     irqEnabledOf disabled soundTimer lineOf advanced pointsMet matchesIn oneShot reloaded matched periodic distance
     freeRunning tickedIn ticked ticksToGo deadlineOf wordOf controlWritten channelWritten shifted ownNanoseconds
-    timeOf timeSeconds alarmReached checkAlarm movedTime endAdvance advanceClock soundRate soundOffset soundAlarm clockParts
-    alarmAhead soundClock clockDeadline signedDifference setTime timeKept changeControl writeControl marked shadowByte
+    timeOf timeSeconds alarmReached checkAlarm movedTime endAdvance advanceClock soundRate soundOffset soundAlarm
+    clockParts alarmAhead soundClock clockDeadline signedDifference setTime timeKept changeControl writeControl marked shadowByte
     offsetFor commitSeconds writeSeconds timeNanoseconds withBit without sourceSet outputOf lowestFrom byteWritten
     pendingCleared mapFrom foldFrom line exactDeadline wired soundParts sound answerOf freshOf movedBoard advancedBoard
     timerWord clockWord liveWord readLive readCountHigh readChannel secondsLatched readLow readHigh readAt

@@ -131,8 +131,8 @@ pub extern "C" fn pec_run_at(
     r.refusal
 }
 
-// Runs a list over a fresh board of a rate, and then another list a number of times, as `pec_run_repeated` does over one
-// at 48,000,000. Another rate is refused as by `pec_run_at`.
+// Runs a list over a fresh board of a rate, and then another list a number of times, as `pec_run_repeated` does over
+// one at 48,000,000. Another rate is refused as by `pec_run_at`.
 #[no_mangle]
 pub extern "C" fn pec_run_repeated_at(
     rate: u32,

@@ -103,7 +103,7 @@ pub rows :
     × (shown (controlled 4 settingA) (30 ∷ 29 ∷ []) 2 ≡ 0 ∷ 1 ∷ 0 ∷ [])
 unfolding
     enabledOf irqEnabledOf disabled soundTimer lineOf advanced oneShot distance freeRunning tickedIn ticked shifted
-    ownNanoseconds timeOf timeSeconds alarmReached checkAlarm movedTime endAdvance advanceClock soundRate soundOffset soundAlarm
-    clockParts alarmAhead soundClock withBit sourceSet mapFrom foldFrom line wired soundParts sound movedBoard
+    ownNanoseconds timeOf timeSeconds alarmReached checkAlarm movedTime endAdvance advanceClock soundRate soundOffset
+    soundAlarm clockParts alarmAhead soundClock withBit sourceSet mapFrom foldFrom line wired soundParts sound movedBoard
     advancedBoard previewRefusal previewOf previewedBuffer
 rows = (refl, refl, refl, refl, refl, refl, refl, refl, refl, refl, refl, refl, refl, refl, refl, refl)

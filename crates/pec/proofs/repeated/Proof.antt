@@ -25,11 +25,9 @@ run-requires-2 c κs = search needs
 
 add-k : tie.Need-add-k Inv-loop μ-loop
 add-k c =
-    omega (
-      arith,
-      c .before .before .before .before .before .loop-test .taken,
-      c .before .before .before .before .before .before .before .before .before .before .before .before .before .before .good,
-    )
+    let start =
+    c .before .before .before .before .before .before .before .before .before .before .before .before .before .before in
+    omega (arith, c .before .before .before .before .before .loop-test .taken, start .good)
 
 loop-less : tie.Need-loop-less Inv-loop μ-loop
 loop-less c = omega (arith, c .before .before .before .before .before .loop-test .taken)

@@ -15,7 +15,8 @@ fn boards() -> Vec<Fields> {
     RATES.into_iter().flat_map(boards_at).collect()
 }
 
-/// The fresh board of a rate, one about to commit, one with its alarm due and latches held, a busy one, and a random one.
+/// The fresh board of a rate, one about to commit, one with its alarm due and latches held, a busy one, and a random
+/// one.
 fn boards_at(rate: u32) -> Vec<Fields> {
     let held = Latch {
         held: true,

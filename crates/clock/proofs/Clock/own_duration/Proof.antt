@@ -29,7 +29,8 @@ cast-t7 c =
     let start = c .before .before .before .before in
     let k = start .args .self in
     let e = c .before .divided .ensures .0 in
-    rw (e, c .before .before .rate .ensures) (omega (arith, nanos-below (rateOf k) (k .subsecond) (start .pre .subsecond)))
+    rw (e, c .before .before .rate .ensures)
+    (omega (arith, nanos-below (rateOf k) (k .subsecond) (start .pre .subsecond)))
 
 returns : tie.Need-returns
 unfolding ownNanoseconds
