@@ -112,8 +112,8 @@ outputAnswer a =
 abbrev pub anotherRate : ℕ
 anotherRate = 15
 
--- 'A fresh board takes its rate, one of these or 48,000,000, and the board carries it. .. 15, another rate, before all
--- else when a board is made (a fresh board is handed back)'
+-- S-7: 'A fresh board takes its rate, one of these or 48,000,000, and the board carries it. .. 15, another rate, before
+-- all else when a board is made (a fresh board is handed back)'
 unfoldable pub freshOf : ℕ → EmptyAnswer
 freshOf rate =
     cond (soundRate rate) (record { board = freshBoardAt rate; refusal = 0 })

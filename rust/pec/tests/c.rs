@@ -199,3 +199,22 @@ fn the_library_uses_no_heap() {
     let known = ["memcpy", "memmove", "memset"];
     assert!(names.iter().all(|name| known.contains(name)), "{names:?}");
 }
+
+#[test]
+fn the_clock_divides_by_constants() {
+    let output = Command::new("objdump")
+        .args(["-d", "--no-show-raw-insn"])
+        .arg(archive())
+        .output()
+        .expect("objdump runs");
+    assert!(output.status.success());
+    let text = String::from_utf8(output.stdout).expect("objdump prints text");
+    let instructions = text
+        .lines()
+        .filter_map(|line| line.split_once(":\t"))
+        .map(|(_, instruction)| instruction);
+    let divisions =
+        instructions.filter(|instruction| instruction.starts_with("div") || instruction.starts_with("idiv"));
+    // Those by a prescaler or a reload. A division by a constant is a multiplication, so that the rates add none.
+    assert_eq!(divisions.count(), 16);
+}
