@@ -1,21 +1,26 @@
--- What a contract quotes of the deadline. Each theorem is about a sound machine board whose line is low and whose clock
--- does not run from host time: first where its deadline is d, last where it gives none. Assumes nothing.
-use Prim.Native.Nat.{ℕ, _+_, _-_, _≤_, _<_}
+-- What a contract quotes of the deadline. Each theorem is about a sound machine board. In the first two parts its line
+-- is low and its clock does not run from host time: its deadline is d, or it gives none. In the last its clock has a
+-- deadline of its own. Assumes nothing.
+use Prim.Native.Nat.{ℕ, _+_, _-_, _*_, _≤_, _<_}
 use native.Mathlib.Omega.{arith}
 use mathlib.Core.Path.{_≡_, sym, ap, _∙_}
-use mathlib.Core.Bool.{true, false, _||_, or-false, or-true}
+use mathlib.Core.Bool.{true, false, not, _&&_, _||_, or-false, or-true, false≢true}
 use mathlib.Core.Option.{Option, none, some}
 use mathlib.Core.List.{List}
 use lib.Dec.{leb}
 use borrow.Author.Tests.{le-leb, lt-leb}
+use Rattle.wide.specs.Bits.{bit}
 use Rattle.wide.specs.Deadline.{due}
-use Rattle.wide.proofs.Choices.{leb-same}
-use Rattle.wide.proofs.Deadlines.{due-is}
-use Rattle.clock.specs.Clock.{fromHost}
+use Rattle.wide.proofs.Choices.{either, and-parts, leb-same}
+use Rattle.wide.proofs.Deadlines.{due-sooner, due-is}
+use Rattle.clock.specs.Clock.{rateOf, fromHost, ownTime}
+use Rattle.clock.specs.Deadline.{awaited, clockDeadline}
 use Rattle.board.specs.declared.Board.{Board}
 use Rattle.board.specs.Board.{BoardFits, line, exactDeadline, sound}
-use Rattle.board.specs.Calls.{advancedBoard}
+use Rattle.board.specs.Channels.{soonestOf}
+use Rattle.board.specs.Calls.{isPresent, orZero, advancedBoard}
 use Rattle.board.specs.Demand.{DemandCall, afterAll, total, source3}
+use Rattle.board.proofs.Soundness.{clock-facts}
 use Rattle.board.proofs.Steps.{good, boardDue, line-due, advance-step}
 use Rattle.board.proofs.Demand3.{line-after, source-after}
 
@@ -83,3 +88,42 @@ module _ (b : Board) (f : BoardFits b) (s : sound b ≡ true) (low : line b ≡ 
       source-after b f s low o calls
       ∙ ap (λ (x : Option ℕ). source3 b || due x (total calls b)) none-given
       ∙ or-false (source3 b)
+
+-- where the clock has a deadline of its own, by the board's rate
+module _ (b : Board) (f : BoardFits b) (s : sound b ≡ true) where
+  abbrev toAlarm : ℕ
+  toAlarm = (b .clock .alarm .seconds - b .clock .seconds) * rateOf (b .clock) - b .clock .subsecond
+
+  ahead : awaited (b .clock) ≡ true → b .clock .seconds < b .clock .alarm .seconds
+  ahead a =
+      let k = b .clock in
+      let waits = k .alarm .armed && not (k .alarm .pending) in
+      let p = and-parts (ownTime (k .control)) (bit 0 (k .alarm .enable) && waits) a in
+      let q = and-parts (bit 0 (k .alarm .enable)) waits (p .1) in
+      let r = and-parts (k .alarm .armed) (not (k .alarm .pending)) (q .1) in
+      clock-facts b (f .clock) s .ahead (r .0) (p .0)
+
+  awaited-is : awaited (b .clock) ≡ true → clockDeadline (rateOf (b .clock)) (b .clock) ≡ some toAlarm
+  unfolding clockDeadline
+  awaited-is a = rw (a, lt-leb (b .clock .alarm .seconds) (b .clock .seconds) (ahead a))
+
+  resting-is : awaited (b .clock) ≡ false → clockDeadline (rateOf (b .clock)) (b .clock) ≡ none
+  unfolding clockDeadline
+  resting-is a = rw a
+
+  module _ (n : ℕ) (own : clockDeadline (rateOf (b .clock)) (b .clock) ≡ some n) where
+    -- it is the cycles to the alarm
+    pub clock-deadline : n ≡ toAlarm
+    clock-deadline =
+        either (awaited (b .clock)) (λ a. ap orZero (sym own ∙ awaited-is a))
+        (λ a. absurd (false≢true (ap isPresent (sym (resting-is a) ∙ own))))
+
+    -- and the board has a deadline, which is that or less
+    pub deadline-within : due (exactDeadline b) n ≡ true
+    unfolding exactDeadline
+    deadline-within =
+        let channels = soonestOf (b .«timer_enable») (b .timers) in
+        due-sooner channels (clockDeadline (rateOf (b .clock)) (b .clock)) n
+        ∙ ap (λ (x : Option ℕ). due channels n || due x n) own
+        ∙ ap (λ v. due channels n || v) (le-leb n n (omega arith))
+        ∙ or-true (due channels n)

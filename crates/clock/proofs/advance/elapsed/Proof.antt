@@ -40,7 +40,7 @@ add-t11 c =
     let d = c .before .before .before .before .divided in
     record {
       fits =
-          steps-fit (a .part) (a .cycles .0) v _ _ _ 0 (d .ensures .0) (d .ensures .1)
+          steps-fit (a .part) (a .cycles .0) v _ _ _ (d .ensures .0) (d .ensures .1)
           (c .before .before .divided2 .ensures .0) (period-above v (start .pre)) (period-fits v (start .pre))
           (omega arith) (omega arith);
     }
@@ -51,7 +51,7 @@ returns-2 c =
     let a = start .args in
     let d = c .before .before .before .before .divided in
     let e = c .before .before .divided2 in
-    steps (a .part) (a .cycles .0) (a .period) _ _ _ _ (d .ensures .0) (d .ensures .1) (e .ensures .0)
+    steps (a .part) (a .cycles .0) (a .period) _ _ _ (d .ensures .0) (d .ensures .1) (e .ensures .0) _
     (omega (arith, period-above (a .period) (start .pre))) (e .ensures .1)
 
 pub elapsed-spec : {M : Type 1} → statement M
