@@ -1,14 +1,15 @@
 -- The fields of an image one behind another: their lengths, and how they are stored. Assumes nothing.
-use Prim.Native.Nat.{ℕ, _+_, _^_, _<_}
+use Prim.Native.Nat.{ℕ, _+_, _-_, _^_, _≤_, _<_}
 use native.Mathlib.Omega.{arith}
 use mathlib.Core.Path.{_≡_, refl, sym, ap, ap₂, _∙_, subst}
 use mathlib.Core.List.{List, [], _∷_, _++_, map, append-assoc, append-nil}
-use lib.ListN.{length, getD, length-append, length-map}
-use lib.Seq.{sets}
+use lib.ListN.{length, getD, take, drop, length-append, length-map, length-drop, drop-of-length-le}
+use lib.Seq.{sets, length-sets, sets-eq, drop-drop}
 use Rattle.format.specs.Format.{membersBytes}
-use Rattle.format.proofs.Frames.{sets-then, record-length, members-length}
+use Rattle.format.proofs.Frames.{part-rest, sets-then, sets-front, record-length, members-length}
 use Rattle.channel.specs.declared.HardwareTimer.{HardwareTimer}
 use Rattle.channel.specs.Channel.{freshTimer}
+use Rattle.clock.specs.Clock.{rateOf}
 use Rattle.board.specs.declared.Latch.the-variants.{Empty}
 use Rattle.board.specs.declared.Latch.{Latch}
 use Rattle.board.specs.declared.CountLatch.{CountLatch}
@@ -23,7 +24,8 @@ use Rattle.image.specs.Image.{
   clockField,
   latchesField,
   controllerField,
-  layout,
+  rateField,
+  layoutOf,
   fieldLength,
   fieldsLength,
   imageLength,
@@ -31,11 +33,13 @@ use Rattle.image.specs.Image.{
   clockMembers,
   latchesMembers,
   controllerMembers,
-  membersOf,
+  formMembers,
   fieldBytes,
   fieldsBytes,
   imageOf,
 }
+use Rattle.image.specs.declared.Form.{Form}
+use Rattle.image.specs.declared.Form.the-variants.{Old, New}
 use Rattle.image.specs.CodeTables.{channels, channelsBytes, clockAt, latchesAt, controllerAt}
 use Rattle.image.specs.Words.{CountWord, LatchWords}
 
@@ -70,9 +74,9 @@ fields-length [] mss = refl
 fields-length (f ∷ fs) mss =
     length-append (fieldBytes f (getD mss 0 [])) _ ∙ ap₂ _+_ (field-length f (getD mss 0 [])) (fields-length fs _)
 
-pub image-length : (b : Board) → length (imageOf b) ≡ imageLength
+pub image-length : (f : Form) (b : Board) → length (imageOf f b) ≡ imageLength f
 unfolding imageOf
-image-length b = fields-length layout (membersOf b)
+image-length f b = fields-length (layoutOf f) (formMembers f b)
 
 -- ---- parts
 
@@ -118,14 +122,15 @@ channels-stored ts four x y z u v e f g h =
     (stored-then z u v 76 114 38 (channelBytes ts 2) _ g (field-length channelField _) refl last))
     ∙ ap (λ (xs : List HardwareTimer). sets x 0 (channelsBytes xs)) (sym (four-is freshTimer ts four))
 
--- the image: the channels' fields, and the three behind them
-pub image-stored : (b : Board) → length (b .timers) ≡ 4 → (x y z u v : List ℕ) →
+-- the image in the old form: the channels' fields, and the three behind them
+pub old-stored : (b : Board) → length (b .timers) ≡ 4 → (x y z u v : List ℕ) →
     y ≡ sets x 0 (channelsBytes (b .timers)) →
     z ≡ sets y clockAt (fieldBytes clockField (clockMembers (b .«timer_enable») (b .clock))) →
     u ≡ sets z latchesAt (fieldBytes latchesField (latchesMembers (b .latches))) →
-    v ≡ sets u controllerAt (fieldBytes controllerField (controllerMembers (b .controller))) → v ≡ sets x 0 (imageOf b)
+    v ≡ sets u controllerAt (fieldBytes controllerField (controllerMembers (b .controller))) →
+    v ≡ sets x 0 (imageOf Old b)
 unfolding imageOf fieldsBytes
-image-stored b four x y z u v e f g h =
+old-stored b four x y z u v e f g h =
     let k = fieldBytes clockField (clockMembers (b .«timer_enable») (b .clock)) in
     let l = fieldBytes latchesField (latchesMembers (b .latches)) in
     let q = fieldBytes controllerField (controllerMembers (b .controller)) in
@@ -141,6 +146,49 @@ image-stored b four x y z u v e f g h =
     ∙ ap (sets x 0)
     (sym (fields-append channels others (map timerMembers (b .timers)) (otherMembers b)
     (length-map (b .timers) timerMembers ∙ four)))
+
+-- the new form is the rate's field and the old form
+pub new-image : (b : Board) → imageOf New b ≡ fieldBytes rateField (rateOf (b .clock) ∷ []) ++ imageOf Old b
+unfolding imageOf fieldsBytes
+new-image b = refl
+
+-- a store into the bytes from an index on, which go back to their place
+part-stored : (y vs : List ℕ) (n : ℕ) → n + length vs ≤ length y →
+    take n y ++ (sets (take (length y - n) (drop n y)) 0 vs ++ drop (length y - n) (drop n y)) ≡ sets y n vs
+part-stored y vs n h =
+    let over : drop (length y - n) (drop n y) ≡ [] =
+    drop-of-length-le (drop n y) {i = length y - n} (omega (arith, length-drop n y)) in
+    ap₂ (λ (p q : List ℕ). take n y ++ (sets p 0 vs ++ q)) (part-rest y n) over
+    ∙ ap (λ (l : List ℕ). take n y ++ l) (append-nil (sets (drop n y) 0 vs))
+    ∙ ap (λ (l : List ℕ). take n y ++ l)
+    (sets-front (drop n y) vs (omega (arith, h, length-drop n y))
+    ∙ ap (λ (l : List ℕ). vs ++ l) (drop-drop (length vs) n y))
+    ∙ sym (append-assoc (take n y) vs (drop (n + length vs) y))
+    ∙ sym (sets-eq vs y n h)
+
+-- so it is stored: y is the buffer with the rate's field, and the old form goes into the bytes behind that
+module _ (b : Board) (x y : List ℕ) (room : imageLength New ≤ length x)
+    (e : y ≡ sets x 0 (fieldBytes rateField (rateOf (b .clock) ∷ []))) where
+  same-length : length y ≡ length x
+  same-length = ap length e ∙ length-sets x 0 (fieldBytes rateField (rateOf (b .clock) ∷ []))
+
+  pub rate-room : 7 ≤ length y
+  rate-room = omega (arith, room, same-length)
+
+  pub old-room : imageLength Old ≤ length (take (length y - 7) (drop 7 y))
+  old-room =
+      subst (λ (l : List ℕ). imageLength Old ≤ length l) (sym (part-rest y 7))
+      (omega (arith, room, same-length, length-drop 7 y))
+
+  pub new-stored : (z : List ℕ) → z ≡ sets (take (length y - 7) (drop 7 y)) 0 (imageOf Old b) →
+      take 7 y ++ (z ++ drop (length y - 7) (drop 7 y)) ≡ sets x 0 (imageOf New b)
+  new-stored z f =
+      ap (λ (l : List ℕ). take 7 y ++ (l ++ drop (length y - 7) (drop 7 y))) f
+      ∙ part-stored y (imageOf Old b) 7 (omega (arith, room, same-length, image-length Old b))
+      ∙ ap (λ (l : List ℕ). sets l 7 (imageOf Old b)) e
+      ∙ sets-then x 0 7 (fieldBytes rateField (rateOf (b .clock) ∷ [])) (imageOf Old b)
+      (field-length rateField (rateOf (b .clock) ∷ []))
+      ∙ ap (sets x 0) (sym (new-image b))
 
 -- ---- the latches' field
 

@@ -1,6 +1,7 @@
 -- S-1, 'Parked boards': the image of a board. 'Each channel is one field with tag 20 (hexadecimal, as all tags); then
 -- 21 timer enable to host nanoseconds, 22 latches, 23 controller. A field is tag, two-byte length, and the members in
--- document 01's order and widths, big-endian.'
+-- document 01's order and widths, big-endian.' S-8, 'Parked boards with a rate': this is the old form, and 'The new form
+-- begins with a field, tag 24, four bytes of rate.'
 use Prim.Native.Nat.{ℕ, _+_}
 use mathlib.Core.Bool.{Bool, true, cond, _&&_, _||_}
 use mathlib.Core.List.{List, [], _∷_, _++_, map}
@@ -11,6 +12,7 @@ use Rattle.wide.specs.Fields.{beAt}
 use Rattle.format.specs.Format.{sum, headerLength, membersAt, membersBytes, recordOf}
 use Rattle.channel.specs.declared.HardwareTimer.{HardwareTimer}
 use Rattle.clock.specs.declared.Clock.{Clock}
+use Rattle.clock.specs.Clock.{rateOf}
 use Rattle.clock.specs.Fields.{freshRate}
 use Rattle.controller.specs.declared.IrqController.{IrqController}
 use Rattle.board.specs.declared.Latch.{Latch}
@@ -19,6 +21,8 @@ use Rattle.board.specs.declared.CountLatch.{CountLatch}
 use Rattle.board.specs.declared.Latches.{Latches}
 use Rattle.board.specs.declared.Board.{Board}
 use Rattle.board.specs.Board.{heldOf, heldValue}
+use Rattle.image.specs.declared.Form.{Form}
+use Rattle.image.specs.declared.Form.the-variants.{Old, New}
 
 -- ---- the fields
 
@@ -75,9 +79,19 @@ latchesField =
 abbrev pub controllerField : Field
 controllerField = record { tag = 0x23; members = number 2 ∷ number 2 ∷ number 2 ∷ [] }
 
+-- S-1's fields
 abbrev pub layout : List Field
 layout =
     channelField ∷ channelField ∷ channelField ∷ channelField ∷ clockField ∷ latchesField ∷ controllerField ∷ []
+
+-- S-8: 'a field, tag 24, four bytes of rate'
+abbrev pub rateField : Field
+rateField = record { tag = 0x24; members = number 4 ∷ [] }
+
+-- the fields of each form
+abbrev pub layoutOf : Form → List Field
+layoutOf Old = layout
+layoutOf New = rateField ∷ layout
 
 -- the bytes of a field's members
 abbrev pub membersLength : Field → ℕ
@@ -90,8 +104,8 @@ fieldLength f = headerLength + membersLength f
 abbrev pub fieldsLength : List Field → ℕ
 fieldsLength fs = sum (map fieldLength fs)
 
-abbrev pub imageLength : ℕ
-imageLength = fieldsLength layout
+abbrev pub imageLength : Form → ℕ
+imageLength f = fieldsLength (layoutOf f)
 
 -- ---- the members of a board, as numbers, a list for each field
 
@@ -121,11 +135,17 @@ latchesMembers ls = countMembers (ls .counts) ++ (latchMembers (ls .low) ++ latc
 abbrev pub controllerMembers : IrqController → List ℕ
 controllerMembers q = q .pending ∷ q .enable ∷ q .levels ∷ []
 
+-- S-1's fields
 abbrev pub membersOf : Board → List (List ℕ)
 membersOf b =
     map timerMembers (b .timers)
     ++ (clockMembers (b .«timer_enable») (b .clock) ∷ latchesMembers (b .latches)
     ∷ controllerMembers (b .controller) ∷ [])
+
+-- those of each form
+abbrev pub formMembers : Form → Board → List (List ℕ)
+formMembers Old b = membersOf b
+formMembers New b = (rateOf (b .clock) ∷ []) ∷ membersOf b
 
 -- ---- the image
 
@@ -138,8 +158,9 @@ unfoldable pub fieldsBytes : List Field → List (List ℕ) → List ℕ
 fieldsBytes [] mss = []
 fieldsBytes (f ∷ fs) mss = fieldBytes f (getD mss 0 []) ++ fieldsBytes fs (drop 1 mss)
 
-unfoldable pub imageOf : Board → List ℕ
-imageOf b = fieldsBytes layout (membersOf b)
+-- the image of a board in each form
+unfoldable pub imageOf : Form → Board → List ℕ
+imageOf f b = fieldsBytes (layoutOf f) (formMembers f b)
 
 -- ---- what some bytes say
 
@@ -162,9 +183,9 @@ unfoldable pub fieldsAt : List ℕ → ℕ → List Field → Bool
 fieldsAt l at [] = eqb (length l) at
 fieldsAt l at (f ∷ fs) = fieldAt l at f && fieldsAt l (at + fieldLength f) fs
 
--- the bytes have the form of an image
-abbrev pub formed : List ℕ → Bool
-formed l = fieldsAt l 0 layout
+-- the bytes are formed as an image of each form
+abbrev pub formed : Form → List ℕ → Bool
+formed f l = fieldsAt l 0 (layoutOf f)
 
 -- the members of fields that stand from an index on, a list for each field
 unfoldable pub membersFrom : List ℕ → ℕ → List Field → List (List ℕ)
@@ -190,11 +211,11 @@ timerFrom ms =
       armed = flagIs (getD ms 7 0);
     }
 
--- an image has no rate: its board is at that of a fresh one
-abbrev pub clockFrom : List ℕ → Clock
-clockFrom ms =
+-- at a rate, which is no member of the clock's field
+abbrev pub clockFrom : ℕ → List ℕ → Clock
+clockFrom rate ms =
     record {
-      rate = freshRate;
+      rate = rate;
       control = getD ms 1 0;
       seconds = getD ms 2 0;
       subsecond = getD ms 3 0;
@@ -236,14 +257,26 @@ emptiesHold0 (held ∷ value ∷ ms) = (flagIs held || eqb value 0) && emptiesHo
 abbrev pub controllerFrom : List ℕ → IrqController
 controllerFrom ms = record { pending = getD ms 0 0; enable = getD ms 1 0; levels = getD ms 2 0 }
 
-unfoldable pub boardFrom : List (List ℕ) → Board
-boardFrom mss =
+-- the board at a rate of the members of S-1's fields
+unfoldable pub boardFrom : ℕ → List (List ℕ) → Board
+boardFrom rate mss =
     record {
       timers =
           timerFrom (getD mss 0 []) ∷ timerFrom (getD mss 1 [])
           ∷ timerFrom (getD mss 2 []) ∷ timerFrom (getD mss 3 []) ∷ [];
       «timer_enable» = getD (getD mss 4 []) 0 0;
-      clock = clockFrom (getD mss 4 []);
+      clock = clockFrom rate (getD mss 4 []);
       latches = latchesFrom (getD mss 5 []);
       controller = controllerFrom (getD mss 6 []);
     }
+
+-- the members of S-1's fields among those of each form
+abbrev pub boardMembers : Form → List (List ℕ) → List (List ℕ)
+boardMembers Old mss = mss
+boardMembers New mss = drop 1 mss
+
+-- the rate that the members of each form say: 'Images from S-1 have no rate', and are 48,000,000's, which a fresh board
+-- has of which no rate is said
+abbrev pub rateFrom : Form → List (List ℕ) → ℕ
+rateFrom Old mss = freshRate
+rateFrom New mss = getD (getD mss 0 []) 0 0

@@ -1,8 +1,16 @@
 // The image of a board: the bytes of its fields, put into a buffer.
+ghost use mathlib.Core.Path.{_≡_};
+ghost use Rattle.image.specs.Image.{imageLength};
 use board::Board;
 use format::HEADER_LENGTH;
 
 pub mod put;
+
+// The forms of an image: S-1's, which has no rate, and S-8's, which begins with it.
+pub enum Form {
+    Old,
+    New,
+}
 
 // The tags of an image's fields.
 pub const CHANNEL_TAG: u8 = 0x20;
@@ -12,6 +20,8 @@ pub const CLOCK_TAG: u8 = 0x21;
 pub const LATCHES_TAG: u8 = 0x22;
 
 pub const CONTROLLER_TAG: u8 = 0x23;
+
+pub const RATE_TAG: u8 = 0x24;
 
 // The bytes of each field's members, and their widths.
 pub const CHANNEL_LENGTH: usize = 35;
@@ -30,7 +40,11 @@ pub const CONTROLLER_LENGTH: usize = 6;
 
 pub const CONTROLLER_WIDTHS: [usize; 3] = [2, 2, 2];
 
-// Where the fields begin, and where the image ends.
+pub const RATE_LENGTH: usize = 4;
+
+pub const RATE_WIDTHS: [usize; 1] = [4];
+
+// Where S-1's fields begin in the old form, and where it ends.
 pub const CHANNEL_SIZE: usize = HEADER_LENGTH + CHANNEL_LENGTH;
 
 pub const CLOCK_AT: usize = Board::CHANNELS * CHANNEL_SIZE;
@@ -39,5 +53,19 @@ pub const LATCHES_AT: usize = CLOCK_AT + HEADER_LENGTH + CLOCK_LENGTH;
 
 pub const CONTROLLER_AT: usize = LATCHES_AT + HEADER_LENGTH + LATCHES_LENGTH;
 
+pub const OLD_LENGTH: usize = CONTROLLER_AT + HEADER_LENGTH + CONTROLLER_LENGTH;
+
+// Where they begin in the new form, behind the rate's field, and where that ends.
+pub const RATE_SIZE: usize = HEADER_LENGTH + RATE_LENGTH;
+
+pub const NEW_LENGTH: usize = RATE_SIZE + OLD_LENGTH;
+
 // The bytes of an image.
-pub const IMAGE_LENGTH: usize = CONTROLLER_AT + HEADER_LENGTH + CONTROLLER_LENGTH;
+pub fn image_length(form: Form) -> usize
+    ensures { λ r. ⌜ r ≡ imageLength form ⌝ }
+{
+    match form {
+        Form::Old => OLD_LENGTH,
+        Form::New => NEW_LENGTH,
+    }
+}

@@ -1,5 +1,6 @@
 // The bytes of a board's image, field by field. The contracts also say that the words that are put are words.
 ghost use mathlib.Core.Path.{_≡_};
+ghost use mathlib.Core.List.{[], _∷_};
 ghost use Prim.Native.Nat.{_+_, _≤_, _<_, _^_};
 ghost use lib.ListN.{length};
 ghost use lib.Seq.{sets};
@@ -8,9 +9,10 @@ ghost use Rattle.format.specs.Format.{sum, membersBytes, recordOf};
 ghost use Rattle.board.specs.Loops.{All};
 ghost use Rattle.board.specs.Board.{BoardFits, heldOf, heldValue};
 ghost use Rattle.image.specs.CodeTables.{Laid, channelsBytes, clockAt, latchesAt, controllerAt};
-ghost use Rattle.image.specs.Image.{channelField, clockField, latchesField, controllerField, imageLength};
+ghost use Rattle.image.specs.Image.{channelField, clockField, latchesField, controllerField, rateField};
 ghost use Rattle.image.specs.Image.{timerMembers, clockMembers, latchesMembers, controllerMembers};
-ghost use Rattle.image.specs.Image.{fieldLength, fieldBytes, imageOf};
+ghost use Rattle.image.specs.Image.{fieldLength, imageLength, fieldBytes, imageOf};
+ghost use Rattle.image.specs.declared.Form.the-variants.{Old};
 ghost use Rattle.image.specs.Words.{TimerWords, ClockWords, LatchWords, ControllerWords, BoardWords};
 use crate::CHANNEL_LENGTH;
 use crate::CHANNEL_SIZE;
@@ -24,10 +26,15 @@ use crate::CONTROLLER_AT;
 use crate::CONTROLLER_LENGTH;
 use crate::CONTROLLER_TAG;
 use crate::CONTROLLER_WIDTHS;
+use crate::Form;
 use crate::LATCHES_AT;
 use crate::LATCHES_LENGTH;
 use crate::LATCHES_TAG;
 use crate::LATCHES_WIDTHS;
+use crate::RATE_LENGTH;
+use crate::RATE_SIZE;
+use crate::RATE_TAG;
+use crate::RATE_WIDTHS;
 use board::Board;
 use board::CountLatch;
 use board::Latch;
@@ -186,7 +193,7 @@ fn put_latches(buf: &mut [u8], counts: [CountLatch; 4], low: Latch, high: Latch)
 }
 
 fn put_controller(buf: &mut [u8], controller: IrqController)
-    requires { ⌜ imageLength ≤ length (now buf) ⌝ }
+    requires { ⌜ imageLength Old ≤ length (now buf) ⌝ }
     ensures { λ _. ⌜ now (buf .exit)
         ≡ sets (now (buf .entry)) controllerAt (fieldBytes controllerField (controllerMembers controller)) ⌝ }
     ensures { λ _. ⌜ ControllerWords controller ⌝ }
@@ -217,10 +224,10 @@ fn put_channels(buf: &mut [u8], timers: [HardwareTimer; 4])
     put_channel(buf, 3 * CHANNEL_SIZE, timers[3]);
 }
 
-// The image of a board, from the buffer's first byte on.
-pub fn put_image(buf: &mut [u8], board: Board)
-    requires { ⌜ imageLength ≤ length (now buf) ⌝ }
-    ensures { λ _. ⌜ now (buf .exit) ≡ sets (now (buf .entry)) 0 (imageOf board) ⌝ }
+// The image of a board in the old form.
+fn put_old(buf: &mut [u8], board: Board)
+    requires { ⌜ imageLength Old ≤ length (now buf) ⌝ }
+    ensures { λ _. ⌜ now (buf .exit) ≡ sets (now (buf .entry)) 0 (imageOf Old board) ⌝ }
     ensures { λ _. ⌜ (BoardFits board → BoardWords board) ⌝ }
 {
     let timers = board.timers;
@@ -234,4 +241,28 @@ pub fn put_image(buf: &mut [u8], board: Board)
     put_latches(buf, counts, low, high);
     let controller = board.controller;
     put_controller(buf, controller);
+}
+
+// The field that the new form begins with.
+fn put_rate(buf: &mut [u8], rate: u32)
+    requires { ⌜ fieldLength rateField ≤ length (now buf) ⌝ }
+    ensures { λ _. ⌜ now (buf .exit) ≡ sets (now (buf .entry)) 0 (fieldBytes rateField (rate ∷ [])) ⌝ }
+{
+    let members = [rate as u64];
+    put_field(buf, 0, RATE_TAG, RATE_LENGTH, &RATE_WIDTHS, &members);
+}
+
+// The image of a board in a form, from the buffer's first byte on.
+pub fn put_image(buf: &mut [u8], form: Form, board: Board)
+    requires { ⌜ imageLength form ≤ length (now buf) ⌝ }
+    ensures { λ _. ⌜ now (buf .exit) ≡ sets (now (buf .entry)) 0 (imageOf form board) ⌝ }
+    ensures { λ _. ⌜ (BoardFits board → BoardWords board) ⌝ }
+{
+    match form {
+        Form::Old => put_old(buf, board),
+        Form::New => {
+            put_rate(buf, board.clock.rate);
+            put_old(&mut buf[RATE_SIZE..], board);
+        }
+    }
 }

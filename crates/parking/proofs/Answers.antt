@@ -1,17 +1,16 @@
 -- What a writing and a reading answer, case by case. Assumes nothing.
-use Prim.Native.Nat.{ℕ, _≤_}
+use Prim.Native.Nat.{ℕ, _-_, _≤_}
 use native.Mathlib.Omega.{arith}
-use mathlib.Core.Path.{_≡_, refl, sym, ap, _∙_}
-use mathlib.Core.Bool.{Bool, true, false, _&&_, and-true, and-false, and-assoc}
+use mathlib.Core.Path.{_≡_, refl, sym, ap, ap₂, _∙_}
+use mathlib.Core.Bool.{Bool, true, false, _&&_, and-true, and-assoc}
 use mathlib.Core.List.{List, [], _++_}
-use lib.ListN.{length, getD, drop}
+use lib.ListN.{length, getD, take, drop, length-drop}
 use lib.Seq.{sets}
 use lib.Dec.{ltb, eqb}
-use borrow.Author.Tests.{eq-eqb, ne-eqb, ltb-false, eqb-true}
-use Rattle.format.proofs.Frames.{sets-front}
+use borrow.Author.Tests.{eq-eqb, ne-eqb, ltb-false}
+use Rattle.format.proofs.Frames.{part-rest, sets-front}
 use Rattle.wide.proofs.Choices.{either}
 use Rattle.clock.specs.Clock.{rateOf}
-use Rattle.clock.specs.Fields.{freshRate}
 use Rattle.board.specs.declared.Board.{Board}
 use Rattle.board.specs.Fields.{freshBoard}
 use Rattle.board.specs.Board.{sound}
@@ -22,6 +21,7 @@ use Rattle.image.specs.Image.{
   clockField,
   latchesField,
   controllerField,
+  rateField,
   layout,
   imageLength,
   imageOf,
@@ -30,18 +30,30 @@ use Rattle.image.specs.Image.{
   formed,
   membersFrom,
   emptiesHold0,
+  boardFrom,
 }
+use Rattle.image.specs.CodeTables.{membersIn}
+use Rattle.image.specs.declared.Form.{Form}
+use Rattle.image.specs.declared.Form.the-variants.{Old, New}
 use Rattle.parking.specs.Parking.{
+  defaultForm,
+  formTakes,
   writingRefusal,
   writingOf,
   bufferAfter,
   imageMalformed,
+  said,
   boardIn,
+  emptiesIn,
   soundIn,
-  readingRefusal,
+  formRefusal,
+  readingIn,
+  formOf,
   readingOf,
 }
 use Rattle.image.proofs.Fields.{image-length}
+use Rattle.parking.proofs.Shifted.{said-behind, formed-behind}
+use Rattle.parking.proofs.RoundTrip.{formed-not}
 
 -- ---- the form of an image
 
@@ -56,107 +68,132 @@ module _ (l : List ℕ) where
       ∙ and-assoc a b ((c && d) && (k && (t && q)))
       ∙ ap (λ v. a && (b && v)) (and-assoc c d (k && (t && q)))
 
-  -- seven fields, where the bytes are as many as an image has
-  pub formed-is : length l ≡ imageLength →
+  -- seven fields, where the bytes are as many as an image of the old form has
+  pub formed-is : length l ≡ imageLength Old →
       (((at 0 channelField && at 38 channelField) && (at 76 channelField && at 114 channelField))
       && (at 152 clockField && (at 227 latchesField && at 260 controllerField)))
-      ≡ formed l
+      ≡ formed Old l
   unfolding fieldsAt
   formed-is e =
       chain (at 0 channelField) (at 38 channelField) (at 76 channelField) (at 114 channelField) (at 152 clockField)
       (at 227 latchesField) (at 260 controllerField)
       ∙ rw (eq-eqb (length l) 269 e, and-true)
 
-  -- bytes of another number are none
-  pub formed-not : (length l ≡ imageLength → ⊥) → formed l ≡ false
-  unfolding fieldsAt
-  formed-not n =
-      rw (
-        ne-eqb (length l) 269 n,
-        and-false,
-        and-false,
-        and-false,
-        and-false,
-        and-false,
-        and-false,
-        and-false,
-      )
+-- in the new form, the rate's field, and behind it the bytes of the old
+module _ (l : List ℕ) (long : length l ≡ imageLength New) where
+  abbrev rest : List ℕ
+  rest = take (length l - 7) (drop 7 l)
+
+  pub rest-long : length rest ≡ imageLength Old
+  rest-long = ap length (part-rest l 7) ∙ omega (arith, long, length-drop 7 l)
+
+  rest-formed : formed Old rest ≡ fieldsAt l 7 layout
+  rest-formed = ap (formed Old) (part-rest l 7) ∙ formed-behind l 7 (omega (arith, long)) 0 layout
+
+  rest-said : said Old rest ≡ membersFrom l 7 layout
+  rest-said = ap (said Old) (part-rest l 7) ∙ said-behind l 7 0 layout
+
+  pub new-said : (a b r v : Bool) (rate : ℕ) (board : Board) →
+      (a ≡ fieldAt l 0 rateField) × (rate ≡ getD (membersIn rateField l 0) 0 0) →
+      (b ≡ formed Old rest) × ((v ≡ emptiesIn Old rest) × (board ≡ boardFrom rate (said Old rest))) →
+      r ≡ (a && b) →
+      (r ≡ formed New l) × ((v ≡ emptiesIn New l) × (board ≡ boardIn New l))
+  unfolding fieldsAt membersFrom
+  new-said a b r v rate board first behind e = (
+    e ∙ ap₂ _&&_ (first .0) (behind .0 ∙ rest-formed),
+    (
+      behind .1 .0 ∙ ap (λ (mss : List (List ℕ)). emptiesHold0 (getD mss 5 [])) rest-said,
+      behind .1 .1 ∙ ap₂ boardFrom (first .1) rest-said,
+    ),
+  )
 
 -- ---- a reading
 
 -- soundness by the code's tests
-pub sound-in : (l : List ℕ) (v s r : Bool) (b : Board) →
-    v ≡ emptiesHold0 (getD (membersFrom l 0 layout) 5 []) → b ≡ boardIn l → s ≡ sound b → r ≡ (v && s) →
-    r ≡ soundIn l
-sound-in l v s r b e f g h = h ∙ rw (e, g, f)
+pub sound-in : (f : Form) (l : List ℕ) (v s r : Bool) (b : Board) →
+    v ≡ emptiesIn f l → b ≡ boardIn f l → s ≡ sound b → r ≡ (v && s) → r ≡ soundIn f l
+sound-in f l v s r b e i g h = h ∙ rw (e, g, i)
 
-module _ (l : List ℕ) where
+module _ (f : Form) (l : List ℕ) where
   -- 12
-  pub reading-malformed : formed l ≡ false → record { board = freshBoard; refusal = imageMalformed } ≡ readingOf l
-  unfolding readingOf readingRefusal
+  pub reading-malformed : formed f l ≡ false →
+      record { board = freshBoard; form = defaultForm; refusal = imageMalformed } ≡ readingIn f l
+  unfolding readingIn formRefusal
   reading-malformed e = rw e
 
-  module _ (f : formed l ≡ true) where
+  module _ (h : formed f l ≡ true) where
     -- 1
-    pub reading-unsound : soundIn l ≡ false → record { board = freshBoard; refusal = notSound } ≡ readingOf l
-    unfolding readingOf readingRefusal
-    reading-unsound e = rw (f, e)
+    pub reading-unsound : soundIn f l ≡ false →
+        record { board = freshBoard; form = defaultForm; refusal = notSound } ≡ readingIn f l
+    unfolding readingIn formRefusal
+    reading-unsound e = rw (h, e)
 
-    pub reading-accepted : soundIn l ≡ true → record { board = boardIn l; refusal = 0 } ≡ readingOf l
-    unfolding readingOf readingRefusal
-    reading-accepted e = rw (f, e)
+    pub reading-accepted : soundIn f l ≡ true → record { board = boardIn f l; form = f; refusal = 0 } ≡ readingIn f l
+    unfolding readingIn formRefusal
+    reading-accepted e = rw (h, e)
+
+-- by its length an image is read in the form that it has
+module _ (l : List ℕ) where
+  pub read-new : length l ≡ imageLength New → readingIn New l ≡ readingOf l
+  unfolding readingOf formOf
+  read-new long =
+      either (formed New l) (λ e. rw e refl)
+      (λ e. rw e
+      (sym (reading-malformed New l e)
+      ∙ reading-malformed Old l (formed-not Old l (λ same. omega (arith, long, same)))))
+
+  pub read-old : (length l ≡ imageLength New → ⊥) → readingIn Old l ≡ readingOf l
+  unfolding readingOf formOf
+  read-old n = rw (formed-not New l n) refl
 
 -- ---- a writing
 
-module _ (b : Board) (old : List ℕ) (r : ℕ) (told : r ≡ writingRefusal b (length old)) where
+module _ (f : Form) (b : Board) (old : List ℕ) (r : ℕ) (told : r ≡ writingRefusal f b (length old)) where
   -- refused
   module _ (n : r ≡ 0 → ⊥) where
-    other : eqb (writingRefusal b (length old)) 0 ≡ false
+    other : eqb (writingRefusal f b (length old)) 0 ≡ false
     other = ap (λ (k : ℕ). eqb k 0) (sym told) ∙ ne-eqb r 0 n
 
-    pub writing-refused : record { board = b; refusal = r; written = 0 } ≡ writingOf b (length old)
+    pub writing-refused : record { board = b; refusal = r; written = 0 } ≡ writingOf f b (length old)
     unfolding writingOf
     writing-refused = rw (other, told)
 
-    pub buffer-left : old ≡ bufferAfter b old
+    pub buffer-left : old ≡ bufferAfter f b old
     unfolding bufferAfter
     buffer-left = rw other
 
   -- accepted
   module _ (z : r ≡ 0) where
-    none : eqb (writingRefusal b (length old)) 0 ≡ true
+    none : eqb (writingRefusal f b (length old)) 0 ≡ true
     none = ap (λ (k : ℕ). eqb k 0) (sym told) ∙ eq-eqb r 0 z
 
-    pub writing-accepted : record { board = b; refusal = 0; written = imageLength } ≡ writingOf b (length old)
+    pub writing-accepted : record { board = b; refusal = 0; written = imageLength f } ≡ writingOf f b (length old)
     unfolding writingOf
     writing-accepted = rw (none, ← told, z)
 
-    -- then the board is sound, its rate is a fresh board's, and there is room
+    -- then the board is sound, the form takes its rate, and there is room
     pub writing-sound : sound b ≡ true
     writing-sound =
         either (sound b) (λ s. s)
         (λ s. let one : _≡_ {A = ℕ} 1 0 = rw s at (sym told ∙ z) in absurd (omega (arith, one)))
 
-    rated : eqb (rateOf (b .clock)) freshRate ≡ true
-    rated =
-        either (eqb (rateOf (b .clock)) freshRate) (λ h. h)
-        (λ h. let other : _≡_ {A = ℕ} 15 0 = rw (writing-sound, h) at (sym told ∙ z) in absurd (omega (arith, other)))
+    pub writing-rate : formTakes f (rateOf (b .clock)) ≡ true
+    writing-rate =
+        either (formTakes f (rateOf (b .clock))) (λ h. h)
+        (λ h. let other : _≡_ {A = ℕ} 16 0 = rw (writing-sound, h) at (sym told ∙ z) in absurd (omega (arith, other)))
 
-    pub writing-rate : rateOf (b .clock) ≡ freshRate
-    writing-rate = eqb-true (rateOf (b .clock)) freshRate rated
-
-    pub writing-room : imageLength ≤ length old
+    pub writing-room : imageLength f ≤ length old
     writing-room =
-        either (ltb (length old) imageLength)
-        (λ h. let short : _≡_ {A = ℕ} 11 0 = rw (writing-sound, rated, h) at (sym told ∙ z) in
+        either (ltb (length old) (imageLength f))
+        (λ h. let short : _≡_ {A = ℕ} 11 0 = rw (writing-sound, writing-rate, h) at (sym told ∙ z) in
         absurd (omega (arith, short)))
-        (λ h. ltb-false (length old) imageLength h)
+        (λ h. ltb-false (length old) (imageLength f) h)
 
-    pub buffer-written : (new : List ℕ) → new ≡ sets old 0 (imageOf b) → new ≡ bufferAfter b old
+    pub buffer-written : (new : List ℕ) → new ≡ sets old 0 (imageOf f b) → new ≡ bufferAfter f b old
     unfolding bufferAfter
     buffer-written new e =
-        let n = image-length b in
+        let n = image-length f b in
         e
-        ∙ sets-front old (imageOf b) (omega (arith, n, writing-room))
-        ∙ ap (λ (k : ℕ). imageOf b ++ drop k old) n
+        ∙ sets-front old (imageOf f b) (omega (arith, n, writing-room))
+        ∙ ap (λ (k : ℕ). imageOf f b ++ drop k old) n
         ∙ rw none refl

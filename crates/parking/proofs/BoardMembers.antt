@@ -17,9 +17,8 @@ use Rattle.channel.specs.Channel.{TimerFits, freshTimer, soundTimer}
 use Rattle.channel.proofs.Sound.{sound-control, sound-phase}
 use Rattle.clock.specs.declared.Clock.{Clock}
 use Rattle.clock.specs.Clock.{rateOf, nanosPerSecond, pollLimit}
-use Rattle.clock.specs.Fields.{freshRate}
 use Rattle.clock.specs.Sound.{ClockFits, soundRate}
-use Rattle.clock.proofs.Rate.{rate-fits}
+use Rattle.clock.proofs.Rate.{of-three, rate-fits}
 use Rattle.clock.proofs.Soundness.{OwnSound}
 use Rattle.controller.specs.declared.IrqController.{IrqController}
 use Rattle.board.specs.declared.Latch.{Latch}
@@ -40,6 +39,7 @@ use Rattle.image.specs.Image.{
   latchesField,
   controllerField,
   layout,
+  rateField,
   timerMembers,
   clockMembers,
   latchMembers,
@@ -143,8 +143,8 @@ timer-members : (ms : List ℕ) → FieldFit channelField ms → timerMembers (t
 timer-members ms fit =
     rw (flag-kept channelField ms fit 6 refl, flag-kept channelField ms fit 7 refl) (all-kept channelField ms fit)
 
-clock-members : (ms : List ℕ) → FieldFit clockField ms → clockMembers (getD ms 0 0) (clockFrom ms) ≡ ms
-clock-members ms fit =
+clock-members : (rate : ℕ) (ms : List ℕ) → FieldFit clockField ms → clockMembers (getD ms 0 0) (clockFrom rate ms) ≡ ms
+clock-members rate ms fit =
     rw (
       flag-kept clockField ms fit 4 refl,
       flag-kept clockField ms fit 9 refl,
@@ -182,21 +182,21 @@ latches-members ms fit e =
 
 -- ---- and so of the whole layout
 
-module _ (mss : List (List ℕ)) (fit : FieldsFit layout mss) where
+module _ (rate : ℕ) (mss : List (List ℕ)) (fit : FieldsFit layout mss) where
   abbrev part : ℕ → List ℕ
   part k = getD mss k []
 
   at : (k : ℕ) → ltb k 7 ≡ true → FieldFit (getD layout k channelField) (part k)
   at k h = each-at FieldFit channelField [] layout mss fit k (ltb-true k 7 h)
 
-  pub board-members : emptiesHold0 (part 5) ≡ true → membersOf (boardFrom mss) ≡ mss
+  pub board-members : emptiesHold0 (part 5) ≡ true → membersOf (boardFrom rate mss) ≡ mss
   unfolding boardFrom
   board-members e =
       ap₂ _∷_ (timer-members (part 0) (at 0 refl))
       (ap₂ _∷_ (timer-members (part 1) (at 1 refl))
       (ap₂ _∷_ (timer-members (part 2) (at 2 refl))
       (ap₂ _∷_ (timer-members (part 3) (at 3 refl))
-      (ap₂ _∷_ (clock-members (part 4) (at 4 refl))
+      (ap₂ _∷_ (clock-members rate (part 4) (at 4 refl))
       (ap₂ _∷_ (latches-members (part 5) (at 5 refl) e)
       (ap (λ (ms : List ℕ). ms ∷ []) (all-kept controllerField (part 6) (at 6 refl))))))))
       ∙ elements-are [] mss 0 7 (omega (arith, each-length FieldFit layout mss fit))
@@ -209,8 +209,8 @@ timer-fits ms fit = record { counter = word channelField ms fit 1 refl; compare 
 timer-words : (ms : List ℕ) → FieldFit channelField ms → TimerWords (timerFrom ms)
 timer-words ms fit = record { reload = word channelField ms fit 3 refl; prescaler = word channelField ms fit 4 refl }
 
-clock-fits : (ms : List ℕ) → FieldFit clockField ms → ClockFits (clockFrom ms)
-clock-fits ms fit =
+clock-fits : (rate : ℕ) (ms : List ℕ) → FieldFit clockField ms → ClockFits (clockFrom rate ms)
+clock-fits rate ms fit =
     record {
       seconds = word clockField ms fit 2 refl;
       alarm = word clockField ms fit 8 refl;
@@ -231,25 +231,25 @@ latch-words ms fit =
         LatchWord (latchFrom (getD ms k 0) (getD ms (suc k) 0))
     at k h e = latch-word (getD ms k 0) (getD ms (suc k) 0) (rw e at (word latchesField ms fit (suc k) h))
 
-module _ (mss : List (List ℕ)) (fit : FieldsFit layout mss) where
-  pub board-words : BoardWords (boardFrom mss)
+module _ (rate : ℕ) (mss : List (List ℕ)) (fit : FieldsFit layout mss) where
+  pub board-words : BoardWords (boardFrom rate mss)
   unfolding boardFrom
   board-words =
-      let c0 : FieldFit channelField (getD mss 0 []) = at mss fit 0 refl in
-      let c1 : FieldFit channelField (getD mss 1 []) = at mss fit 1 refl in
-      let c2 : FieldFit channelField (getD mss 2 []) = at mss fit 2 refl in
-      let c3 : FieldFit channelField (getD mss 3 []) = at mss fit 3 refl in
-      let k : FieldFit clockField (getD mss 4 []) = at mss fit 4 refl in
-      let q : FieldFit controllerField (getD mss 6 []) = at mss fit 6 refl in
+      let c0 : FieldFit channelField (getD mss 0 []) = at rate mss fit 0 refl in
+      let c1 : FieldFit channelField (getD mss 1 []) = at rate mss fit 1 refl in
+      let c2 : FieldFit channelField (getD mss 2 []) = at rate mss fit 2 refl in
+      let c3 : FieldFit channelField (getD mss 3 []) = at rate mss fit 3 refl in
+      let k : FieldFit clockField (getD mss 4 []) = at rate mss fit 4 refl in
+      let q : FieldFit controllerField (getD mss 6 []) = at rate mss fit 6 refl in
       record {
         fits = record {
           four = refl;
           timers = (timer-fits _ c0, (timer-fits _ c1, (timer-fits _ c2, (timer-fits _ c3, tt))));
-          clock = clock-fits _ k;
+          clock = clock-fits rate _ k;
         };
         timers = (timer-words _ c0, (timer-words _ c1, (timer-words _ c2, (timer-words _ c3, tt))));
         clock = record { offset = word clockField _ k 5 refl; host = word clockField _ k 16 refl };
-        latches = latch-words (getD mss 5 []) (at mss fit 5 refl);
+        latches = latch-words (getD mss 5 []) (at rate mss fit 5 refl);
         controller = record {
           pending = word controllerField _ q 0 refl;
           enable = word controllerField _ q 1 refl;
@@ -359,6 +359,16 @@ controller-fit q w =
       flags = refl;
     }
 
+-- a rate, the member of the new form's first field
+pub rate-fit : (rate : ℕ) → soundRate rate ≡ true → FieldFit rateField (rate ∷ [])
+unfolding flagsHold
+rate-fit rate r =
+    record {
+      header = refl;
+      members = of-three (λ (n : ℕ). n < 2 ^ 32) rate r (omega arith) (omega arith) (omega arith) ▸ ended;
+      flags = refl;
+    }
+
 module _ (b : Board) (w : BoardWords b) (s : sound b ≡ true) where
   pub members-fit : FieldsFit layout (membersOf b)
   members-fit =
@@ -377,27 +387,9 @@ module _ (b : Board) (w : BoardWords b) (s : sound b ≡ true) where
 timer-back : (h : HardwareTimer) → timerFrom (timerMembers h) ≡ h
 timer-back h = rw (flag-back (h .pending), flag-back (h .armed))
 
--- the clock with another rate
-abbrev withRate : ℕ → Clock → Clock
-withRate rate k =
-    record {
-      rate = rate;
-      control = k .control;
-      seconds = k .seconds;
-      subsecond = k .subsecond;
-      offset = k .offset;
-      alarm = k .alarm;
-      shadow = k .shadow;
-      poll = k .poll;
-      «alarm_shadow» = k .«alarm_shadow»;
-      host = k .host;
-    }
-
--- an image has no rate, so the clock is at that of a fresh board
-clock-back : (enable : ℕ) (k : Clock) → rateOf k ≡ freshRate → clockFrom (clockMembers enable k) ≡ k
-clock-back enable k e =
+clock-back : (enable : ℕ) (k : Clock) → clockFrom (rateOf k) (clockMembers enable k) ≡ k
+clock-back enable k =
     rw (flag-back (k .offset .negative), flag-back (k .alarm .pending), flag-back (k .alarm .armed))
-    (ap (λ (rate : ℕ). withRate rate k) (sym e))
 
 six-back : (a b c d : CountLatch) (low high : Latch) →
     latchesFrom (latchesMembers (record { counts = a ∷ b ∷ c ∷ d ∷ []; low = low; high = high }))
@@ -425,25 +417,25 @@ abbrev made : List HardwareTimer → ℕ → Clock → Latches → IrqController
 made ts enable k ls q = record { timers = ts; «timer_enable» = enable; clock = k; latches = ls; controller = q }
 
 four-back : (t u v w : HardwareTimer) (enable : ℕ) (k : Clock) (ls : Latches) (q : IrqController) →
-    rateOf k ≡ freshRate → latchesFrom (latchesMembers ls) ≡ ls →
-    boardFrom (membersOf (made (t ∷ u ∷ v ∷ w ∷ []) enable k ls q)) ≡ made (t ∷ u ∷ v ∷ w ∷ []) enable k ls q
+    latchesFrom (latchesMembers ls) ≡ ls →
+    boardFrom (rateOf k) (membersOf (made (t ∷ u ∷ v ∷ w ∷ []) enable k ls q)) ≡ made (t ∷ u ∷ v ∷ w ∷ []) enable k ls q
 unfolding boardFrom
-four-back t u v w enable k ls q r e =
+four-back t u v w enable k ls q e =
     ap₂ (λ (ts : List HardwareTimer) (c : Clock). made ts enable c (latchesFrom (latchesMembers ls)) q)
     (ap₂ _∷_ (timer-back t)
     (ap₂ _∷_ (timer-back u) (ap₂ _∷_ (timer-back v) (ap (λ (h : HardwareTimer). h ∷ []) (timer-back w)))))
-    (clock-back enable k r)
+    (clock-back enable k)
     ∙ ap (λ (l : Latches). made (t ∷ u ∷ v ∷ w ∷ []) enable k l q) e
 
-pub board-back : (b : Board) → BoardWords b → rateOf (b .clock) ≡ freshRate → boardFrom (membersOf b) ≡ b
-board-back b w r =
+pub board-back : (b : Board) → BoardWords b → boardFrom (rateOf (b .clock)) (membersOf b) ≡ b
+board-back b w =
     let four = w .fits .four in
     subst
     (λ (ts : List HardwareTimer).
-    boardFrom (membersOf (made ts (b .«timer_enable») (b .clock) (b .latches) (b .controller)))
+    boardFrom (rateOf (b .clock)) (membersOf (made ts (b .«timer_enable») (b .clock) (b .latches) (b .controller)))
     ≡ made ts (b .«timer_enable») (b .clock) (b .latches) (b .controller))
     (sym (four-is freshTimer (b .timers) four))
-    (four-back _ _ _ _ (b .«timer_enable») (b .clock) (b .latches) (b .controller) r
+    (four-back _ _ _ _ (b .«timer_enable») (b .clock) (b .latches) (b .controller)
     (latches-back (b .latches) (w .latches .four)))
 
 -- an empty latch of a board holds 0

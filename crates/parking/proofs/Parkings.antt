@@ -2,13 +2,12 @@
 -- promise of the list without them. Assumes nothing.
 use Prim.Native.Nat.{ℕ, _+_}
 use native.Mathlib.Nat.{zero-add}
+use native.Mathlib.Omega.{arith}
 use mathlib.Core.Path.{_≡_, refl, sym, ap, _∙_, subst}
 use mathlib.Core.Bool.{true}
-use lib.Dec.{eqb}
-use borrow.Author.Tests.{eqb-true}
+use borrow.Author.Tests.{le-ltb}
 use Rattle.wide.proofs.Choices.{either}
 use Rattle.clock.specs.Clock.{rateOf}
-use Rattle.clock.specs.Fields.{freshRate}
 use mathlib.Core.List.{List, [], _∷_}
 use Rattle.board.specs.declared.Board.{Board}
 use Rattle.board.specs.Loops.{All}
@@ -19,7 +18,9 @@ use Rattle.board.proofs.Soundness.{facts-sound}
 use Rattle.board.proofs.Steps.{Good, good, call-step}
 use Rattle.board.proofs.Demand3.{demand-3}
 use Rattle.parking.specs.declared.Reading.{Reading}
-use Rattle.parking.specs.Parking.{writingOf}
+use Rattle.image.specs.declared.Form.{Form}
+use Rattle.parking.specs.Parking.{formTakes, writingOf}
+use Rattle.image.specs.Image.{imageLength}
 use Rattle.image.specs.Words.{BoardWords}
 use Rattle.parking.specs.Demand.{
   parkedAndRead,
@@ -36,20 +37,20 @@ use Rattle.parking.specs.Demand.{
 use Rattle.parking.proofs.Words.{after-words}
 use Rattle.parking.proofs.RoundTrip.{read-back}
 
--- a sound board that is written and read back is the same board; one of a rate that is not parked comes back as it was
-pub parked-back : (b : Board) → sound b ≡ true → BoardWords b → parkedAndRead b ≡ b
+-- a sound board that is written in a form and read back is the same board; one whose rate the form does not take comes
+-- back as it was
+pub parked-back : (f : Form) (b : Board) → sound b ≡ true → BoardWords b → parkedAndRead f b ≡ b
 unfolding parkedAndRead writingOf
-parked-back b s w =
-    either (eqb (rateOf (b .clock)) freshRate)
-    (λ r. rw (s, r)
-    (ap (λ (x : Reading). x .board) (read-back b s (eqb-true (rateOf (b .clock)) freshRate r) w)))
-    (λ r. rw (s, r))
+parked-back f b s w =
+    either (formTakes f (rateOf (b .clock)))
+    (λ t. rw (s, t, le-ltb (imageLength f) (imageLength f) (omega arith)) (ap (λ (x : Reading). x .board) (read-back f b s t w)))
+    (λ t. rw (s, t))
 
 -- the calls without the parkings
 abbrev unparked : List ParkingCall → List DemandCall
 unparked [] = []
 unparked (call a ∷ calls) = a ∷ unparked calls
-unparked (parking ∷ calls) = unparked calls
+unparked (parking f ∷ calls) = unparked calls
 
 -- end in the same board, with the same T
 record Same (calls : List ParkingCall) (b : Board) : Type 0 where
@@ -62,12 +63,12 @@ same [] b g w cs = record { board = refl; count = refl }
 same (call a ∷ calls) b g w cs =
     let s = same calls (after a b) (call-step a b g .good) (after-words a b g (cs .0) w) (cs .1) in
     record { board = s .board; count = ap (λ (n : ℕ). adds a b + n) (s .count) }
-same (parking ∷ calls) b g w cs =
-    let back : parkedAndRead b ≡ b = parked-back b (facts-sound b (g .facts)) w in
+same (parking f ∷ calls) b g w cs =
+    let back : parkedAndRead f b ≡ b = parked-back f b (facts-sound b (g .facts)) w in
     let s = same calls b g w (cs .1) in
     record {
       board = ap (afterParkings calls) back ∙ s .board;
-      count = zero-add (totalParkings calls (parkedAndRead b)) ∙ ap (totalParkings calls) back ∙ s .count;
+      count = zero-add (totalParkings calls (parkedAndRead f b)) ∙ ap (totalParkings calls) back ∙ s .count;
     }
 
 -- the deadline that a sound board gives keeps what is promised of it, with parkings between the calls

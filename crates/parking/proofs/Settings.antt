@@ -1,14 +1,15 @@
--- Rows that are computed from the rules: how long an image is, two images, byte for byte, and the refusals of boards by
--- their rates. Assumes nothing.
-use Prim.Native.Nat.{ℕ, _+_, _*_, _^_}
+-- Rows that are computed from the rules: how long an image is in each form, two images in both, byte for byte, and the
+-- refusals of writings, readings and moves. Assumes nothing.
+use Prim.Native.Nat.{ℕ, _+_, _-_, _*_, _^_}
 use mathlib.Core.Path.{_≡_, refl}
-use mathlib.Core.Bool.{Bool, true, false, _&&_}
-use mathlib.Core.List.{List, [], _∷_}
+use mathlib.Core.Bool.{true, false, cond}
+use mathlib.Core.List.{List, [], _∷_, _++_, map}
+use lib.ListN.{take, drop, set}
 use lib.Dec.{eqb}
-use Rattle.wide.specs.Fields.{be}
-use Rattle.format.specs.Format.{membersBytes, recordOf}
+use Rattle.wide.specs.Fields.{beAt, be}
+use Rattle.format.specs.Format.{membersAt, membersBytes, recordOf}
 use Rattle.channel.specs.Channel.{lineOf, soundTimer}
-use Rattle.clock.specs.Fields.{freshRate}
+use Rattle.clock.specs.Clock.{rateOf}
 use Rattle.clock.specs.Sound.{
   soundRate,
   soundOffset,
@@ -22,11 +23,24 @@ use Rattle.board.specs.Board.{line, soundParts, sound}
 use Rattle.board.specs.declared.Latch.the-variants.{Empty, Held}
 use Rattle.board.specs.declared.Board.{Board}
 use Rattle.board.specs.Fields.{freshBoardAt, freshBoard}
-use Rattle.image.specs.Image.{imageLength, fieldBytes, fieldsBytes, imageOf}
-use Rattle.parking.specs.Parking.{writingRefusal}
+use Rattle.image.specs.declared.Form.{Form}
+use Rattle.image.specs.declared.Form.the-variants.{Old, New}
+use Rattle.image.specs.Image.{
+  imageLength,
+  fieldBytes,
+  fieldsBytes,
+  imageOf,
+  flagsHold,
+  fieldAt,
+  fieldsAt,
+  membersFrom,
+  boardFrom,
+}
+use Rattle.parking.specs.Parking.{writingRefusal, boardIn, formRefusal, formOf, readingRefusal}
+use Rattle.parking.specs.Moves.{moveRefusal, movedImage}
 
-pub length-computed : imageLength ≡ 269
-length-computed = refl
+pub length-computed : (imageLength Old ≡ 269) × (imageLength New ≡ 276)
+length-computed = (refl, refl)
 
 -- everything is zero except clock control
 abbrev freshImage : List ℕ
@@ -62,9 +76,11 @@ freshImage =
     ∷ 0 ∷ 0 ∷ 0 ∷ 0 ∷ 0 ∷ 0
     ∷ []
 
-pub fresh-image : imageOf freshBoard ≡ freshImage
+-- in the new form behind tag 24, 4 bytes, and 48,000,000
+pub fresh-image : (imageOf Old freshBoard ≡ freshImage)
+    × (imageOf New freshBoard ≡ 0x24 ∷ 0 ∷ 4 ∷ 0x02 ∷ 0xDC ∷ 0x6C ∷ 0x00 ∷ freshImage)
 unfolding imageOf fieldsBytes fieldBytes recordOf membersBytes be
-fresh-image = refl
+fresh-image = (refl, refl)
 
 -- a board with a different number in each member, flags and empty latches of both sorts
 abbrev markedBoard : Board
@@ -114,7 +130,7 @@ markedBoard =
           ∷ [];
       «timer_enable» = 25;
       clock = record {
-        rate = freshRate;
+        rate = 12_000_000;
         control = 26;
         seconds = 27;
         subsecond = 28;
@@ -168,20 +184,82 @@ markedImage =
     ∷ 1 ∷ 2 ∷ 3 ∷ 4 ∷ 5 ∷ 6
     ∷ []
 
-pub members-in-order : imageOf markedBoard ≡ markedImage
+-- in the new form behind its rate
+pub members-in-order : (imageOf Old markedBoard ≡ markedImage)
+    × (imageOf New markedBoard ≡ 0x24 ∷ 0 ∷ 4 ∷ 0x00 ∷ 0xB7 ∷ 0x1B ∷ 0x00 ∷ markedImage)
 unfolding imageOf fieldsBytes fieldBytes recordOf membersBytes be
-members-in-order = refl
+members-in-order = (refl, refl)
 
--- S-7: boards by their rates, with room for an image and one byte short: 1, then 15, then 11
-abbrev refused : ℕ → ℕ → ℕ → Bool
-refused rate long short =
-    eqb (writingRefusal (freshBoardAt rate) 269) long && eqb (writingRefusal (freshBoardAt rate) 268) short
+-- ---- refusals
 
-pub rates-parked :
-    (refused 48_000_000 0 11 && refused 12_000_000 15 15 && refused 1_000_000 15 15
-    && (refused 0 1 1 && refused 24_000_000 1 1 && refused 48_000_001 1 1))
-    ≡ true
+-- a writing in a form of a fresh board of each rate, with room for an image and one byte short
+abbrev written : Form → List ℕ → List ℕ
+written f rates =
+    map (λ rate. writingRefusal f (freshBoardAt rate) (imageLength f)) rates
+    ++ map (λ rate. writingRefusal f (freshBoardAt rate) (imageLength f - 1)) rates
+
+-- the three rates, and three that no sound board has
+abbrev rates : List ℕ
+rates = 1_000_000 ∷ 12_000_000 ∷ 48_000_000 ∷ 0 ∷ 24_000_000 ∷ 48_000_001 ∷ []
+
+pub writings-refused :
+    -- 1, then 11
+    (written New rates ≡ 0 ∷ 0 ∷ 0 ∷ 1 ∷ 1 ∷ 1 ∷ 11 ∷ 11 ∷ 11 ∷ 1 ∷ 1 ∷ 1 ∷ [])
+    -- 1, then 16, then 11
+    × (written Old rates ≡ 16 ∷ 16 ∷ 0 ∷ 1 ∷ 1 ∷ 1 ∷ 16 ∷ 16 ∷ 11 ∷ 1 ∷ 1 ∷ 1 ∷ [])
 unfolding
     sound soundParts line foldFrom lineOf soundTimer soundRate soundOffset soundAlarm clockParts alarmAhead
     soundClock
-rates-parked = refl
+writings-refused = (refl, refl)
+
+-- the image of a fresh board of a rate
+abbrev freshIn : Form → ℕ → List ℕ
+freshIn f rate = imageOf f (freshBoardAt rate)
+
+-- the rate that is read, 0 where the reading is refused, and the refusal
+abbrev read : List ℕ → List ℕ
+read l =
+    cond (eqb (readingRefusal l) 0) (rateOf (boardIn (formOf l) l .clock)) 0 ∷ readingRefusal l ∷ []
+
+pub readings :
+    (formOf (freshIn New 12_000_000) ≡ New)
+    × (formOf (freshIn Old 12_000_000) ≡ Old)
+    × (read (freshIn New 1_000_000) ≡ 1_000_000 ∷ 0 ∷ [])
+    × (read (freshIn New 12_000_000) ≡ 12_000_000 ∷ 0 ∷ [])
+    × (read (freshIn New 48_000_000) ≡ 48_000_000 ∷ 0 ∷ [])
+    -- an image of the old form has no rate
+    × (read (freshIn Old 12_000_000) ≡ 48_000_000 ∷ 0 ∷ [])
+    -- 'a record carrying a rate outside the three is 1'
+    × (read (freshIn New 24_000_000) ≡ 0 ∷ 1 ∷ [])
+    × (read (freshIn New 0) ≡ 0 ∷ 1 ∷ [])
+    -- the first field missing, cut, of another tag or length, doubled, and bytes over
+    × (read (drop 1 (freshIn New 48_000_000)) ≡ 0 ∷ 12 ∷ [])
+    × (read (take 275 (freshIn New 48_000_000)) ≡ 0 ∷ 12 ∷ [])
+    × (read (set (freshIn New 48_000_000) 0 0x25) ≡ 0 ∷ 12 ∷ [])
+    × (read (set (freshIn New 48_000_000) 2 5) ≡ 0 ∷ 12 ∷ [])
+    × (read (take 7 (freshIn New 48_000_000) ++ freshIn New 48_000_000) ≡ 0 ∷ 12 ∷ [])
+    × (read (freshIn Old 48_000_000 ++ (0 ∷ [])) ≡ 0 ∷ 12 ∷ [])
+unfolding
+    sound soundParts line foldFrom lineOf soundTimer soundRate soundOffset soundAlarm clockParts alarmAhead
+    soundClock imageOf fieldsBytes fieldBytes recordOf membersBytes be beAt membersAt flagsHold fieldAt fieldsAt
+    membersFrom boardFrom formRefusal formOf readingRefusal
+readings = (refl, refl, refl, refl, refl, refl, refl, refl, refl, refl, refl, refl, refl, refl)
+
+pub moves :
+    -- forward: with room, one byte short, and an image that is in the new form already
+    (moveRefusal New (freshIn Old 48_000_000) 276 ≡ 0)
+    × (moveRefusal New (freshIn Old 48_000_000) 275 ≡ 11)
+    × (moveRefusal New (freshIn New 48_000_000) 276 ≡ 12)
+    × (movedImage New (freshIn Old 48_000_000) ≡ freshIn New 48_000_000)
+    -- back: 12, then 1, then 16, then 11
+    × (moveRefusal Old (freshIn New 48_000_000) 269 ≡ 0)
+    × (moveRefusal Old (freshIn New 48_000_000) 268 ≡ 11)
+    × (moveRefusal Old (freshIn New 12_000_000) 268 ≡ 16)
+    × (moveRefusal Old (freshIn New 24_000_000) 268 ≡ 1)
+    × (moveRefusal Old (freshIn Old 48_000_000) 268 ≡ 12)
+    × (movedImage Old (freshIn New 48_000_000) ≡ freshIn Old 48_000_000)
+unfolding
+    sound soundParts line foldFrom lineOf soundTimer soundRate soundOffset soundAlarm clockParts alarmAhead
+    soundClock imageOf fieldsBytes fieldBytes recordOf membersBytes be beAt membersAt flagsHold fieldAt fieldsAt
+    membersFrom boardFrom formRefusal moveRefusal
+moves = (refl, refl, refl, refl, refl, refl, refl, refl, refl, refl)

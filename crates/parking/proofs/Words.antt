@@ -1,4 +1,4 @@
--- The words of a machine board are words: those of the fresh board, and those of a board whose source 3 is set to the
+-- The words of a machine board are words: those of a fresh board, and those of a board whose source 3 is set to the
 -- line, that is advanced, or that is told a host time. Assumes nothing.
 use Prim.Native.Nat.{ℕ, zero, suc, _+_, _-_, _/_, _%_, _^_, _<_, min}
 use native.Mathlib.Omega.{arith}
@@ -45,7 +45,7 @@ use Rattle.controller.specs.Controller.{sourceSet}
 use Rattle.controller.proofs.Bits.{or-bit}
 use Rattle.board.specs.declared.Board.{Board}
 use Rattle.board.specs.Loops.{All}
-use Rattle.board.specs.Fields.{freshBoard, withClock}
+use Rattle.board.specs.Fields.{freshBoardAt, withClock}
 use Rattle.board.specs.Board.{BoardFits, line, wired}
 use Rattle.board.specs.Calls.{
   Call,
@@ -64,10 +64,10 @@ use Rattle.board.proofs.Steps.{Good, advance-step}
 use Rattle.image.specs.Words.{TimerWords, ClockWords, LatchWords, ControllerWords, BoardWords}
 use Rattle.parking.specs.Demand.{HostWord}
 
--- ---- the fresh board: everything is zero, or one
+-- ---- a fresh board of any rate: all else is zero, or one
 
-pub fresh-words : BoardWords freshBoard
-fresh-words =
+pub fresh-words : (rate : ℕ) → BoardWords (freshBoardAt rate)
+fresh-words rate =
     record {
       fits = record {
         four = refl;

@@ -10,27 +10,29 @@ use Rattle.board.specs.declared.Board.{Board}
 use Rattle.board.specs.Loops.{All}
 use Rattle.board.specs.Board.{line, sound}
 use Rattle.board.specs.Demand.{DemandCall, advance, hostTime, after, adds, PromiseAfter}
+use Rattle.image.specs.declared.Form.{Form}
 use Rattle.image.specs.Image.{imageLength, imageOf}
 use Rattle.parking.specs.Parking.{writingOf, readingOf}
 
--- a board is written, and what was written is read back; one that is refused comes back as it was given
-unfoldable pub parkedAndRead : Board → Board
-parkedAndRead b =
-    cond (eqb (writingOf b imageLength .refusal) 0) (readingOf (imageOf b) .board) (writingOf b imageLength .board)
+-- a board is written in a form, and what was written is read back; one that is refused comes back as it was given
+unfoldable pub parkedAndRead : Form → Board → Board
+parkedAndRead f b =
+    cond (eqb (writingOf f b (imageLength f) .refusal) 0) (readingOf (imageOf f b) .board)
+    (writingOf f b (imageLength f) .board)
 
 -- an advance or a host-time call, or a parking
 pub data ParkingCall : Type 0 where
   call : DemandCall → ParkingCall
-  parking : ParkingCall
+  parking : Form → ParkingCall
 
 unfoldable pub afterParking : ParkingCall → Board → Board
 afterParking (call a) b = after a b
-afterParking parking b = parkedAndRead b
+afterParking (parking f) b = parkedAndRead f b
 
 -- a parking adds no cycles
 unfoldable pub addsParking : ParkingCall → Board → ℕ
 addsParking (call a) b = adds a b
-addsParking parking b = 0
+addsParking (parking f) b = 0
 
 unfoldable pub afterParkings : List ParkingCall → Board → Board
 afterParkings [] b = b
@@ -48,7 +50,7 @@ HostWord (hostTime h) = h .seconds < 2 ^ 64
 -- what the types say of such a call
 abbrev pub CallWords : ParkingCall → Type 0
 CallWords (call a) = HostWord a
-CallWords parking = Unit {0}
+CallWords (parking f) = Unit {0}
 
 -- the deadline's promise, over these lists
 abbrev pub ParkingPromise : Board → Bool → ℕ → ℕ → Type 0

@@ -1,3 +1,4 @@
 pub mod Parking
+pub mod Moves
 pub mod CodeReads
 pub mod Demand

@@ -1,6 +1,5 @@
 // The board that the bytes of an image say, field by field, and whether each field stands where it is asked for.
 ghost use mathlib.Core.Path.{_≡_};
-ghost use mathlib.Core.List.{[]};
 ghost use mathlib.Core.Bool.{_&&_, _||_};
 ghost use Prim.Native.Nat.{_+_, _≤_};
 ghost use lib.ListN.{length, getD};
@@ -9,10 +8,11 @@ ghost use Rattle.wide.specs.Fields.{beAt};
 ghost use Rattle.format.specs.Format.{sum, membersAt};
 ghost use Rattle.image.specs.CodeTables.{Laid, clockAt, latchesAt, controllerAt, membersIn};
 ghost use Rattle.parking.specs.CodeReads.{heldFlags, sixHold0};
-ghost use Rattle.image.specs.Image.{channelField, clockField, latchesField, controllerField, imageLength};
-ghost use Rattle.image.specs.Image.{fieldLength, layout, formed, fieldAt, membersFrom, flagIs};
+ghost use Rattle.image.specs.Image.{channelField, clockField, latchesField, controllerField, rateField};
+ghost use Rattle.image.specs.Image.{fieldLength, imageLength, formed, fieldAt, flagIs, boardFrom};
 ghost use Rattle.image.specs.Image.{timerFrom, clockFrom, latchFrom, latchesFrom, emptiesHold0, controllerFrom};
-ghost use Rattle.parking.specs.Parking.{boardIn};
+ghost use Rattle.image.specs.declared.Form.the-variants.{Old};
+ghost use Rattle.parking.specs.Parking.{said, emptiesIn, boardIn};
 use board::Board;
 use board::CountLatch;
 use board::Latch;
@@ -37,10 +37,14 @@ use image::CONTROLLER_AT;
 use image::CONTROLLER_LENGTH;
 use image::CONTROLLER_TAG;
 use image::CONTROLLER_WIDTHS;
+use image::Form;
 use image::LATCHES_AT;
 use image::LATCHES_LENGTH;
 use image::LATCHES_TAG;
 use image::LATCHES_WIDTHS;
+use image::RATE_LENGTH;
+use image::RATE_SIZE;
+use image::RATE_TAG;
 use wide::fields;
 use wide::flags::both;
 use wide::flags::either;
@@ -66,6 +70,11 @@ struct LatchesSaid {
 struct ControllerSaid {
     formed: bool,
     controller: IrqController,
+}
+
+struct RateSaid {
+    formed: bool,
+    rate: u32,
 }
 
 // What an image says: whether it has the form of one, whether its empty latches hold 0, and its board.
@@ -126,11 +135,11 @@ fn channel_at(image: &[u8], at: usize) -> ChannelSaid
     }
 }
 
-fn clock_in(image: &[u8]) -> ClockSaid
+fn clock_in(rate: u32, image: &[u8]) -> ClockSaid
     requires { ⌜ latchesAt ≤ length (now image) ⌝ }
     ensures { λ r. ⌜ (r .formed ≡ fieldAt (now (image .entry)) clockAt clockField)
         × ((r .«timer_enable» ≡ getD (membersIn clockField (now (image .entry)) clockAt) 0 0)
-        × (r .clock ≡ clockFrom (membersIn clockField (now (image .entry)) clockAt))) ⌝ }
+        × (r .clock ≡ clockFrom rate (membersIn clockField (now (image .entry)) clockAt))) ⌝ }
 {
     let mut members = [0u64; 18];
     get_members(image, CLOCK_AT + HEADER_LENGTH, &CLOCK_WIDTHS, &mut members);
@@ -140,7 +149,7 @@ fn clock_in(image: &[u8]) -> ClockSaid
         formed: both(header, flags),
         timer_enable: members[0] as u8,
         clock: Clock {
-            rate: Clock::RATE,
+            rate,
             control: members[1] as u8,
             seconds: members[2],
             subsecond: members[3] as u32,
@@ -263,7 +272,7 @@ fn latches_in(image: &[u8]) -> LatchesSaid
 }
 
 fn controller_in(image: &[u8]) -> ControllerSaid
-    requires { ⌜ imageLength ≤ length (now image) ⌝ }
+    requires { ⌜ imageLength Old ≤ length (now image) ⌝ }
     ensures { λ r. ⌜ (r .formed ≡ fieldAt (now (image .entry)) controllerAt controllerField)
         × (r .controller
         ≡ controllerFrom (membersIn controllerField (now (image .entry)) controllerAt)) ⌝ }
@@ -285,18 +294,18 @@ fn controller_in(image: &[u8]) -> ControllerSaid
     }
 }
 
-// What the bytes of an image say.
-pub fn board_in(image: &[u8]) -> BoardSaid
-    requires { ⌜ length (now image) ≡ imageLength ⌝ }
-    ensures { λ r. ⌜ (r .formed ≡ formed (now (image .entry)))
-        × ((r .«empties_hold_0» ≡ emptiesHold0 (getD (membersFrom (now (image .entry)) 0 layout) 5 []))
-        × (r .board ≡ boardIn (now (image .entry)))) ⌝ }
+// What the bytes of an image in the old form say, the board at a rate.
+fn board_in(rate: u32, image: &[u8]) -> BoardSaid
+    requires { ⌜ length (now image) ≡ imageLength Old ⌝ }
+    ensures { λ r. ⌜ (r .formed ≡ formed Old (now (image .entry)))
+        × ((r .«empties_hold_0» ≡ emptiesIn Old (now (image .entry)))
+        × (r .board ≡ boardFrom rate (said Old (now (image .entry))))) ⌝ }
 {
     let a = channel_at(image, 0);
     let b = channel_at(image, CHANNEL_SIZE);
     let c = channel_at(image, 2 * CHANNEL_SIZE);
     let d = channel_at(image, 3 * CHANNEL_SIZE);
-    let k = clock_in(image);
+    let k = clock_in(rate, image);
     let l = latches_in(image);
     let q = controller_in(image);
     let channels = both(both(a.formed, b.formed), both(c.formed, d.formed));
@@ -320,5 +329,39 @@ pub fn board_in(image: &[u8]) -> BoardSaid
         formed: both(channels, others),
         empties_hold_0: l.empties_hold_0,
         board,
+    }
+}
+
+// The field that the new form begins with.
+fn rate_in(image: &[u8]) -> RateSaid
+    requires { ⌜ fieldLength rateField ≤ length (now image) ⌝ }
+    ensures { λ r. ⌜ (r .formed ≡ fieldAt (now (image .entry)) 0 rateField)
+        × (r .rate ≡ getD (membersIn rateField (now (image .entry)) 0) 0 0) ⌝ }
+{
+    RateSaid {
+        formed: has_header(image, 0, RATE_TAG, RATE_LENGTH),
+        rate: fields::get(image, HEADER_LENGTH, RATE_LENGTH) as u32,
+    }
+}
+
+// What the bytes of an image in a form say: in the new one, behind the rate's field stand the bytes of the old.
+pub fn said_in(form: Form, image: &[u8]) -> BoardSaid
+    requires { ⌜ length (now image) ≡ imageLength form ⌝ }
+    ensures { λ r. ⌜ (r .formed ≡ formed form (now (image .entry)))
+        × ((r .«empties_hold_0» ≡ emptiesIn form (now (image .entry)))
+        × (r .board ≡ boardIn form (now (image .entry)))) ⌝ }
+{
+    match form {
+        Form::Old => board_in(Board::RATE, image),
+        Form::New => {
+            let first = rate_in(image);
+            let rest = board_in(first.rate, &image[RATE_SIZE..]);
+            let board = rest.board;
+            BoardSaid {
+                formed: both(first.formed, rest.formed),
+                empties_hold_0: rest.empties_hold_0,
+                board,
+            }
+        }
     }
 }

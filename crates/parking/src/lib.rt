@@ -1,20 +1,27 @@
-// Parked boards: a sound board written to a lent buffer as its image, and an image read back.
+// Parked boards: a sound board written to a lent buffer as its image, in a form, an image read back, and an image moved
+// from one form to the other.
 ghost use mathlib.Core.Path.{_≡_};
 ghost use lib.ListN.{length};
 ghost use Rattle.board.specs.Fields.{freshBoard};
 ghost use Rattle.image.specs.Image.{imageOf};
-ghost use Rattle.parking.specs.Parking.{parkingRefusal, writingOf, bufferAfter, readingOf};
 ghost use Rattle.image.specs.Words.{BoardWords};
+ghost use Rattle.parking.specs.Parking.{defaultForm, formTakes, parkingRefusal};
+ghost use Rattle.parking.specs.Parking.{writingOf, bufferAfter, readingIn, readingOf};
 use board::Board;
-use image::IMAGE_LENGTH;
+use image::Form;
+use image::NEW_LENGTH;
+use image::image_length;
 use wide::flags::both;
 
 mod get;
+pub mod moves;
 
-// Refusals, by their numbers; 1, a board that is not sound, and 15, another rate, are the board's.
+// Refusals, by their numbers; 1, a board that is not sound, is the board's.
 pub const BUFFER_SHORT: u8 = format::ANSWER_TOO_LONG;
 
 pub const IMAGE_MALFORMED: u8 = 12;
+
+pub const RATE_NEEDS_NEW_FORM: u8 = 16;
 
 // The board that was given, the refusal, 0 for none, and the bytes that were written.
 pub struct Writing {
@@ -23,31 +30,47 @@ pub struct Writing {
     pub written: usize,
 }
 
-// The board that was read, a fresh one where the reading is refused, and the refusal, 0 for none.
+// The board that was read and the form of its image, a fresh board and the form that is written unless the old is chosen
+// where the reading is refused, and the refusal, 0 for none.
 pub struct Reading {
     pub board: Board,
+    pub form: Form,
     pub refusal: u8,
 }
 
-// The refusal of a writing, of a sound board of a rate to a buffer of so many bytes.
-fn parking_refusal(rate: u32, room: usize) -> u8
-    ensures { λ r. ⌜ r ≡ parkingRefusal rate room ⌝ }
+// The old form has no rate, so that it takes boards of one rate alone.
+fn form_takes(form: Form, rate: u32) -> bool
+    ensures { λ r. ⌜ r ≡ formTakes form rate ⌝ }
 {
-    if rate != Board::RATE {
-        return Board::ANOTHER_RATE;
+    match form {
+        Form::Old => rate == Board::RATE,
+        Form::New => true,
     }
-    if room < IMAGE_LENGTH { BUFFER_SHORT } else { 0 }
 }
 
-// Writes a board's image at the start of a lent buffer. Where that is accepted, reading the image gives the board: this
-// rests on the board's words being words, which the contract says too.
-pub fn write(board: Board, buffer: &mut [u8]) -> Writing
-    ensures { λ r. ⌜ r ≡ writingOf board (length (now (buffer .entry))) ⌝ }
-    ensures { λ _. ⌜ now (buffer .exit) ≡ bufferAfter board (now (buffer .entry)) ⌝ }
-    ensures { λ r. ⌜ (r .refusal ≡ 0 →
-        BoardWords board × (readingOf (imageOf board) ≡ record { board = board; refusal = 0 })) ⌝ }
+// The refusal of a writing in a form, of a sound board of a rate to a buffer of so many bytes.
+fn parking_refusal(form: Form, rate: u32, room: usize) -> u8
+    ensures { λ r. ⌜ r ≡ parkingRefusal form rate room ⌝ }
 {
-    let refusal = board.refusal_of(parking_refusal(board.clock.rate, buffer.len()));
+    if !form_takes(form, rate) {
+        return RATE_NEEDS_NEW_FORM;
+    }
+    if room < image_length(form) {
+        BUFFER_SHORT
+    } else {
+        0
+    }
+}
+
+// Writes a board's image in a form at the start of a lent buffer. Where that is accepted, reading the image gives the
+// board and the form: this rests on the board's words being words, which the contract says too.
+pub fn write_in(form: Form, board: Board, buffer: &mut [u8]) -> Writing
+    ensures { λ r. ⌜ r ≡ writingOf form board (length (now (buffer .entry))) ⌝ }
+    ensures { λ _. ⌜ now (buffer .exit) ≡ bufferAfter form board (now (buffer .entry)) ⌝ }
+    ensures { λ r. ⌜ (r .refusal ≡ 0 → BoardWords board
+        × (readingOf (imageOf form board) ≡ record { board = board; form = form; refusal = 0 })) ⌝ }
+{
+    let refusal = board.refusal_of(parking_refusal(form, board.clock.rate, buffer.len()));
     if refusal != 0 {
         return Writing {
             board,
@@ -55,39 +78,65 @@ pub fn write(board: Board, buffer: &mut [u8]) -> Writing
             written: 0,
         };
     }
-    image::put::put_image(buffer, board);
+    image::put::put_image(buffer, form, board);
     Writing {
         board,
         refusal: 0,
-        written: IMAGE_LENGTH,
+        written: image_length(form),
     }
+}
+
+// The same in the form that is written unless the old is chosen.
+pub fn write(board: Board, buffer: &mut [u8]) -> Writing
+    ensures { λ r. ⌜ r ≡ writingOf defaultForm board (length (now (buffer .entry))) ⌝ }
+    ensures { λ _. ⌜ now (buffer .exit) ≡ bufferAfter defaultForm board (now (buffer .entry)) ⌝ }
+    ensures { λ r. ⌜ (r .refusal ≡ 0 → BoardWords board
+        × (readingOf (imageOf defaultForm board) ≡ record { board = board; form = defaultForm; refusal = 0 })) ⌝ }
+{
+    write_in(Form::New, board, buffer)
 }
 
 // A reading that is refused.
 fn refused(refusal: u8) -> Reading
-    ensures { λ r. ⌜ r ≡ record { board = freshBoard; refusal = refusal } ⌝ }
+    ensures { λ r. ⌜ r ≡ record { board = freshBoard; form = defaultForm; refusal = refusal } ⌝ }
 {
     Reading {
         board: Board::fresh(),
+        form: Form::New,
         refusal,
     }
 }
 
-// Reads the board whose image a lent slice is.
-pub fn read(image: &[u8]) -> Reading
-    ensures { λ r. ⌜ r ≡ readingOf (now (image .entry)) ⌝ }
+// Reads the board whose image in a form a lent slice is.
+fn read_in(form: Form, image: &[u8]) -> Reading
+    ensures { λ r. ⌜ r ≡ readingIn form (now (image .entry)) ⌝ }
 {
-    if image.len() != IMAGE_LENGTH {
+    if image.len() != image_length(form) {
         return refused(IMAGE_MALFORMED);
     }
-    let said = get::board_in(image);
+    let said = get::said_in(form, image);
     if !said.formed {
         return refused(IMAGE_MALFORMED);
     }
     let board = said.board;
     if both(said.empties_hold_0, board.sound()) {
-        Reading { board, refusal: 0 }
+        Reading {
+            board,
+            form,
+            refusal: 0,
+        }
     } else {
         refused(Board::NOT_SOUND)
+    }
+}
+
+// Reads the board whose image in either form a lent slice is. The two forms differ in length.
+pub fn read(image: &[u8]) -> Reading
+    ensures { λ r. ⌜ r ≡ readingOf (now (image .entry)) ⌝ }
+{
+    if image.len() == NEW_LENGTH {
+        read_in(Form::New, image)
+    } else {
+        read_in(Form::Old, image)
     }
 }

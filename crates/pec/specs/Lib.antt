@@ -1,2 +1,3 @@
 pub mod Packed
+pub mod Parked
 pub mod Repeats

@@ -4,12 +4,16 @@ ghost use mathlib.Core.Path.{_≡_};
 ghost use Prim.Native.Nat.{_+_, _*_, _≤_};
 ghost use lib.ListN.{length};
 ghost use Rattle.board.specs.Fields.{freshBoard};
-ghost use Rattle.parking.specs.Parking.{writingOf, bufferAfter, readingRefusal};
+ghost use Rattle.image.specs.declared.Form.the-variants.{Old, New};
+ghost use Rattle.parking.specs.Parking.{defaultForm, writingOf, bufferAfter, readingRefusal};
+ghost use Rattle.parking.specs.Moves.{moveOf, movedBuffer};
 ghost use Rattle.resume.specs.Resumed.{resumedOf, imageAfter, answersAfter};
 ghost use Rattle.preview.specs.Preview.{parkedPreviewRefusal, parkedPreviewBuffer};
 ghost use Rattle.listing.specs.Listing.{listingOf, withText};
 ghost use Rattle.pec.specs.Repeats.{startedOn, started, ran, repeats, ranAt, repeatsAt};
+ghost use Rattle.pec.specs.Parked.{freshWriting, freshBuffer};
 use board::Board;
+use image::Form;
 use list::Outcome;
 
 mod irqc;
@@ -180,20 +184,66 @@ pub extern "C" fn pec_listing(
     listing::listing(answers, calls, refusal, used, text)
 }
 
-// Parks a fresh board: writes its image at the start of a lent buffer. Gives the bytes written, and as its result the
-// refusal: 11 for a buffer that is too short, 0 for none.
+// Parks a fresh board: writes its image, in the new form, at the start of a lent buffer. Gives the bytes written, and as
+// its result the refusal: 11 for a buffer that is too short, 0 for none.
 #[no_mangle]
 pub extern "C" fn pec_fresh(image: &mut [u8], written: &mut usize) -> u8
-    ensures { λ r. ⌜ r ≡ writingOf freshBoard (length (now (image .entry))) .refusal ⌝ }
-    ensures { λ _. ⌜ now (image .exit) ≡ bufferAfter freshBoard (now (image .entry)) ⌝ }
-    ensures { λ _. ⌜ now (written .exit) ≡ writingOf freshBoard (length (now (image .entry))) .written ⌝ }
+    ensures { λ r. ⌜ r ≡ writingOf defaultForm freshBoard (length (now (image .entry))) .refusal ⌝ }
+    ensures { λ _. ⌜ now (image .exit) ≡ bufferAfter defaultForm freshBoard (now (image .entry)) ⌝ }
+    ensures { λ _. ⌜ now (written .exit)
+        ≡ writingOf defaultForm freshBoard (length (now (image .entry))) .written ⌝ }
 {
     let r = parking::write(Board::fresh(), image);
     *written = r.written;
     r.refusal
 }
 
-// The refusal of reading an image: 12, 1, or 0 for none.
+// The same of a fresh board of a rate. The refusal is 15, of another rate than a sound board's, ahead of 11.
+#[no_mangle]
+pub extern "C" fn pec_fresh_at(rate: u32, image: &mut [u8], written: &mut usize) -> u8
+    ensures { λ r. ⌜ r ≡ freshWriting rate (length (now (image .entry))) .refusal ⌝ }
+    ensures { λ _. ⌜ now (image .exit) ≡ freshBuffer rate (now (image .entry)) ⌝ }
+    ensures { λ _. ⌜ now (written .exit) ≡ freshWriting rate (length (now (image .entry))) .written ⌝ }
+{
+    let fresh = Board::fresh_at(rate);
+    if fresh.refusal != 0 {
+        *written = 0;
+        return fresh.refusal;
+    }
+    let board = fresh.board;
+    let r = parking::write(board, image);
+    *written = r.written;
+    r.refusal
+}
+
+// Moves an image of the old form to the new, with 48,000,000, at the start of a lent buffer. Gives the bytes written, 0
+// where it is refused, and as its result the refusal: 12, where the image is malformed or already in the new form; 1,
+// where its board is not sound; 11 for a buffer that is too short; 0 for none.
+#[no_mangle]
+pub extern "C" fn pec_move_forward(image: &[u8], moved: &mut [u8], written: &mut usize) -> u8
+    ensures { λ r. ⌜ r ≡ moveOf New (now (image .entry)) (length (now (moved .entry))) .refusal ⌝ }
+    ensures { λ _. ⌜ now (moved .exit) ≡ movedBuffer New (now (image .entry)) (now (moved .entry)) ⌝ }
+    ensures { λ _. ⌜ now (written .exit) ≡ moveOf New (now (image .entry)) (length (now (moved .entry))) .written ⌝ }
+{
+    let r = parking::moves::move_image(Form::New, image, moved);
+    *written = r.written;
+    r.refusal
+}
+
+// Moves an image of the new form back to the old, likewise; 16 comes between 1 and 11, where its board has another rate
+// than 48,000,000.
+#[no_mangle]
+pub extern "C" fn pec_move_back(image: &[u8], moved: &mut [u8], written: &mut usize) -> u8
+    ensures { λ r. ⌜ r ≡ moveOf Old (now (image .entry)) (length (now (moved .entry))) .refusal ⌝ }
+    ensures { λ _. ⌜ now (moved .exit) ≡ movedBuffer Old (now (image .entry)) (now (moved .entry)) ⌝ }
+    ensures { λ _. ⌜ now (written .exit) ≡ moveOf Old (now (image .entry)) (length (now (moved .entry))) .written ⌝ }
+{
+    let r = parking::moves::move_image(Form::Old, image, moved);
+    *written = r.written;
+    r.refusal
+}
+
+// The refusal of reading an image, of either form: 12, 1, or 0 for none.
 #[no_mangle]
 pub extern "C" fn pec_image_refusal(image: &[u8]) -> u8
     ensures { λ r. ⌜ r ≡ readingRefusal (now (image .entry)) ⌝ }
@@ -202,8 +252,8 @@ pub extern "C" fn pec_image_refusal(image: &[u8]) -> u8
     r.refusal
 }
 
-// Runs a list over a parked board, and writes the board that the run left back into the image. A refused image, by 12 or
-// 1, changes nothing and gives counts 0; otherwise the result is the run's refusal.
+// Runs a list over a parked board, and writes the board that the run left back into the image, in the form that it has. A
+// refused image, by 12 or 1, changes nothing and gives counts 0; otherwise the result is the run's refusal.
 #[no_mangle]
 pub extern "C" fn pec_run_parked(
     image: &mut [u8],

@@ -1,22 +1,22 @@
 -- What a run over a parked board answers, where the image is refused and where it is read. Assumes nothing.
 use Prim.Native.Nat.{ℕ, _<_}
 use native.Mathlib.Omega.{arith}
-use mathlib.Core.Path.{_≡_, refl, sym, ap, _∙_}
+use mathlib.Core.Path.{_≡_, refl, sym, ap, ap₂, _∙_}
 use mathlib.Core.Bool.{true, false}
 use mathlib.Core.List.{List, [], append-nil}
 use lib.ListN.{length, getD, drop, drop-of-length-le}
 use lib.Dec.{eqb}
 use borrow.Author.Tests.{eq-eqb, ne-eqb, le-ltb}
 use Rattle.clock.specs.Clock.{rateOf}
-use Rattle.clock.specs.Fields.{freshRate}
 use Rattle.board.specs.declared.Board.{Board}
 use Rattle.board.specs.Board.{sound}
 use Rattle.board.proofs.Soundness.{facts-sound}
 use Rattle.board.proofs.Steps.{good}
 use Rattle.parking.specs.declared.Reading.{Reading}
+use Rattle.image.specs.declared.Form.{Form}
 use Rattle.image.specs.Image.{imageLength, imageOf}
-use Rattle.parking.specs.Parking.{bufferAfter, readingRefusal, readingOf}
-use Rattle.parking.proofs.RoundTrip.{refusal-is, reading-rate, accepted-sound, accepted-words, accepted-long}
+use Rattle.parking.specs.Parking.{formTakes, bufferAfter, readingRefusal, readingOf}
+use Rattle.parking.proofs.RoundTrip.{refusal-is, accepted-sound, accepted-words, accepted-long, accepted-rate}
 use Rattle.list.specs.declared.Outcome.{Outcome}
 use Rattle.list.specs.Run.{runOf, over}
 use Rattle.list.proofs.Rate.{run-rate}
@@ -43,13 +43,12 @@ module _ (image l a : List ℕ) (r : Reading) (e : r ≡ readingOf image) (n : r
 -- ---- an image that is read
 
 -- the board that the run left is written over the whole image
-written-over : (b : Board) (image : List ℕ) → sound b ≡ true → rateOf (b .clock) ≡ freshRate →
-    length image ≡ imageLength → bufferAfter b image ≡ imageOf b
+written-over : (f : Form) (b : Board) (image : List ℕ) → sound b ≡ true → formTakes f (rateOf (b .clock)) ≡ true →
+    length image ≡ imageLength f → bufferAfter f b image ≡ imageOf f b
 unfolding bufferAfter
-written-over b image s r n =
-    let none : drop imageLength image ≡ [] = drop-of-length-le image {i = imageLength} (omega (arith, n)) in
-    rw (s, eq-eqb (rateOf (b .clock)) freshRate r, le-ltb (length image) imageLength (omega (arith, n)), none)
-    (append-nil (imageOf b))
+written-over f b image s t n =
+    let none : drop (imageLength f) image ≡ [] = drop-of-length-le image {i = imageLength f} (omega (arith, n)) in
+    rw (s, t, le-ltb (length image) (imageLength f) (omega (arith, n)), none) (append-nil (imageOf f b))
 
 module _ (image l a : List ℕ) (bytes : (i : ℕ) → getD image i 0 < 256) (list-bytes : (i : ℕ) → getD l i 0 < 256)
     (r : Reading) (e : r ≡ readingOf image) (z : r .refusal ≡ 0) where
@@ -67,27 +66,28 @@ module _ (image l a : List ℕ) (bytes : (i : ℕ) → getD image i 0 < 256) (li
       (good (readingOf image .board) (accepted-words image bytes accepted .fits) (accepted-sound image accepted))
       list-bytes .facts)
 
-  -- and at the rate of the image's
-  left-rate : rateOf (runParked image l (length a) .outcome .board .clock) ≡ freshRate
+  -- and at the rate of the image's, which its form takes
+  left-rate : formTakes (readingOf image .form) (rateOf (runParked image l (length a) .outcome .board .clock)) ≡ true
   left-rate =
-      run-rate (readingOf image .board) l (length a) (accepted-words image bytes accepted .fits) list-bytes .same
-      ∙ reading-rate image
+      ap (formTakes (readingOf image .form))
+      (run-rate (readingOf image .board) l (length a) (accepted-words image bytes accepted .fits) list-bytes .same)
+      ∙ accepted-rate image accepted
 
   module _ (o : Outcome) (x w : List ℕ)
       (ran : o ≡ runOf (r .board) l (length a) .outcome)
       (answered : x ≡ over (runOf (r .board) l (length a) .answers) a)
-      (written : w ≡ bufferAfter (o .board) image) where
+      (written : w ≡ bufferAfter (r .form) (o .board) image) where
     same-outcome : o ≡ runParked image l (length a) .outcome
     same-outcome = ran ∙ ap (λ (y : Reading). runOf (y .board) l (length a) .outcome) e
 
     same-answers : x ≡ over (runParked image l (length a) .answers) a
     same-answers = answered ∙ ap (λ (y : Reading). over (runOf (y .board) l (length a) .answers) a) e
 
-    same-image : w ≡ imageOf (runParked image l (length a) .outcome .board)
+    same-image : w ≡ imageOf (readingOf image .form) (runParked image l (length a) .outcome .board)
     same-image =
         written
-        ∙ ap (λ (y : Outcome). bufferAfter (y .board) image) same-outcome
-        ∙ written-over (runParked image l (length a) .outcome .board) image left-sound left-rate
+        ∙ ap₂ (λ (f : Form) (y : Outcome). bufferAfter f (y .board) image) (ap (λ (y : Reading). y .form) e) same-outcome
+        ∙ written-over (readingOf image .form) (runParked image l (length a) .outcome .board) image left-sound left-rate
         (accepted-long image accepted)
 
     pub resumed-read :

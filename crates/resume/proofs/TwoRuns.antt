@@ -1,25 +1,25 @@
--- A list run in two parts with a parking between them is the list run whole. Assumes nothing.
+-- A list run in two parts with a parking between them, in either form, is the list run whole. Assumes nothing.
 use Prim.Native.Nat.{ℕ, _+_, _-_, _<_}
 use native.Mathlib.Omega.{arith}
-use mathlib.Core.Path.{_≡_, sym, ap, _∙_}
+use mathlib.Core.Path.{_≡_, refl, sym, ap, _∙_}
 use mathlib.Core.Bool.{true}
 use mathlib.Core.List.{List, _++_}
 use lib.ListN.{length, getD}
 use borrow.Author.Tests.{eq-eqb}
 use Rattle.wide.proofs.Choices.{either}
 use Rattle.clock.specs.Clock.{rateOf}
-use Rattle.clock.specs.Fields.{freshRate}
 use Rattle.board.specs.declared.Board.{Board}
-use Rattle.board.specs.Fields.{freshBoard}
+use Rattle.board.specs.Fields.{freshBoardAt}
 use Rattle.board.specs.Board.{sound}
 use Rattle.board.proofs.Soundness.{facts-sound}
 use Rattle.board.proofs.Steps.{good}
 use Rattle.parking.specs.declared.Reading.{Reading}
+use Rattle.image.specs.declared.Form.{Form}
 use Rattle.image.specs.Image.{imageOf}
-use Rattle.parking.specs.Parking.{readingRefusal, readingOf}
+use Rattle.parking.specs.Parking.{formTakes, readingRefusal, readingOf}
 use Rattle.image.specs.Words.{BoardWords}
 use Rattle.parking.specs.Demand.{parkedAndRead}
-use Rattle.parking.proofs.RoundTrip.{read-back, reading-rate, accepted-words}
+use Rattle.parking.proofs.RoundTrip.{refusal-is, read-back, accepted-words, accepted-rate}
 use Rattle.parking.proofs.Words.{fresh-words}
 use Rattle.parking.proofs.Parkings.{parked-back}
 use Rattle.list.specs.Run.{Run, runOf}
@@ -47,32 +47,33 @@ module _ (b : Board) (w : BoardWords b) (l m : List ℕ) (room : ℕ) (bytes : (
 
   -- where the first part is not refused: the whole run gives the board, the answers one after the other and the counts
   -- added up of the two, with the board written and read back between them
-  pub parked-between :
+  pub parked-between : (f : Form) →
       runOf b (l ++ m) room
-      ≡ joined First (runOf (parkedAndRead (First .outcome .board)) m (room - length (First .answers)))
-  parked-between =
+      ≡ joined First (runOf (parkedAndRead f (First .outcome .board)) m (room - length (First .answers)))
+  parked-between f =
       two-parts b l m room (w .fits) bytes z
       ∙ ap (λ (c : Board). joined First (runOf c m (room - length (First .answers))))
-      (sym (parked-back (First .outcome .board) left-sound left-words))
+      (sym (parked-back f (First .outcome .board) left-sound left-words))
 
-  -- what the image of its board says is its board, where that can be parked
-  pub left-back : rateOf (b .clock) ≡ freshRate →
-      readingOf (imageOf (First .outcome .board)) ≡ record { board = First .outcome .board; refusal = 0 }
-  left-back r =
-      read-back (First .outcome .board) left-sound (run-rate b l room (w .fits) bytes .same ∙ r) left-words
+  -- what the image of its board says is its board, in a form that takes the rate
+  pub left-back : (f : Form) → formTakes f (rateOf (b .clock)) ≡ true →
+      readingOf (imageOf f (First .outcome .board)) ≡ record { board = First .outcome .board; form = f; refusal = 0 }
+  left-back f t =
+      read-back f (First .outcome .board) left-sound
+      (ap (formTakes f) (run-rate b l room (w .fits) bytes .same) ∙ t) left-words
 
--- from a fresh board, for every list
-pub fresh-in-parts : (l m : List ℕ) (room : ℕ) → ((i : ℕ) → getD l i 0 < 256) →
-    runOf freshBoard l room .outcome .refusal ≡ 0 →
-    runOf freshBoard (l ++ m) room
-    ≡ joined (runOf freshBoard l room)
-    (runOf (parkedAndRead (runOf freshBoard l room .outcome .board)) m
-    (room - length (runOf freshBoard l room .answers)))
-fresh-in-parts l m room bytes z = parked-between freshBoard fresh-words l m room bytes z
+-- from a fresh board of any rate, for every list
+pub fresh-in-parts : (f : Form) (rate : ℕ) (l m : List ℕ) (room : ℕ) → ((i : ℕ) → getD l i 0 < 256) →
+    runOf (freshBoardAt rate) l room .outcome .refusal ≡ 0 →
+    runOf (freshBoardAt rate) (l ++ m) room
+    ≡ joined (runOf (freshBoardAt rate) l room)
+    (runOf (parkedAndRead f (runOf (freshBoardAt rate) l room .outcome .board)) m
+    (room - length (runOf (freshBoardAt rate) l room .answers)))
+fresh-in-parts f rate l m room bytes z = parked-between (freshBoardAt rate) (fresh-words rate) l m room bytes z f
 
 -- the image that a run over a parked board leaves
 image-left : (image l : List ℕ) (room : ℕ) → readingRefusal image ≡ 0 →
-    imageAfter image l room ≡ imageOf (runParked image l room .outcome .board)
+    imageAfter image l room ≡ imageOf (readingOf image .form) (runParked image l room .outcome .board)
 unfolding imageAfter
 image-left image l room e = rw (eq-eqb (readingRefusal image) 0 e)
 
@@ -80,22 +81,26 @@ image-left image l room e = rw (eq-eqb (readingRefusal image) 0 e)
 module _ (image l m : List ℕ) (room : ℕ) (image-bytes : (i : ℕ) → getD image i 0 < 256)
     (bytes : (i : ℕ) → getD l i 0 < 256) (read : readingRefusal image ≡ 0)
     (z : runParked image l room .outcome .refusal ≡ 0) where
+  accepted : readingOf image .refusal ≡ 0
+  accepted = refusal-is image (readingOf image) refl ∙ read
+
   words : BoardWords (readingOf image .board)
-  unfolding readingOf
-  words = accepted-words image image-bytes read
+  words = accepted-words image image-bytes accepted
 
   abbrev Left : Board
   Left = runParked image l room .outcome .board
 
-  -- the image between the parts is read as the board that the first leaves
-  between : readingOf (imageAfter image l room) ≡ record { board = Left; refusal = 0 }
+  -- the image between the parts is read as the board that the first leaves, in the form that the image has
+  pub between :
+      readingOf (imageAfter image l room) ≡ record { board = Left; form = readingOf image .form; refusal = 0 }
   between =
       ap readingOf (image-left image l room read)
-      ∙ left-back (readingOf image .board) words l m room bytes z (reading-rate image)
+      ∙ left-back (readingOf image .board) words l m room bytes z (readingOf image .form) (accepted-rate image accepted)
 
   between-read : readingRefusal (imageAfter image l room) ≡ 0
-  unfolding readingOf
-  between-read = ap (λ (r : Reading). r .refusal) between
+  between-read =
+      sym (refusal-is (imageAfter image l room) (readingOf (imageAfter image l room)) refl)
+      ∙ ap (λ (r : Reading). r .refusal) between
 
   pub resumed-in-parts :
       runParked image (l ++ m) room
@@ -113,5 +118,8 @@ module _ (image l m : List ℕ) (room : ℕ) (image-bytes : (i : ℕ) → getD i
       ≡ imageAfter (imageAfter image l room) m (room - length (runParked image l room .answers))
   image-in-parts =
       image-left image (l ++ m) room read
-      ∙ ap (λ (r : Run). imageOf (r .outcome .board)) resumed-in-parts
+      ∙ ap (λ (r : Run). imageOf (readingOf image .form) (r .outcome .board)) resumed-in-parts
+      ∙ ap (λ (f : Form). imageOf f (runParked (imageAfter image l room) m
+      (room - length (runParked image l room .answers)) .outcome .board))
+      (sym (ap (λ (r : Reading). r .form) between))
       ∙ sym (image-left (imageAfter image l room) m (room - length (runParked image l room .answers)) between-read)

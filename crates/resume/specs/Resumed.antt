@@ -25,10 +25,11 @@ resumedOf image l room =
     })
     (record { refusal = readingRefusal image; calls = 0; used = 0; written = 0 })
 
--- the image is then that of the board that the run left
+-- the image is then that of the board that the run left, in the form that was read
 unfoldable pub imageAfter : List ℕ → List ℕ → ℕ → List ℕ
 imageAfter image l room =
-    cond (eqb (readingRefusal image) 0) (imageOf (runParked image l room .outcome .board)) image
+    cond (eqb (readingRefusal image) 0) (imageOf (readingOf image .form) (runParked image l room .outcome .board))
+    image
 
 unfoldable pub answersAfter : List ℕ → List ℕ → List ℕ → List ℕ
 answersAfter image l old =

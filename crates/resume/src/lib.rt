@@ -1,5 +1,5 @@
 // A run over a parked board: the board is read from its image, a list is run over it, and the board that the run left
-// is written back into the same bytes.
+// is written back into the same bytes, in the form that they had.
 ghost use mathlib.Core.Path.{_≡_};
 ghost use lib.ListN.{length};
 ghost use Rattle.resume.specs.Resumed.{resumedOf, imageAfter, answersAfter};
@@ -32,7 +32,8 @@ pub fn run(image: &mut [u8], list: &[u8], answers: &mut [u8]) -> Resumed
     let board = parked.board;
     let r = list::run(board, list, answers);
     let left = r.board;
-    parking::write(left, image);
+    let form = parked.form;
+    parking::write_in(form, left, image);
     Resumed {
         refusal: r.refusal,
         calls: r.calls,

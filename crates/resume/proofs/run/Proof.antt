@@ -19,8 +19,8 @@ returns c = resumed-refused _ _ _ _ (c .before .before .read .ensures) (c .if1 .
 run-requires : tie.Need-run-requires
 run-requires c κs = search needs
 
-write-requires : tie.Need-write-requires
-write-requires c κs = search needs
+write-in-requires : tie.Need-write-in-requires
+write-in-requires c κs = search needs
 
 same-length-2 : tie.Need-same-length-2
 same-length-2 c = search needs
@@ -41,7 +41,7 @@ returns-2 c =
     let list-bytes : (i : ℕ) → getD (start .args .list .now) i 0 < 256 =
     λ i. omega (arith, at-shared-slice-known .shared-slice-known .given i) in
     resumed-read _ _ _ bytes list-bytes _ (at-read .read .ensures) (at-if1 .if1 .left) _ _ _
-    (at-run .run .ensures .0) (at-run .run .ensures .1) (c .before .before .write .ensures .1 .0)
+    (at-run .run .ensures .0) (at-run .run .ensures .1) (c .before .before .write-in .ensures .1 .0)
 
 pub run-spec : {M : Type 1} → statement M
 run-spec =
@@ -51,7 +51,7 @@ run-spec =
     same-length
     returns
     run-requires
-    write-requires
+    write-in-requires
     same-length-2
     same-length-3
     returns-2)

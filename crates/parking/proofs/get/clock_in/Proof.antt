@@ -44,11 +44,11 @@ both-requires-2 c κs = search needs
 both-requires-3 : tie.Need-both-requires-3
 both-requires-3 c κs = search needs
 
-array-read-t14 : tie.Need-array-read-t14
-array-read-t14 c = search needs
+array-read-t15 : tie.Need-array-read-t15
+array-read-t15 c = search needs
 
-cast-t27 : tie.Need-cast-t27
-cast-t27 c =
+cast-t28 : tie.Need-cast-t28
+cast-t28 c =
     let at-get-members = c .before .before .before .before .before in
     let at-shared-slice-known = at-get-members .before .before .before in
     omega (
@@ -58,11 +58,11 @@ cast-t27 c =
           (at-get-members .get-members .ensures),
     )
 
-array-read-t23 : tie.Need-array-read-t23
-array-read-t23 c = search needs
+array-read-t24 : tie.Need-array-read-t24
+array-read-t24 c = search needs
 
-cast-t30 : tie.Need-cast-t30
-cast-t30 c =
+cast-t31 : tie.Need-cast-t31
+cast-t31 c =
     let at-get-members = c .before .before .before .before .before in
     let at-shared-slice-known = at-get-members .before .before .before in
     omega (
@@ -72,14 +72,14 @@ cast-t30 c =
           (at-get-members .get-members .ensures),
     )
 
-array-read-t19 : tie.Need-array-read-t19
-array-read-t19 c = search needs
+array-read-t20 : tie.Need-array-read-t20
+array-read-t20 c = search needs
 
-array-read-t35 : tie.Need-array-read-t35
-array-read-t35 c = search needs
+array-read-t36 : tie.Need-array-read-t36
+array-read-t36 c = search needs
 
-cast-t36 : tie.Need-cast-t36
-cast-t36 c =
+cast-t37 : tie.Need-cast-t37
+cast-t37 c =
     let at-get-members = c .before .before .before .before .before in
     let at-shared-slice-known = at-get-members .before .before .before in
     omega (
@@ -89,17 +89,17 @@ cast-t36 c =
           (at-get-members .get-members .ensures),
     )
 
-array-read-t39 : tie.Need-array-read-t39
-array-read-t39 c = search needs
+array-read-t40 : tie.Need-array-read-t40
+array-read-t40 c = search needs
 
-array-read-t42 : tie.Need-array-read-t42
-array-read-t42 c = search needs
+array-read-t43 : tie.Need-array-read-t43
+array-read-t43 c = search needs
 
-array-read-t45 : tie.Need-array-read-t45
-array-read-t45 c = search needs
+array-read-t46 : tie.Need-array-read-t46
+array-read-t46 c = search needs
 
-cast-t46 : tie.Need-cast-t46
-cast-t46 c =
+cast-t47 : tie.Need-cast-t47
+cast-t47 c =
     let at-get-members = c .before .before .before .before .before in
     let at-shared-slice-known = at-get-members .before .before .before in
     omega (
@@ -109,11 +109,11 @@ cast-t46 c =
           (at-get-members .get-members .ensures),
     )
 
-array-read-t50 : tie.Need-array-read-t50
-array-read-t50 c = search needs
+array-read-t51 : tie.Need-array-read-t51
+array-read-t51 c = search needs
 
-cast-t51 : tie.Need-cast-t51
-cast-t51 c =
+cast-t52 : tie.Need-cast-t52
+cast-t52 c =
     let at-get-members = c .before .before .before .before .before in
     let at-shared-slice-known = at-get-members .before .before .before in
     omega (
@@ -123,23 +123,23 @@ cast-t51 c =
           (at-get-members .get-members .ensures),
     )
 
-array-read-t54 : tie.Need-array-read-t54
-array-read-t54 c = search needs
+array-read-t55 : tie.Need-array-read-t55
+array-read-t55 c = search needs
 
-array-read-t57 : tie.Need-array-read-t57
-array-read-t57 c = search needs
+array-read-t58 : tie.Need-array-read-t58
+array-read-t58 c = search needs
 
-array-read-t60 : tie.Need-array-read-t60
-array-read-t60 c = search needs
+array-read-t61 : tie.Need-array-read-t61
+array-read-t61 c = search needs
 
-array-read-t64 : tie.Need-array-read-t64
-array-read-t64 c = search needs
+array-read-t65 : tie.Need-array-read-t65
+array-read-t65 c = search needs
 
-array-read-t67 : tie.Need-array-read-t67
-array-read-t67 c = search needs
+array-read-t68 : tie.Need-array-read-t68
+array-read-t68 c = search needs
 
-cast-t68 : tie.Need-cast-t68
-cast-t68 c =
+cast-t69 : tie.Need-cast-t69
+cast-t69 c =
     let at-get-members = c .before .before .before .before .before in
     let at-shared-slice-known = at-get-members .before .before .before in
     omega (
@@ -149,11 +149,11 @@ cast-t68 c =
           (at-get-members .get-members .ensures),
     )
 
-array-read-t72 : tie.Need-array-read-t72
-array-read-t72 c = search needs
+array-read-t73 : tie.Need-array-read-t73
+array-read-t73 c = search needs
 
-cast-t73 : tie.Need-cast-t73
-cast-t73 c =
+cast-t74 : tie.Need-cast-t74
+cast-t74 c =
     let at-get-members = c .before .before .before .before .before in
     let at-shared-slice-known = at-get-members .before .before .before in
     omega (
@@ -163,14 +163,14 @@ cast-t73 c =
           (at-get-members .get-members .ensures),
     )
 
-array-read-t76 : tie.Need-array-read-t76
-array-read-t76 c = search needs
+array-read-t77 : tie.Need-array-read-t77
+array-read-t77 c = search needs
 
-array-read-t79 : tie.Need-array-read-t79
-array-read-t79 c = search needs
+array-read-t80 : tie.Need-array-read-t80
+array-read-t80 c = search needs
 
-cast-t80 : tie.Need-cast-t80
-cast-t80 c =
+cast-t81 : tie.Need-cast-t81
+cast-t81 c =
     let at-get-members = c .before .before .before .before .before in
     let at-shared-slice-known = at-get-members .before .before .before in
     omega (
@@ -180,14 +180,14 @@ cast-t80 c =
           (at-get-members .get-members .ensures),
     )
 
-array-read-t84 : tie.Need-array-read-t84
-array-read-t84 c = search needs
+array-read-t85 : tie.Need-array-read-t85
+array-read-t85 c = search needs
 
-array-read-t87 : tie.Need-array-read-t87
-array-read-t87 c = search needs
+array-read-t88 : tie.Need-array-read-t88
+array-read-t88 c = search needs
 
-cast-t88 : tie.Need-cast-t88
-cast-t88 c =
+cast-t89 : tie.Need-cast-t89
+cast-t89 c =
     let at-get-members = c .before .before .before .before .before in
     let at-shared-slice-known = at-get-members .before .before .before in
     omega (
@@ -207,7 +207,7 @@ returns c =
           (c .before .both2 .ensures)) (c .both3 .ensures),
       (
         ap (λ (ms : List ℕ). getD ms 0 0) (at-get-members .get-members .ensures),
-        ap clockFrom (at-get-members .get-members .ensures),
+        ap (clockFrom _) (at-get-members .get-members .ensures),
       ),
     )
 
@@ -226,31 +226,31 @@ clock-in-spec =
     both-requires
     both-requires-2
     both-requires-3
-    array-read-t14
-    cast-t27
-    array-read-t23
-    cast-t30
-    array-read-t19
-    array-read-t35
-    cast-t36
-    array-read-t39
-    array-read-t42
-    array-read-t45
-    cast-t46
-    array-read-t50
-    cast-t51
-    array-read-t54
-    array-read-t57
-    array-read-t60
-    array-read-t64
-    array-read-t67
-    cast-t68
-    array-read-t72
-    cast-t73
-    array-read-t76
-    array-read-t79
-    cast-t80
-    array-read-t84
-    array-read-t87
-    cast-t88
+    array-read-t15
+    cast-t28
+    array-read-t24
+    cast-t31
+    array-read-t20
+    array-read-t36
+    cast-t37
+    array-read-t40
+    array-read-t43
+    array-read-t46
+    cast-t47
+    array-read-t51
+    cast-t52
+    array-read-t55
+    array-read-t58
+    array-read-t61
+    array-read-t65
+    array-read-t68
+    cast-t69
+    array-read-t73
+    cast-t74
+    array-read-t77
+    array-read-t80
+    cast-t81
+    array-read-t85
+    array-read-t88
+    cast-t89
     returns)
