@@ -1,4 +1,4 @@
--- What a writing and a reading answer, case by case. Assumes nothing.
+-- What a writing and a reading answer, case by case, and what they and a move do not. Assumes nothing.
 use Prim.Native.Nat.{ℕ, _-_, _≤_}
 use native.Mathlib.Omega.{arith}
 use mathlib.Core.Path.{_≡_, refl, sym, ap, ap₂, _∙_}
@@ -9,12 +9,12 @@ use lib.Seq.{sets}
 use lib.Dec.{ltb, eqb}
 use borrow.Author.Tests.{eq-eqb, ne-eqb, ltb-false}
 use Rattle.format.proofs.Frames.{part-rest, sets-front}
-use Rattle.wide.proofs.Choices.{either}
+use Rattle.wide.proofs.Choices.{choose, either}
 use Rattle.clock.specs.Clock.{rateOf}
 use Rattle.board.specs.declared.Board.{Board}
 use Rattle.board.specs.Fields.{freshBoard}
 use Rattle.board.specs.Board.{sound}
-use Rattle.board.specs.Calls.{notSound}
+use Rattle.board.specs.Calls.{notSound, anotherRate}
 use Rattle.image.specs.Image.{
   Field,
   channelField,
@@ -37,7 +37,9 @@ use Rattle.image.specs.declared.Form.{Form}
 use Rattle.image.specs.declared.Form.the-variants.{Old, New}
 use Rattle.parking.specs.Parking.{
   defaultForm,
+  rateNeedsNewForm,
   formTakes,
+  parkingRefusal,
   writingRefusal,
   writingOf,
   bufferAfter,
@@ -51,6 +53,7 @@ use Rattle.parking.specs.Parking.{
   formOf,
   readingOf,
 }
+use Rattle.parking.specs.Moves.{otherForm, moveRefusal}
 use Rattle.image.proofs.Fields.{image-length}
 use Rattle.parking.proofs.Shifted.{said-behind, formed-behind}
 use Rattle.parking.proofs.RoundTrip.{formed-not}
@@ -197,3 +200,46 @@ module _ (f : Form) (b : Board) (old : List ℕ) (r : ℕ) (told : r ≡ writing
         ∙ sets-front old (imageOf f b) (omega (arith, n, writing-room))
         ∙ ap (λ (k : ℕ). imageOf f b ++ drop k old) n
         ∙ rw none refl
+
+-- ---- refusals that do not arise: S-8, '15 no longer arises in parking', and 16 arises in the old form alone
+
+-- a refusal is not this one
+abbrev Never : ℕ → ℕ → Type 0
+Never k r = r ≡ k → ⊥
+
+parking-15 : (f : Form) (rate room : ℕ) → Never anotherRate (parkingRefusal f rate room)
+parking-15 f rate room =
+    choose (Never anotherRate) (formTakes f rate)
+    (λ _. choose (Never anotherRate) (ltb room (imageLength f)) (λ _ e. omega (arith, e)) (λ _ e. omega (arith, e)))
+    (λ _ e. omega (arith, e))
+
+new-16 : (rate room : ℕ) → Never rateNeedsNewForm (parkingRefusal New rate room)
+new-16 rate room =
+    choose (Never rateNeedsNewForm) (ltb room (imageLength New)) (λ _ e. omega (arith, e)) (λ _ e. omega (arith, e))
+
+-- of a writing
+pub writing-never-15 : (f : Form) (b : Board) (room : ℕ) → Never anotherRate (writingRefusal f b room)
+writing-never-15 f b room =
+    choose (Never anotherRate) (sound b) (λ _. parking-15 f (rateOf (b .clock)) room) (λ _ e. omega (arith, e))
+
+pub new-never-16 : (b : Board) (room : ℕ) → Never rateNeedsNewForm (writingRefusal New b room)
+new-never-16 b room =
+    choose (Never rateNeedsNewForm) (sound b) (λ _. new-16 (rateOf (b .clock)) room) (λ _ e. omega (arith, e))
+
+-- of a move: what its image is refused with is 12 or 1
+image-never : (k : ℕ) → Never k 0 → Never k 1 → Never k 12 → (f : Form) (l : List ℕ) → Never k (formRefusal f l)
+unfolding formRefusal
+image-never k p q r f l = choose (Never k) (formed f l) (λ _. choose (Never k) (soundIn f l) (λ _. p) (λ _. q)) (λ _. r)
+
+pub move-never-15 : (to : Form) (l : List ℕ) (room : ℕ) → Never anotherRate (moveRefusal to l room)
+unfolding moveRefusal
+move-never-15 to l room =
+    choose (Never anotherRate) (eqb (formRefusal (otherForm to) l) 0) (λ _. parking-15 to _ room)
+    (λ _. image-never anotherRate (λ e. omega (arith, e)) (λ e. omega (arith, e)) (λ e. omega (arith, e))
+    (otherForm to) l)
+
+pub forward-never-16 : (l : List ℕ) (room : ℕ) → Never rateNeedsNewForm (moveRefusal New l room)
+unfolding moveRefusal
+forward-never-16 l room =
+    choose (Never rateNeedsNewForm) (eqb (formRefusal Old l) 0) (λ _. new-16 (rateOf (boardIn Old l .clock)) room)
+    (λ _. image-never rateNeedsNewForm (λ e. omega (arith, e)) (λ e. omega (arith, e)) (λ e. omega (arith, e)) Old l)
