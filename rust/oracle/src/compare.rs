@@ -14,6 +14,8 @@ pub mod previews;
 pub mod skips;
 
 use std::fmt::{self, Write};
+use std::sync::atomic::{AtomicBool, AtomicUsize, Ordering::Relaxed};
+use std::thread;
 
 use calls::{list_of, Call, Outcome};
 
@@ -45,6 +47,33 @@ impl Count {
         self.comparisons += other.comparisons;
         self.calls += other.calls;
     }
+}
+
+/// The comparisons of all members, which are shared out over the machine's processors, each of which takes the next
+/// member in turn. Where one finds a difference, all stop.
+pub fn shared<T: Sync, E: Send>(members: &[T], compare: impl Fn(&T) -> Result<Count, E> + Sync) -> Result<Count, E> {
+    let (next, found) = (AtomicUsize::new(0), AtomicBool::new(false));
+    let work = || -> Result<Count, E> {
+        let mut count = Count::default();
+        while let (false, Some(member)) = (found.load(Relaxed), members.get(next.fetch_add(1, Relaxed))) {
+            let compared = compare(member).inspect_err(|_| found.store(true, Relaxed));
+            count.add(compared?);
+        }
+        Ok(count)
+    };
+    let workers = thread::available_parallelism().map_or(1, usize::from);
+    let results: Vec<Result<Count, E>> = thread::scope(|scope| {
+        let spawned: Vec<_> = (0..workers).map(|_| scope.spawn(work)).collect();
+        spawned
+            .into_iter()
+            .map(|worker| worker.join().expect("a comparison panicked"))
+            .collect()
+    });
+    let mut count = Count::default();
+    for result in results {
+        count.add(result?);
+    }
+    Ok(count)
 }
 
 /// What a buffer holds before a run; no buffer is longer.
