@@ -35,8 +35,8 @@ pub struct Pair {
 /// How much was compared.
 #[derive(Clone, Copy, Debug, Default, PartialEq, Eq)]
 pub struct Count {
-    /// Outcomes and buffers of a run, results of an operation, the dispatcher's turns on a controller, or the previews of
-    /// some totals, found equal.
+    /// Outcomes and buffers of a run, results of an operation, images that were moved or parked, the dispatcher's turns
+    /// on a controller, or the previews of some totals, found equal.
     pub comparisons: u64,
     /// The calls that the compared runs carried out.
     pub calls: u64,

@@ -258,22 +258,31 @@ fn other_images(image: &[u8]) -> Vec<(String, Vec<u8>)> {
             swapped.swap(one, other);
             add(format!("fields {other} and {one} swapped"), swapped.concat());
         }
+        // A member byte more or less, which the length says.
+        let longer = [&[field[0], 0, field[2] + 1][..], &field[3..], &[0]].concat();
+        let shorter = [&[field[0], 0, field[2] - 1][..], &field[3..field.len() - 1]].concat();
+        for (name, changed) in [("longer", longer), ("shorter", shorter)] {
+            let mut other = fields.clone();
+            other[one] = &changed;
+            add(format!("field {one} a byte {name}"), other.concat());
+        }
     }
-    // A rate before each field and behind the last; that before the first makes a new form of an old one. Where the
-    // image has one already, it is put in another place, too.
-    let has_rate = fields[0][0] == RATE_TAG;
-    let others = &fields[usize::from(has_rate)..];
+    // A rate before each field and behind the last: that before the first makes a new form of an old one. The rate that
+    // an image has already, behind each other field.
+    let others: Vec<&[u8]> = fields.iter().copied().filter(|field| field[0] != RATE_TAG).collect();
     for rate in RATES {
         let field = rate_field(rate);
         for place in 0..=fields.len() {
             let mut with_rate = fields.clone();
             with_rate.insert(place, &field);
-            add(format!("the rate {rate} put before field {place}"), with_rate.concat());
+            add(format!("the rate {rate} before field {place}"), with_rate.concat());
         }
+    }
+    if fields[0][0] == RATE_TAG {
         for place in 1..=others.len() {
-            let mut moved = others.to_vec();
-            moved.insert(place, &field);
-            add(format!("the rate {rate} behind {place} fields"), moved.concat());
+            let mut moved = others.clone();
+            moved.insert(place, fields[0]);
+            add(format!("the rate behind {place} fields"), moved.concat());
         }
     }
     for rate in rates_in_images() {
