@@ -14,7 +14,8 @@ pub mod previews;
 pub mod skips;
 
 use std::fmt::{self, Write};
-use std::sync::atomic::{AtomicBool, AtomicUsize, Ordering::Relaxed};
+use std::sync::atomic::{AtomicBool, Ordering::Relaxed};
+use std::sync::Mutex;
 use std::thread;
 
 use calls::{list_of, Call, Outcome};
@@ -49,13 +50,17 @@ impl Count {
     }
 }
 
-/// The comparisons of all members, which are shared out over the machine's processors, each of which takes the next
-/// member in turn. Where one finds a difference, all stop.
-pub fn shared<T: Sync, E: Send>(members: &[T], compare: impl Fn(&T) -> Result<Count, E> + Sync) -> Result<Count, E> {
-    let (next, found) = (AtomicUsize::new(0), AtomicBool::new(false));
+/// The comparisons of all members, which are shared out over the machine's processors: each takes the next one in turn.
+/// Where one finds a difference, all stop.
+pub fn shared<T, E: Send>(
+    members: impl Iterator<Item = T> + Send,
+    compare: impl Fn(T) -> Result<Count, E> + Sync,
+) -> Result<Count, E> {
+    let (members, found) = (Mutex::new(members), AtomicBool::new(false));
+    let next = || members.lock().expect("no iterator panics").next();
     let work = || -> Result<Count, E> {
         let mut count = Count::default();
-        while let (false, Some(member)) = (found.load(Relaxed), members.get(next.fetch_add(1, Relaxed))) {
+        while let (false, Some(member)) = (found.load(Relaxed), next()) {
             let compared = compare(member).inspect_err(|_| found.store(true, Relaxed));
             count.add(compared?);
         }

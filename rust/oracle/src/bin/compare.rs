@@ -4,11 +4,11 @@
 //! over parked boards and previews by the same seeds. `compare all FIRST LAST` compares these, and every register with
 //! every byte, the clock about its limits, rates that no board has, damaged lists, short buffers, skips to large
 //! deadlines, advances with counts of matches at limits, prescalers at their limits, damaged images, moves of images
-//! from form to form, fresh boards that are parked, previews to large deadlines and of damaged images, the controller
-//! by itself, and the dispatcher. The lists of the seeds, the registers, the clock, and parked boards and previews by
-//! seed, by damaged images and by moves are compared at each of the three rates, and all else at that of a board of
-//! which none is said. Images are of the new form, and at 48,000,000 of the old form too. Prints the comparisons of
-//! each part, and ends with how many agreed, or prints the shortest list that shows a difference.
+//! from form to form, fresh boards that are parked, previews to large deadlines, of clocks and of damaged images, the
+//! controller by itself, and the dispatcher. The lists of the seeds, the registers, the clock, and parked boards and
+//! previews by seed, by damaged images and by moves are compared at each of the three rates, and all else at that of a
+//! board of which none is said. Images are of the new form, and at 48,000,000 of the old form too. Prints the
+//! comparisons of each part, and ends with how many agreed, or prints the shortest list that shows a difference.
 //!
 //! The Rust has neither the counts in an advance's answer nor the dispatcher nor images: there the proved board is
 //! compared with the oracle's own reading of S-4, of S-3, and of S-1 and S-8. It has no previews either: each byte of
@@ -114,15 +114,16 @@ fn compare(all: bool, first: u64, last: u64) -> Result<Count, String> {
         lists?;
         println!("  of these, {own} calls of the seeds' own lists");
     }
-    let seeds: Vec<u64> = (first..=last).collect();
-    let of_seed =
-        |seed: &u64, compared: Result<Count, String>| compared.map_err(|reason| format!("seed {seed}: {reason}"));
+    let by_seed = |compare: &(dyn Fn(u64) -> Result<Count, String> + Sync)| {
+        shared(first..=last, |seed| {
+            compare(seed).map_err(|reason| format!("seed {seed}: {reason}"))
+        })
+    };
     for (form, rate) in parked::forms() {
-        part(
-            &at(&of_form("parked boards", form, "by seed"), rate),
-            &mut total,
-            || shared(&seeds, |seed| of_seed(seed, parked::seed(&PARKING, form, rate, *seed))),
-        )?;
+        let name = at(&of_form("parked boards", form, "by seed"), rate);
+        part(&name, &mut total, || {
+            by_seed(&|seed| parked::seed(&PARKING, form, rate, seed))
+        })?;
     }
     let shown = AtomicU64::new(0);
     let preview = |image: &[u8], totals: &[u64], high: &mut [u8]| {
@@ -131,23 +132,18 @@ fn compare(all: bool, first: u64, last: u64) -> Result<Count, String> {
         previewed
     };
     for (form, rate) in parked::forms() {
-        part(&at(&of_form("previews", form, "by seed"), rate), &mut total, || {
-            shared(&seeds, |seed| {
-                of_seed(seed, previews::seed(&preview, form, rate, *seed))
-            })
+        let name = at(&of_form("previews", form, "by seed"), rate);
+        part(&name, &mut total, || {
+            by_seed(&|seed| previews::seed(&preview, form, rate, seed))
         })?;
     }
     if all {
         part("previews to large deadlines", &mut total, || previews::limits(&preview))?;
         for (form, rate) in parked::forms() {
-            part(&at(&of_form("previews of clocks", form, ""), rate), &mut total, || {
-                previews::clocks(&preview, form, rate)
-            })?;
-            part(
-                &at(&of_form("previews of damaged images", form, ""), rate),
-                &mut total,
-                || previews::images(&preview, form, rate),
-            )?;
+            let name = at(&of_form("previews of clocks", form, ""), rate);
+            part(&name, &mut total, || previews::clocks(&preview, form, rate))?;
+            let name = at(&of_form("previews of damaged images", form, ""), rate);
+            part(&name, &mut total, || previews::images(&preview, form, rate))?;
         }
     }
     let shown = shown.into_inner();
@@ -181,9 +177,8 @@ fn compare(all: bool, first: u64, last: u64) -> Result<Count, String> {
             prescaler::parked(&PARKING)
         })?;
         for (form, rate) in parked::forms() {
-            part(&at(&of_form("damaged images", form, ""), rate), &mut total, || {
-                parked::damaged(&PARKING, form, rate)
-            })?;
+            let name = at(&of_form("damaged images", form, ""), rate);
+            part(&name, &mut total, || parked::damaged(&PARKING, form, rate))?;
         }
         for rate in RATES {
             part(&at("moves from form to form", rate), &mut total, || {

@@ -208,8 +208,7 @@ pub fn damaged(parking: &Parking, form: Form, rate: u32) -> Result<Count, String
     let replaced = boards
         .iter()
         .flat_map(|board| (0..form.size()).map(move |place| (board, Some(place))));
-    let work: Vec<_> = others.chain(replaced).collect();
-    shared(&work, |&((name, image), place)| {
+    shared(others.chain(replaced), |((name, image), place)| {
         let mut count = Count::default();
         let images = match place {
             None => other_images(image),

@@ -39,8 +39,7 @@ pub fn seed_calls(pair: &Pair, seed: u64) -> u64 {
 /// The addresses are shared out over the machine's processors.
 pub fn registers(pair: &Pair) -> Compared {
     let (boards, state) = (prepared(pair.rate), state_readout());
-    let addresses: Vec<u16> = (0..registers::SIZE).collect();
-    shared(&addresses, |&address| {
+    shared(0..registers::SIZE, |address| {
         let mut count = Count::default();
         for board in &boards {
             let read = list_of(&[Call::Read { address }]);

@@ -150,22 +150,21 @@ fn the_measured_lists_run_to_their_ends() {
 
 #[test]
 fn every_member_that_is_shared_out_is_compared_once_and_a_difference_is_given() {
-    let members: Vec<u64> = (0..1_000).collect();
-    let one = |member: &u64| Count {
+    let one = |member| Count {
         comparisons: 1,
-        calls: *member,
+        calls: member,
     };
     let all = Count {
         comparisons: 1_000,
         calls: 499_500,
     };
-    assert_eq!(shared(&members, |member| Ok::<_, String>(one(member))), Ok(all));
-    assert_eq!(shared(&members[..0], |_| Err("none is compared")), Ok(Count::default()));
+    assert_eq!(shared(0..1_000, |member| Ok::<_, String>(one(member))), Ok(all));
+    assert_eq!(shared(0..0, |_| Err("none is compared")), Ok(Count::default()));
     for wrong in [0, 700, 999] {
-        let compared = shared(
-            &members,
-            |member| if *member == wrong { Err(wrong) } else { Ok(one(member)) },
-        );
+        let compared = shared(0..1_000, |member| match member == wrong {
+            true => Err(wrong),
+            false => Ok(one(member)),
+        });
         assert_eq!(compared, Err(wrong));
     }
 }
