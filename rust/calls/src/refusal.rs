@@ -4,9 +4,10 @@ use std::error::Error;
 use std::fmt;
 
 /// Why a run stopped before the end of its list, why a direct call was not carried out, why a board was not made, not
-/// parked or an image not read, or why totals were not previewed. Numbers 1 to 11 are document 01's, 12 is that of the
-/// request for parked boards, S-1, 13 that of the request for skips that get there, S-2, 14 that of the request for
-/// previews, S-6, and 15 that of the request for three clock rates, S-7; so are the words in quotes.
+/// parked or an image not read or not moved, or why totals were not previewed. Numbers 1 to 11 are document 01's, 12 is
+/// that of the request for parked boards, S-1, 13 that of the request for skips that get there, S-2, 14 that of the
+/// request for previews, S-6, 15 that of the request for three clock rates, S-7, and 16 that of the request for parked
+/// boards with a rate, S-8; so are the words in quotes.
 #[derive(Clone, Copy, Debug, PartialEq, Eq, PartialOrd, Ord, Hash)]
 #[repr(u8)]
 pub enum Refusal {
@@ -32,20 +33,23 @@ pub enum Refusal {
     LevelOutOfRange = 10,
     /// 'Answer longer than the buffer's rest'; for an image and for previews, 'a short buffer'.
     BufferTooSmall = 11,
-    /// An image: 'a field missing, cut, out of order, of wrong length, a flag above 1, or bytes over'.
+    /// An image: 'a field missing, cut, out of order, of wrong length, a flag above 1, or bytes over'; for a move, also
+    /// 'one already in the target form'.
     MalformedImage = 12,
     /// Skip: 'D too large for one skip', above 2^64 - 1 with the line low.
     DeadlineTooLarge = 13,
     /// Previews: 'the clock is enabled in realtime'.
     ClockInRealtime = 14,
-    /// A fresh board, or one to be parked: 'another rate'. A fresh board takes one of [`RATES`](crate::RATES), and only
-    /// boards at [`DEFAULT_RATE`](crate::DEFAULT_RATE) are parked.
+    /// A fresh board: 'another rate' than [`RATES`](crate::RATES). In parking it no longer arises.
     UnsupportedRate = 15,
+    /// 'Another rate moved back or parked in the old form', which has no rate: its board is at
+    /// [`DEFAULT_RATE`](crate::DEFAULT_RATE).
+    RateNeedsNewForm = 16,
 }
 
 impl Refusal {
     /// Every refusal, in the order of the numbers.
-    pub const ALL: [Self; 15] = [
+    pub const ALL: [Self; 16] = [
         Self::UnsoundBoard,
         Self::TruncatedHeader,
         Self::UnknownTag,
@@ -61,14 +65,15 @@ impl Refusal {
         Self::DeadlineTooLarge,
         Self::ClockInRealtime,
         Self::UnsupportedRate,
+        Self::RateNeedsNewForm,
     ];
 
-    /// Its number, 1 to 15.
+    /// Its number, 1 to 16.
     pub fn number(self) -> u8 {
         self as u8
     }
 
-    /// The refusal of a number; none for 0, which is no refusal, and for numbers above 15.
+    /// The refusal of a number; none for 0, which is no refusal, and for numbers above 16.
     pub fn from_number(number: u8) -> Option<Self> {
         let place = usize::from(number).checked_sub(1)?;
         Self::ALL.get(place).copied()
@@ -93,6 +98,7 @@ impl fmt::Display for Refusal {
             Self::DeadlineTooLarge => "the deadline is above 2^64 - 1, too large for one skip",
             Self::ClockInRealtime => "the clock is enabled in realtime",
             Self::UnsupportedRate => "the rate is not one that is supported",
+            Self::RateNeedsNewForm => "an image of the old form has no rate, and the board is not at 48,000,000",
         })
     }
 }

@@ -303,6 +303,7 @@ fn refusals_have_their_numbers_and_words() {
         "the deadline is above 2^64 - 1, too large for one skip",
         "the clock is enabled in realtime",
         "the rate is not one that is supported",
+        "an image of the old form has no rate, and the board is not at 48,000,000",
     ];
     assert_eq!(words.len(), Refusal::ALL.len());
     for (number, words) in (1..).zip(words) {
@@ -314,7 +315,7 @@ fn refusals_have_their_numbers_and_words() {
         };
         assert_eq!(outcome.refusal_number(), number);
     }
-    assert!((16..=255)
+    assert!((17..=255)
         .chain([0])
         .all(|number| Refusal::from_number(number).is_none()));
     assert_eq!(Outcome::default().refusal_number(), 0);

@@ -310,6 +310,14 @@ impl AnyBoard {
         at_its_rate!(self, board => board.refusal(call))
     }
 
+    /// The line after an advance of a copy of the originals' state; of a board that is not sound there is none.
+    pub fn line_after(&self, cycles: u64) -> bool {
+        at_its_rate!(self, board => match board {
+            BoardAt::Sound(devices) => devices.line_after(cycles),
+            BoardAt::Unsound(_) => panic!("the board is not sound"),
+        })
+    }
+
     /// Runs a list.
     pub fn run(&mut self, list: &[u8], answers: &mut [u8]) -> Outcome {
         at_its_rate!(self, board => list::run(board, list, answers))

@@ -14,6 +14,9 @@ pub mod previews;
 pub mod skips;
 
 use std::fmt::{self, Write};
+use std::sync::atomic::{AtomicBool, Ordering::Relaxed};
+use std::sync::Mutex;
+use std::thread;
 
 use calls::{list_of, Call, Outcome};
 
@@ -33,8 +36,8 @@ pub struct Pair {
 /// How much was compared.
 #[derive(Clone, Copy, Debug, Default, PartialEq, Eq)]
 pub struct Count {
-    /// Outcomes and buffers of a run, results of an operation, the dispatcher's turns on a controller, or the previews of
-    /// some totals, found equal.
+    /// Outcomes and buffers of a run, results of an operation, images that were moved or parked, the dispatcher's turns
+    /// on a controller, or the previews of some totals, found equal.
     pub comparisons: u64,
     /// The calls that the compared runs carried out.
     pub calls: u64,
@@ -45,6 +48,37 @@ impl Count {
         self.comparisons += other.comparisons;
         self.calls += other.calls;
     }
+}
+
+/// The comparisons of all members, which are shared out over the machine's processors: each takes the next one in turn.
+/// Where one finds a difference, all stop.
+pub fn shared<T, E: Send>(
+    members: impl Iterator<Item = T> + Send,
+    compare: impl Fn(T) -> Result<Count, E> + Sync,
+) -> Result<Count, E> {
+    let (members, found) = (Mutex::new(members), AtomicBool::new(false));
+    let next = || members.lock().expect("no iterator panics").next();
+    let work = || -> Result<Count, E> {
+        let mut count = Count::default();
+        while let (false, Some(member)) = (found.load(Relaxed), next()) {
+            let compared = compare(member).inspect_err(|_| found.store(true, Relaxed));
+            count.add(compared?);
+        }
+        Ok(count)
+    };
+    let workers = thread::available_parallelism().map_or(1, usize::from);
+    let results: Vec<Result<Count, E>> = thread::scope(|scope| {
+        let spawned: Vec<_> = (0..workers).map(|_| scope.spawn(work)).collect();
+        spawned
+            .into_iter()
+            .map(|worker| worker.join().expect("a comparison panicked"))
+            .collect()
+    });
+    let mut count = Count::default();
+    for result in results {
+        count.add(result?);
+    }
+    Ok(count)
 }
 
 /// What a buffer holds before a run; no buffer is longer.

@@ -1,32 +1,61 @@
-//! Parked boards: the image of a board, the reading of one, and what the library's functions on images do. Written
-//! from the sentences of the request, S-1, and from document 01's list of fields. An image has no rate: only boards of
-//! which no rate is said are parked, S-7's 'until S-8'.
+//! Parked boards: the image of a board in either form, the reading of one, the moves from form to form, and what the
+//! library's functions on images do. Written from the sentences of the requests, S-1 and S-8, and from document 01's
+//! list of fields.
 
-use calls::{Outcome, Refusal, DEFAULT_RATE};
+use calls::{Outcome, Refusal, DEFAULT_RATE, RATES};
 
-use crate::board::Board;
+use crate::board::AnyBoard;
 use crate::fields::{Channel, Fields, Latch};
-use crate::list;
+
+/// The form of an image.
+#[derive(Clone, Copy, Debug, PartialEq, Eq)]
+pub enum Form {
+    /// S-1's, seven fields without a rate: its board is at 48,000,000.
+    Old,
+    /// S-8's, which begins with a field of the rate, and goes on as the old one.
+    New,
+}
+
+impl Form {
+    /// Both.
+    pub const ALL: [Self; 2] = [Self::Old, Self::New];
+
+    /// The bytes of an image.
+    pub const fn size(self) -> usize {
+        match self {
+            Self::Old => OLD_IMAGE_SIZE,
+            Self::New => IMAGE_SIZE,
+        }
+    }
+}
 
 /// The tags of an image's fields.
+const RATE: u8 = 0x24;
 const CHANNEL: u8 = 0x20;
 const CLOCK: u8 = 0x21;
 const LATCHES: u8 = 0x22;
 const CONTROLLER: u8 = 0x23;
 
-/// The lengths of the fields' members, added up from document 01's widths.
+/// The lengths of the fields' members: the rate's four bytes, and the others added up from document 01's widths.
+const RATE_LENGTH: u16 = 4;
 const CHANNEL_LENGTH: u16 = 1 + 8 + 8 + 8 + 4 + 4 + 1 + 1;
 const CLOCK_LENGTH: u16 = 1 + (1 + 8 + 4) + (1 + 8 + 4) + (1 + 8 + 1 + 1) + (8 + 1) + 4 + (8 + 1) + (8 + 4);
 const LATCHES_LENGTH: u16 = 6 * (1 + 4);
 const CONTROLLER_LENGTH: u16 = 2 + 2 + 2;
 
-/// The bytes of an image.
-pub const IMAGE_SIZE: usize =
+/// The bytes of an image of the old form.
+pub const OLD_IMAGE_SIZE: usize =
     7 * 3 + (4 * CHANNEL_LENGTH + CLOCK_LENGTH + LATCHES_LENGTH + CONTROLLER_LENGTH) as usize;
 
-/// The image of a board, sound or not, whatever its rate.
-pub fn image_of(fields: &Fields) -> Vec<u8> {
-    let mut image = Vec::new();
+/// The bytes of an image of the new form.
+pub const IMAGE_SIZE: usize = 3 + RATE_LENGTH as usize + OLD_IMAGE_SIZE;
+
+/// The image of a board in a form, sound or not. In the old form it is the same whatever the rate.
+pub fn image_of(form: Form, fields: &Fields) -> Vec<u8> {
+    let mut image = Vec::with_capacity(form.size());
+    if form == Form::New {
+        put_field(&mut image, RATE, &fields.rate.to_be_bytes());
+    }
     for channel in &fields.channels {
         put_field(&mut image, CHANNEL, &channel_members(channel));
     }
@@ -91,19 +120,34 @@ fn latch_members(latch: &Latch) -> Vec<u8> {
     [&[latch.held.into()][..], &latch.value.to_be_bytes()].concat()
 }
 
-/// The board of an image; or 12, which comes first, or 1.
-pub fn read_image(image: &[u8]) -> Result<Fields, Refusal> {
-    let fields = form(image).ok_or(Refusal::MalformedImage)?;
+/// The form of an image and its board; or 12, which comes first, or 1.
+pub fn read_image(image: &[u8]) -> Result<(Form, Fields), Refusal> {
+    let (form, fields) = formed(image).ok_or(Refusal::MalformedImage)?;
     if fields.sound() {
-        Ok(fields)
+        Ok((form, fields))
     } else {
         Err(Refusal::UnsoundBoard)
     }
 }
 
-/// The fields that an image says, sound or not; none where the image is malformed.
-fn form(image: &[u8]) -> Option<Fields> {
-    let mut image = Members(image);
+/// The form of an image and the fields that it says, sound or not; none where it has neither form.
+fn formed(image: &[u8]) -> Option<(Form, Fields)> {
+    let new = new_form(Members(image)).map(|fields| (Form::New, fields));
+    let old = old_form(Members(image)).map(|fields| (Form::Old, fields));
+    new.or(old)
+}
+
+/// The new form: the rate, and then the fields of the old one.
+fn new_form(mut image: Members) -> Option<Fields> {
+    let mut field = image.field(RATE, RATE_LENGTH)?;
+    let rate = field.four()?;
+    field.end()?;
+    let fields = old_form(image)?;
+    Some(Fields { rate, ..fields })
+}
+
+/// The old form, whose board is at 48,000,000.
+fn old_form(mut image: Members) -> Option<Fields> {
     let channels = [
         channel(&mut image)?,
         channel(&mut image)?,
@@ -131,7 +175,7 @@ fn form(image: &[u8]) -> Option<Fields> {
         alarm_mask: clock.byte()?,
         host_seconds: clock.eight()?,
         host_nanoseconds: clock.four()?,
-        ..Fields::fresh()
+        ..Fields::fresh_at(DEFAULT_RATE)
     };
     clock.end()?;
     let mut latches = image.field(LATCHES, LATCHES_LENGTH)?;
@@ -224,36 +268,65 @@ impl<'a> Members<'a> {
     }
 }
 
-/// Parks a fresh board at the start of a buffer.
+/// Parks a fresh board of which no rate is said at the start of a buffer, in the new form.
 pub fn park_fresh(buffer: &mut [u8]) -> Result<usize, Refusal> {
-    park(&Fields::fresh(), buffer)
+    park(Form::New, &Fields::fresh(), buffer)
 }
 
-/// Parks a board at the start of a buffer and gives the bytes written; or 1, then 15 of another rate than an image's,
-/// then 11, a short buffer, which leave the buffer as it is.
-pub fn park(fields: &Fields, buffer: &mut [u8]) -> Result<usize, Refusal> {
+/// Parks a fresh board of a rate at the start of a buffer, in the new form; or 15 of another rate than the three, which
+/// comes before all else.
+pub fn park_fresh_at(rate: u32, buffer: &mut [u8]) -> Result<usize, Refusal> {
+    if !RATES.contains(&rate) {
+        return Err(Refusal::UnsupportedRate);
+    }
+    park(Form::New, &Fields::fresh_at(rate), buffer)
+}
+
+/// Parks a board in a form at the start of a buffer and gives the bytes written; or 1, then 16 of another rate than
+/// 48,000,000 in the old form, then 11, a short buffer, which leave the buffer as it is.
+pub fn park(form: Form, fields: &Fields, buffer: &mut [u8]) -> Result<usize, Refusal> {
     if !fields.sound() {
         return Err(Refusal::UnsoundBoard);
     }
-    if fields.rate != DEFAULT_RATE {
-        return Err(Refusal::UnsupportedRate);
+    if form == Form::Old && fields.rate != DEFAULT_RATE {
+        return Err(Refusal::RateNeedsNewForm);
     }
-    let image = image_of(fields);
+    let image = image_of(form, fields);
     let room = buffer.get_mut(..image.len()).ok_or(Refusal::BufferTooSmall)?;
     room.copy_from_slice(&image);
     Ok(image.len())
 }
 
-/// The refusal of reading an image.
-pub fn image_refusal(image: &[u8]) -> Option<Refusal> {
-    read_image(image).err()
+/// Moves an image to a form, at the start of a buffer, and gives the bytes written; or 12, also of an image that has
+/// that form already; or else what parking its board in that form is refused with. Refused, it leaves the buffer.
+pub fn move_image(to: Form, image: &[u8], buffer: &mut [u8]) -> Result<usize, Refusal> {
+    let (form, fields) = formed(image).ok_or(Refusal::MalformedImage)?;
+    if form == to {
+        return Err(Refusal::MalformedImage);
+    }
+    park(to, &fields, buffer)
 }
 
-/// Runs a list over the board of an image and puts the image of the board that the run left in its place; a refused
-/// image changes nothing.
+/// Moves an image of the old form to the new one.
+pub fn move_forward(image: &[u8], buffer: &mut [u8]) -> Result<usize, Refusal> {
+    move_image(Form::New, image, buffer)
+}
+
+/// Moves an image of the new form to the old one.
+pub fn move_back(image: &[u8], buffer: &mut [u8]) -> Result<usize, Refusal> {
+    move_image(Form::Old, image, buffer)
+}
+
+/// The form of an image, or the refusal of reading it.
+pub fn image_form(image: &[u8]) -> Result<Form, Refusal> {
+    read_image(image).map(|(form, _)| form)
+}
+
+/// Runs a list over the board of an image and puts the image of the board that the run left in its place, in the form
+/// that it had; a refused image changes nothing.
 pub fn run_parked(image: &mut [u8], list: &[u8], answers: &mut [u8]) -> Outcome {
-    let fields = match read_image(image) {
-        Ok(fields) => fields,
+    let (form, fields) = match read_image(image) {
+        Ok(read) => read,
         Err(refusal) => {
             return Outcome {
                 refusal: Some(refusal),
@@ -261,8 +334,8 @@ pub fn run_parked(image: &mut [u8], list: &[u8], answers: &mut [u8]) -> Outcome 
             }
         }
     };
-    let mut board = Board::from_fields(&fields);
-    let outcome = list::run(&mut board, list, answers);
-    image.copy_from_slice(&image_of(&board.fields()));
+    let mut board = AnyBoard::from_fields(&fields);
+    let outcome = board.run(list, answers);
+    image.copy_from_slice(&image_of(form, &board.fields()));
     outcome
 }

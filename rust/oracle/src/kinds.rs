@@ -59,7 +59,7 @@ pub fn named(rate: u32, wanted: Option<&str>) -> Vec<Kind> {
 }
 
 /// The group of a name, or every group where none is given; nothing where there is none of that name, or at another
-/// rate than that of parked boards, which the operations are on.
+/// rate than that of the board which the operations are on.
 #[cfg(feature = "proved")]
 pub fn groups(rate: u32, wanted: Option<&str>) -> Vec<Group> {
     let mut groups = Vec::from(GROUPS);

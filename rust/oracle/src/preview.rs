@@ -3,20 +3,18 @@
 
 use calls::Refusal;
 
-use crate::board::Board;
+use crate::board::AnyBoard;
 use crate::image::read_image;
 
 /// Writes one byte for each total of further cycles at the start of a buffer, 1 where the line of the board of an image
 /// would be high after them, else 0. Refused, it writes nothing: 12 and 1 of the image come first, then 14, then 11.
 pub fn preview_parked(image: &[u8], totals: &[u64], high: &mut [u8]) -> Result<(), Refusal> {
-    let fields = read_image(image)?;
-    let Board::Sound(board) = Board::from_fields(&fields) else {
-        return Err(Refusal::UnsoundBoard);
-    };
+    let (_, fields) = read_image(image)?;
     if fields.runs_from_host_time() {
         return Err(Refusal::ClockInRealtime);
     }
     let bytes = high.get_mut(..totals.len()).ok_or(Refusal::BufferTooSmall)?;
+    let board = AnyBoard::from_fields(&fields);
     for (byte, total) in bytes.iter_mut().zip(totals) {
         *byte = board.line_after(*total).into();
     }

@@ -2,7 +2,9 @@
 //! park the board on Friday, take it up on Monday, jump over many periods, and keep one record of both days.
 //!
 //! `cargo run --example deadline -- IMAGE` parks the board in the file IMAGE. It prints each day's deadline, the cycles
-//! that each skip passed and the matches of each advance. What it cannot do it tells, and ends with status 1.
+//! that each skip passed and the matches of each advance. With `IMAGE FRIDAY` it does not run Friday's calls: it reads
+//! the board from the file FRIDAY, an image of either form that an earlier program parked, and prints which form it
+//! was. What it cannot do it tells, and ends with status 1.
 
 use std::env;
 use std::error::Error;
@@ -12,7 +14,7 @@ use std::io::{self, Write};
 use std::path::{Path, PathBuf};
 use std::process::ExitCode;
 
-use pec::{answers, list_of, Answer, Board, Call};
+use pec::{answers, image_form, list_of, Answer, Board, Call, Form};
 
 /// Addresses of registers' last bytes, of channel 0 where a channel has its own.
 const TIMER_ENABLE: u16 = 0x07;
@@ -78,8 +80,8 @@ fn run(board: &mut Board, calls: &[Call], record: &mut Vec<u8>) -> Result<(), Bo
     }
 }
 
-/// Writes the image to a file beside the named one, and puts it in that one's place once it is on the disk: a crash
-/// leaves the old image or the new one.
+/// Writes the image, of the new form, to a file beside the named one, and puts it in that one's place once it is on the
+/// disk: a crash leaves the old image or the new one.
 fn park(board: &Board, path: &Path) -> io::Result<()> {
     let mut beside = OsString::from(path);
     beside.push(".new");
@@ -96,35 +98,50 @@ fn park(board: &Board, path: &Path) -> io::Result<()> {
     File::open(directory)?.sync_all()
 }
 
-/// The board that a file parks.
-fn resume(path: &Path) -> Result<Board, Box<dyn Error>> {
-    let image = fs::read(path)?;
-    Ok(Board::from_image(&image)?)
+/// The board that a file parks, and the form of its image.
+fn resume(path: &Path) -> Result<(Board, Form), Box<dyn Error>> {
+    let read = || -> Result<_, Box<dyn Error>> {
+        let image = fs::read(path)?;
+        Ok((Board::from_image(&image)?, image_form(&image)?))
+    };
+    read().map_err(|error| format!("{}: {error}", path.display()).into())
 }
 
-fn on_friday(path: &Path, record: &mut Vec<u8>) -> Result<(), Box<dyn Error>> {
+/// Friday's board: what an earlier program parked, or what Friday's calls leave.
+fn on_friday(earlier: Option<&Path>, record: &mut Vec<u8>) -> Result<Board, Box<dyn Error>> {
     println!("Friday");
+    if let Some(path) = earlier {
+        let (board, form) = resume(path)?;
+        let form = match form {
+            Form::Old => "old",
+            Form::New => "new",
+        };
+        println!("an image of the {form} form, {} cycles a second", board.rate());
+        return Ok(board);
+    }
     let mut board = Board::fresh();
     run(&mut board, &friday(), record)?;
-    park(&board, path).map_err(|error| format!("{}: {error}", path.display()))?;
-    Ok(())
+    Ok(board)
 }
 
 fn on_monday(path: &Path, record: &mut Vec<u8>) -> Result<(), Box<dyn Error>> {
     println!("Monday");
-    let mut board = resume(path).map_err(|error| format!("{}: {error}", path.display()))?;
+    let (mut board, _) = resume(path)?;
     run(&mut board, &monday(), record)
 }
 
-fn both_days(path: &Path) -> Result<(), Box<dyn Error>> {
+fn both_days(path: &Path, earlier: Option<&Path>) -> Result<(), Box<dyn Error>> {
     let mut record = Vec::new();
-    on_friday(path, &mut record)?;
+    let mut board = on_friday(earlier, &mut record)?;
+    park(&board, path).map_err(|error| format!("{}: {error}", path.display()))?;
     on_monday(path, &mut record)?;
 
     // The record is that of a simulation that nobody stopped.
-    let list = list_of(&[friday(), monday()].concat());
     let mut whole = vec![0; record.len()];
-    let outcome = pec::run(&list, &mut whole);
+    let outcome = match earlier {
+        None => pec::run(&list_of(&[friday(), monday()].concat()), &mut whole),
+        Some(_) => board.run(&list_of(&monday()), &mut whole),
+    };
     assert_eq!((outcome.refusal, outcome.answer_bytes), (None, record.len()));
     assert_eq!(record, whole);
     println!("one record of {} bytes", record.len());
@@ -133,11 +150,15 @@ fn both_days(path: &Path) -> Result<(), Box<dyn Error>> {
 
 fn main() -> ExitCode {
     let arguments: Vec<OsString> = env::args_os().skip(1).collect();
-    let [path] = &arguments[..] else {
-        eprintln!("usage: deadline IMAGE (the file to park the board in)");
-        return ExitCode::FAILURE;
+    let (path, earlier) = match &arguments[..] {
+        [path] => (path, None),
+        [path, earlier] => (path, Some(Path::new(earlier))),
+        _ => {
+            eprintln!("usage: deadline IMAGE [FRIDAY] (the file to park the board in; one that was parked earlier)");
+            return ExitCode::FAILURE;
+        }
     };
-    match both_days(Path::new(path)) {
+    match both_days(Path::new(path), earlier) {
         Ok(()) => ExitCode::SUCCESS,
         Err(error) => {
             eprintln!("deadline: {error}");

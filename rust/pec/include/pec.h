@@ -32,7 +32,8 @@ uint8_t pec_run_repeated(const uint8_t *first, size_t first_length, const uint8_
                          size_t *written);
 
 /* The rates of boards, in cycles a second: so many cycles are a second of the clock, and a thousandth of them lie
-   between two polls of an alarm on host time. The functions that take no rate are about boards at PEC_RATE_DEFAULT. */
+   between two polls of an alarm on host time. A fresh board of which no rate is said is at PEC_RATE_DEFAULT; a parked
+   board has the rate that its image says. */
 #define PEC_RATE_1_MHZ 1000000
 #define PEC_RATE_12_MHZ 12000000
 #define PEC_RATE_48_MHZ 48000000
@@ -52,20 +53,46 @@ uint8_t pec_run_repeated_at(uint32_t rate, const uint8_t *first, size_t first_le
 size_t pec_listing(const uint8_t *answers, size_t answers_length, size_t calls, uint8_t refusal, size_t used,
                    uint8_t *text, size_t text_length);
 
-/* The bytes of an image, which is a board parked: seven fields, each a tag, a length of two bytes and its members in
-   order and big-endian. */
-#define PEC_IMAGE_SIZE 269
+/* The bytes of an image, which is a board parked: eight fields, each a tag, a length of two bytes and its members in
+   order and big-endian. The first field, of tag 24 in hexadecimal, is the board's rate in four bytes. The old form,
+   which was written before boards had a rate, has the other seven fields alone, and its board is at PEC_RATE_DEFAULT.
 
-/* Parks a fresh board: writes its image at the start of `image` and leaves the bytes after it. Gives the bytes
-   written; the result is the refusal, 0 for none. A buffer shorter than PEC_IMAGE_SIZE is refused with 11 and left as
-   it is. */
+   Functions that read an image take either form. The length of an image that is accepted tells its form: it is
+   PEC_IMAGE_SIZE or PEC_OLD_IMAGE_SIZE. What is written is the new form, but by `pec_move_back`, and by
+   `pec_run_parked` over an image of the old one: to park a board in the old form, move its image back. An accepted
+   image is the only one of its board in its form. */
+#define PEC_IMAGE_SIZE 276
+#define PEC_OLD_IMAGE_SIZE 269
+
+/* Parks a fresh board at PEC_RATE_DEFAULT: writes its image at the start of `image` and leaves the bytes after it.
+   Gives the bytes written; the result is the refusal, 0 for none. A buffer shorter than PEC_IMAGE_SIZE is refused with
+   11 and left as it is, and 0 bytes are written. */
 uint8_t pec_fresh(uint8_t *image, size_t image_length, size_t *written);
 
-/* The refusal of reading an image: 12 where it is malformed, else 1 where its board is not sound, else 0. */
+/* What `pec_fresh` does, of a fresh board of a rate. A rate other than the three is refused with 15, ahead of 11: the
+   buffer stays, and 0 bytes are written. */
+uint8_t pec_fresh_at(uint32_t rate, uint8_t *image, size_t image_length, size_t *written);
+
+/* The refusal of reading an image: 12 where it has neither form, else 1 where its board is not sound, as it is not
+   where its rate is none of the three, else 0. */
 uint8_t pec_image_refusal(const uint8_t *image, size_t image_length);
 
-/* Runs a list over a parked board, and writes the board that the run left back into the same bytes. A refused image, by
-   12 or 1, changes nothing and gives counts 0; otherwise the results are those of the run, as of `pec_run`. */
+/* Moves an image of the old form to the new one, with the rate PEC_RATE_DEFAULT: writes it at the start of `moved` and
+   leaves the bytes after it; the image is only read. Gives the bytes written, PEC_IMAGE_SIZE; the result is the
+   refusal, 0 for none: 12 where the image has neither form or the new one already, else 1 where its board is not sound,
+   else 11 where `moved_length` is less than PEC_IMAGE_SIZE. A refused move leaves `moved`, and 0 bytes are written. */
+uint8_t pec_move_forward(const uint8_t *image, size_t image_length, uint8_t *moved, size_t moved_length,
+                         size_t *written);
+
+/* Moves an image of the new form to the old one, likewise. Gives the bytes written, PEC_OLD_IMAGE_SIZE; the result is
+   the refusal, 0 for none: 12 where the image has neither form or the old one already, else 1 where its board is not
+   sound, else 16 where its rate is not PEC_RATE_DEFAULT, else 11 where `moved_length` is less than PEC_OLD_IMAGE_SIZE.
+   There and back gives the same bytes. */
+uint8_t pec_move_back(const uint8_t *image, size_t image_length, uint8_t *moved, size_t moved_length, size_t *written);
+
+/* Runs a list over a parked board, and writes the board that the run left back into the same bytes, in the form that
+   the image had. A refused image, by 12 or 1, changes nothing and gives counts 0; otherwise the results are those of
+   the run, as of `pec_run`. */
 uint8_t pec_run_parked(uint8_t *image, size_t image_length, const uint8_t *list, size_t list_length, uint8_t *answers,
                        size_t answers_length, size_t *calls, size_t *used, size_t *written);
 

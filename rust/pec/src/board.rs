@@ -2,11 +2,14 @@
 
 use std::fmt;
 
-use crate::parked::{image_refusal, park_fresh, preview_parked, run_parked, IMAGE_SIZE};
+use crate::parked::{
+    image_form, move_back, move_forward, park_fresh, park_fresh_at, preview_parked, run_parked, Form, IMAGE_SIZE,
+    OLD_IMAGE_SIZE,
+};
 use crate::{Outcome, Refusal};
 
-/// A board, held as its image: the bytes that park it. An image is the only image of its board, so boards are equal
-/// where their images are. It has no rate, so that the board is at [`DEFAULT_RATE`](crate::DEFAULT_RATE).
+/// A board, held as its image of the new form: the bytes that park it, with its rate. An image is the only one of its
+/// board in its form, so boards are equal where their images are.
 ///
 /// ```
 /// use pec::{list_of, Board, Call, Refusal};
@@ -32,7 +35,7 @@ use crate::{Outcome, Refusal};
 /// ```
 #[derive(Clone, PartialEq, Eq)]
 pub struct Board {
-    // An image that the library accepts.
+    // An image of the new form that the library accepts.
     image: [u8; IMAGE_SIZE],
 }
 
@@ -43,7 +46,7 @@ impl Default for Board {
 }
 
 impl Board {
-    /// Everything zero except clock control 1.
+    /// Everything zero except clock control 1, at [`DEFAULT_RATE`](crate::DEFAULT_RATE).
     pub fn fresh() -> Self {
         let mut image = [0; IMAGE_SIZE];
         let parked = park_fresh(&mut image);
@@ -51,19 +54,75 @@ impl Board {
         Self { image }
     }
 
-    /// The board of an image. Bytes that are none are refused, by [`Refusal::MalformedImage`] or else by
-    /// [`Refusal::UnsoundBoard`].
-    pub fn from_image(image: &[u8]) -> Result<Self, Refusal> {
-        if let Some(refusal) = image_refusal(image) {
-            return Err(refusal);
-        }
-        let image = image.try_into().map_err(|_| Refusal::MalformedImage)?;
+    /// The same at a rate, one of [`RATES`](crate::RATES). Another is refused by [`Refusal::UnsupportedRate`].
+    ///
+    /// ```
+    /// use pec::{list_of, Board, Call, Refusal};
+    ///
+    /// // The lowest byte of the clock's seconds is at address 0x08B.
+    /// let mut board = Board::fresh_at(1_000_000)?;
+    /// let mut answers = [0; 72];
+    /// let second = [Call::Advance { cycles: 1_000_000 }, Call::Read { address: 0x08B }];
+    /// board.run(&list_of(&second), &mut answers);
+    /// assert_eq!(answers[68..], [2, 0, 1, 1]);
+    ///
+    /// // Parked and taken up again, the board has its rate.
+    /// let resumed = Board::from_image(board.image())?;
+    /// assert_eq!((resumed.rate(), &resumed), (1_000_000, &board));
+    ///
+    /// assert_eq!(Board::fresh_at(2_000_000), Err(Refusal::UnsupportedRate));
+    /// # Ok::<(), Refusal>(())
+    /// ```
+    pub fn fresh_at(rate: u32) -> Result<Self, Refusal> {
+        let mut image = [0; IMAGE_SIZE];
+        let written = park_fresh_at(rate, &mut image)?;
+        assert_eq!(written, IMAGE_SIZE, "an image has {IMAGE_SIZE} bytes");
         Ok(Self { image })
     }
 
-    /// The image, to be kept and given to [`Board::from_image`] later.
+    /// The board of an image of either form; that of an old one, which has no rate, is at
+    /// [`DEFAULT_RATE`](crate::DEFAULT_RATE). Bytes that are no image are refused, by [`Refusal::MalformedImage`] or
+    /// else by [`Refusal::UnsoundBoard`]. [`image_form`](crate::image_form) tells which form it was.
+    pub fn from_image(image: &[u8]) -> Result<Self, Refusal> {
+        let mut held = [0; IMAGE_SIZE];
+        match image_form(image)? {
+            Form::Old => {
+                let written = move_forward(image, &mut held)?;
+                assert_eq!(written, IMAGE_SIZE, "an image has {IMAGE_SIZE} bytes");
+            }
+            Form::New => held.copy_from_slice(image),
+        }
+        Ok(Self { image: held })
+    }
+
+    /// The image, of the new form, to be kept and given to [`Board::from_image`] later.
     pub fn image(&self) -> &[u8; IMAGE_SIZE] {
         &self.image
+    }
+
+    /// The image of the old form, for a program that reads only that. It has no rate: a board at another than
+    /// [`DEFAULT_RATE`](crate::DEFAULT_RATE) is refused by [`Refusal::RateNeedsNewForm`].
+    ///
+    /// ```
+    /// use pec::{Board, Refusal};
+    ///
+    /// let board = Board::fresh();
+    /// assert_eq!(Board::from_image(&board.old_image()?)?, board);
+    /// assert_eq!(Board::fresh_at(12_000_000)?.old_image(), Err(Refusal::RateNeedsNewForm));
+    /// # Ok::<(), Refusal>(())
+    /// ```
+    pub fn old_image(&self) -> Result<[u8; OLD_IMAGE_SIZE], Refusal> {
+        let mut image = [0; OLD_IMAGE_SIZE];
+        let written = move_back(&self.image, &mut image)?;
+        assert_eq!(written, OLD_IMAGE_SIZE, "an old image has {OLD_IMAGE_SIZE} bytes");
+        Ok(image)
+    }
+
+    /// The rate, in cycles a second: one of [`RATES`](crate::RATES).
+    pub fn rate(&self) -> u32 {
+        // Behind the tag and the length of the first field.
+        let [_, _, _, a, b, c, d, ..] = self.image;
+        u32::from_be_bytes([a, b, c, d])
     }
 
     /// Runs a list over the board. The buffer then holds the answers of the calls done, from its first byte, and after
@@ -88,8 +147,8 @@ impl Board {
     /// assert_eq!(last, Some(Ok((0x06, Answer::Skip { passed: 1, line: true }))));
     /// ```
     ///
-    /// A list can be cut between two calls and run in two parts, the second into the rest of the buffer. Where the first
-    /// part is not refused, they leave the same board as one run, and give the same answers, one after the other.
+    /// A list can be cut between two calls and run in two parts, the second into the rest of the buffer. Where the
+    /// first part is not refused, they leave the same board as one run, and give the same answers, one after the other.
     pub fn run(&mut self, list: &[u8], answers: &mut [u8]) -> Outcome {
         run_parked(&mut self.image, list, answers)
     }
@@ -98,8 +157,8 @@ impl Board {
     /// byte for each, 1 or 0, at the start of a buffer. Each is the line that one advance of that total would answer,
     /// and the board stays as it is. The bytes after those of the totals stay.
     ///
-    /// A board whose clock is enabled in realtime is refused, by [`Refusal::ClockInRealtime`], and then a buffer that is
-    /// shorter than the totals, by [`Refusal::BufferTooSmall`]; a refused preview writes nothing.
+    /// A board whose clock is enabled in realtime is refused, by [`Refusal::ClockInRealtime`], and then a buffer that
+    /// is shorter than the totals, by [`Refusal::BufferTooSmall`]; a refused preview writes nothing.
     ///
     /// ```
     /// use pec::{list_of, Board, Call, Refusal};

@@ -1,12 +1,13 @@
 //! The proved PeC board for Rust programs.
 //!
-//! The functions here call the static library `libpec.a`, which `rt staticlib pec` proves and writes from
-//! crates/pec. Each is safe: the library's contracts ask nothing of their callers, and it keeps nothing between
-//! calls. A call list and its answers are bytes that the caller lends; the types of the crate rust/calls, which stand
-//! here too, make and read them. [`run`] takes a fresh board, and [`run_at`] one of another rate; a [`Board`] goes on
-//! from list to list, and its image keeps it while no program runs; [`Board::preview`] tells of many totals of cycles
-//! whether its line would be high after each. A [`Controller`] is the interrupt controller by itself, and a
-//! [`Dispatcher`] above it serves its sources in turn.
+//! The functions here call the static library `libpec.a`, which `rt staticlib pec` proves and writes from crates/pec.
+//! Each is safe: the library's contracts ask nothing of their callers, and it keeps nothing between calls. A call list
+//! and its answers are bytes that the caller lends; the types of the crate rust/calls, which stand here too, make and
+//! read them. [`run`] takes a fresh board, and [`run_at`] one of another rate; a [`Board`], of any of the rates, goes
+//! on from list to list, and its image keeps it while no program runs; [`Board::preview`] tells of many totals of
+//! cycles whether its line would be high after each. Images that were parked before boards had a rate are read too, and
+//! [`move_forward`] and [`move_back`] lead from [`Form`] to form. A [`Controller`] is the interrupt controller by
+//! itself, and a [`Dispatcher`] above it serves its sources in turn.
 //!
 //! ```
 //! use pec::{answers, list_of, Answer, Call, Refusal};
@@ -36,7 +37,10 @@ pub use calls::{
 };
 pub use controller::{Controller, IrqOutput};
 pub use dispatcher::Dispatcher;
-pub use parked::{image_refusal, park_fresh, preview_parked, run_parked, IMAGE_SIZE};
+pub use parked::{
+    image_form, image_refusal, move_back, move_forward, park_fresh, park_fresh_at, preview_parked, run_parked, Form,
+    IMAGE_SIZE, OLD_IMAGE_SIZE,
+};
 
 // A slice goes as its pointer and its length.
 unsafe extern "C" {
@@ -97,7 +101,20 @@ unsafe extern "C" {
 
 /// The refusal of a number that the library gives, 0 for none.
 fn refusal_of(number: u8) -> Option<Refusal> {
-    (number != 0).then(|| Refusal::from_number(number).expect("the library's refusals are 1 to 15"))
+    (number != 0).then(|| Refusal::from_number(number).expect("the library's refusals are 1 to 16"))
+}
+
+/// The bytes that a call of the library wrote into a buffer, or its refusal, with which it writes none. It gives the
+/// refusal's number, 0 for none.
+fn written_of(write: impl FnOnce(&mut usize) -> u8) -> Result<usize, Refusal> {
+    let mut written = usize::MAX;
+    match refusal_of(write(&mut written)) {
+        None => Ok(written),
+        Some(refusal) => {
+            assert_eq!(written, 0, "the library writes nothing with a refusal");
+            Err(refusal)
+        }
+    }
 }
 
 /// The outcome of a call of the library that writes calls, list bytes and answer bytes and gives the refusal's number,

@@ -1,14 +1,42 @@
 //! The library's functions on images that the caller lends. [`Board`](crate::Board), which owns its image, builds on
 //! them.
 
-use crate::{outcome_of, refusal_of, Outcome, Refusal};
+use crate::{outcome_of, refusal_of, written_of, Outcome, Refusal};
 
-/// The bytes of an image.
-pub const IMAGE_SIZE: usize = 269;
+/// The bytes of an image of the new form: the field of the rate, and then those of the old form.
+pub const IMAGE_SIZE: usize = 7 + OLD_IMAGE_SIZE;
+
+/// The bytes of an image of the old form.
+pub const OLD_IMAGE_SIZE: usize = 269;
+
+/// The form of an image.
+#[derive(Clone, Copy, Debug, PartialEq, Eq, Hash)]
+pub enum Form {
+    /// Without a rate: the board is at [`DEFAULT_RATE`](crate::DEFAULT_RATE). It has [`OLD_IMAGE_SIZE`] bytes.
+    Old,
+    /// With the board's rate, of any of [`RATES`](crate::RATES). It has [`IMAGE_SIZE`] bytes, and all that writes an
+    /// image by itself writes this form.
+    New,
+}
 
 // A slice goes as its pointer and its length.
 unsafe extern "C" {
     fn pec_fresh(image: *mut u8, image_length: usize, written: *mut usize) -> u8;
+    fn pec_fresh_at(rate: u32, image: *mut u8, image_length: usize, written: *mut usize) -> u8;
+    fn pec_move_forward(
+        image: *const u8,
+        image_length: usize,
+        moved: *mut u8,
+        moved_length: usize,
+        written: *mut usize,
+    ) -> u8;
+    fn pec_move_back(
+        image: *const u8,
+        image_length: usize,
+        moved: *mut u8,
+        moved_length: usize,
+        written: *mut usize,
+    ) -> u8;
     fn pec_image_refusal(image: *const u8, image_length: usize) -> u8;
     fn pec_run_parked(
         image: *mut u8,
@@ -31,28 +59,118 @@ unsafe extern "C" {
     ) -> u8;
 }
 
-/// Parks a fresh board: writes its image at the start of a buffer, and leaves the bytes after it. Gives the bytes
-/// written, [`IMAGE_SIZE`]. A shorter buffer is refused by [`Refusal::BufferTooSmall`] and left as it is.
+/// Parks a fresh board at [`DEFAULT_RATE`](crate::DEFAULT_RATE): writes its image, of the new form, at the start of a
+/// buffer, and leaves the bytes after it. Gives the bytes written, [`IMAGE_SIZE`]. A shorter buffer is refused by
+/// [`Refusal::BufferTooSmall`] and left as it is.
 pub fn park_fresh(buffer: &mut [u8]) -> Result<usize, Refusal> {
-    let mut written = 0;
+    let (start, room) = (buffer.as_mut_ptr(), buffer.len());
     // SAFETY: the pointers and the length are those of a slice and a number that live through the call, and the two do
     // not overlap.
-    let number = unsafe { pec_fresh(buffer.as_mut_ptr(), buffer.len(), &mut written) };
-    match refusal_of(number) {
+    written_of(|written| unsafe { pec_fresh(start, room, written) })
+}
+
+/// What [`park_fresh`] does, of a board of a rate. A rate other than [`RATES`](crate::RATES) is refused by
+/// [`Refusal::UnsupportedRate`], ahead of a short buffer, and leaves the buffer.
+///
+/// ```
+/// use pec::{park_fresh_at, Board, Refusal, IMAGE_SIZE};
+///
+/// let mut image = [0; IMAGE_SIZE];
+/// assert_eq!(park_fresh_at(12_000_000, &mut image), Ok(IMAGE_SIZE));
+/// assert_eq!(Board::from_image(&image)?.rate(), 12_000_000);
+/// assert_eq!(park_fresh_at(24_000_000, &mut []), Err(Refusal::UnsupportedRate));
+/// # Ok::<(), Refusal>(())
+/// ```
+pub fn park_fresh_at(rate: u32, buffer: &mut [u8]) -> Result<usize, Refusal> {
+    let (start, room) = (buffer.as_mut_ptr(), buffer.len());
+    // SAFETY: as in `park_fresh`.
+    written_of(|written| unsafe { pec_fresh_at(rate, start, room, written) })
+}
+
+/// Moves an image of the old form to the new one, with the rate [`DEFAULT_RATE`](crate::DEFAULT_RATE): writes it at the
+/// start of a buffer, and leaves the bytes after it. Gives the bytes written, [`IMAGE_SIZE`]. The image itself stays.
+///
+/// Refused, it leaves the buffer: by [`Refusal::MalformedImage`], also where the image has the new form already; else
+/// by [`Refusal::UnsoundBoard`]; else by [`Refusal::BufferTooSmall`].
+///
+/// ```
+/// use pec::{image_form, move_back, move_forward, Board, Form, Refusal, IMAGE_SIZE};
+///
+/// // An image that was parked before boards had a rate.
+/// let old = Board::fresh().old_image()?;
+/// assert_eq!(image_form(&old), Ok(Form::Old));
+/// let mut new = [0; IMAGE_SIZE];
+/// assert_eq!(move_forward(&old, &mut new), Ok(IMAGE_SIZE));
+/// assert_eq!(image_form(&new), Ok(Form::New));
+/// // There and back gives the same bytes.
+/// let mut back = old;
+/// back.fill(0);
+/// assert_eq!(move_back(&new, &mut back), Ok(back.len()));
+/// assert_eq!(back, old);
+/// // It has the new form already.
+/// assert_eq!(move_forward(&new, &mut [0; IMAGE_SIZE]), Err(Refusal::MalformedImage));
+/// # Ok::<(), Refusal>(())
+/// ```
+pub fn move_forward(image: &[u8], moved: &mut [u8]) -> Result<usize, Refusal> {
+    let (start, room) = (moved.as_mut_ptr(), moved.len());
+    // SAFETY: the pointers and lengths are those of slices and a number that live through the call; the image is only
+    // read, and none of the others overlaps anything else that is lent.
+    written_of(|written| unsafe { pec_move_forward(image.as_ptr(), image.len(), start, room, written) })
+}
+
+/// Moves an image of the new form to the old one, for what reads only that. Writes it as [`move_forward`] does, and
+/// gives the bytes written, [`OLD_IMAGE_SIZE`].
+///
+/// Refused, it leaves the buffer: by [`Refusal::MalformedImage`], also where the image has the old form already; else
+/// by [`Refusal::UnsoundBoard`]; else by [`Refusal::RateNeedsNewForm`], where the board is at another rate than
+/// [`DEFAULT_RATE`](crate::DEFAULT_RATE); else by [`Refusal::BufferTooSmall`].
+///
+/// ```
+/// use pec::{move_back, Board, Refusal, OLD_IMAGE_SIZE};
+///
+/// let mut old = [0; OLD_IMAGE_SIZE];
+/// assert_eq!(move_back(Board::fresh().image(), &mut old), Ok(OLD_IMAGE_SIZE));
+/// let slow = Board::fresh_at(1_000_000)?;
+/// assert_eq!(move_back(slow.image(), &mut old), Err(Refusal::RateNeedsNewForm));
+/// # Ok::<(), Refusal>(())
+/// ```
+pub fn move_back(image: &[u8], moved: &mut [u8]) -> Result<usize, Refusal> {
+    let (start, room) = (moved.as_mut_ptr(), moved.len());
+    // SAFETY: as in `move_forward`.
+    written_of(|written| unsafe { pec_move_back(image.as_ptr(), image.len(), start, room, written) })
+}
+
+/// The form of the image that some bytes are, or why they are none, as [`image_refusal`] says.
+///
+/// ```
+/// use pec::{image_form, Board, Form, Refusal};
+///
+/// let board = Board::fresh();
+/// assert_eq!(image_form(board.image()), Ok(Form::New));
+/// assert_eq!(image_form(&board.old_image()?), Ok(Form::Old));
+/// assert_eq!(image_form(b"no image"), Err(Refusal::MalformedImage));
+/// # Ok::<(), Refusal>(())
+/// ```
+pub fn image_form(image: &[u8]) -> Result<Form, Refusal> {
+    match image_refusal(image) {
         Some(refusal) => Err(refusal),
-        None => Ok(written),
+        // By the library's contract the length of an accepted image tells its form.
+        None if image.len() == OLD_IMAGE_SIZE => Ok(Form::Old),
+        None => Ok(Form::New),
     }
 }
 
-/// Why some bytes are not the image of a board, or none where they are: [`Refusal::MalformedImage`], or, of an image
-/// that is well formed, [`Refusal::UnsoundBoard`].
+/// Why some bytes are not the image of a board, of either form, or none where they are: [`Refusal::MalformedImage`],
+/// or, of an image that is well formed, [`Refusal::UnsoundBoard`]. A rate other than [`RATES`](crate::RATES) is not
+/// sound.
 pub fn image_refusal(image: &[u8]) -> Option<Refusal> {
     // SAFETY: the pointer and the length are those of a slice, which is only read.
     refusal_of(unsafe { pec_image_refusal(image.as_ptr(), image.len()) })
 }
 
-/// Runs a list over the board of an image, and writes the board that the run left into the same bytes. Where
-/// [`image_refusal`] refuses the image, that is the outcome's refusal, nothing is done and nothing is changed.
+/// Runs a list over the board of an image of either form, and writes the board that the run left into the same bytes,
+/// in the form that it had. Where [`image_refusal`] refuses the image, that is the outcome's refusal, nothing is done
+/// and nothing is changed.
 pub fn run_parked(image: &mut [u8], list: &[u8], answers: &mut [u8]) -> Outcome {
     let (start, length) = (image.as_mut_ptr(), image.len());
     let (from, room) = (answers.as_mut_ptr(), answers.len());
@@ -73,8 +191,8 @@ pub fn run_parked(image: &mut [u8], list: &[u8], answers: &mut [u8]) -> Outcome 
     })
 }
 
-/// Whether the line of the board of an image would be high after each of some totals of further cycles: one byte for
-/// each, 1 or 0, in the order of the totals, at the start of a buffer. The bytes after them stay.
+/// Whether the line of the board of an image, of either form, would be high after each of some totals of further
+/// cycles: one byte for each, 1 or 0, in the order of the totals, at the start of a buffer. The bytes after them stay.
 ///
 /// Refused, it writes nothing: where [`image_refusal`] refuses the image, by that; else by
 /// [`Refusal::ClockInRealtime`], where the clock is enabled in realtime; else by [`Refusal::BufferTooSmall`], where

@@ -1,8 +1,8 @@
 //! The functions of the crate pass slices, results, repeats and images as they say.
 
 use pec::{
-    answers, image_refusal, list_of, park_fresh, preview_parked, run, run_parked, run_repeated, Answer, Board, Call,
-    Controller, Outcome, Refusal, IMAGE_SIZE,
+    answers, image_form, image_refusal, list_of, park_fresh, preview_parked, run, run_parked, run_repeated, Answer,
+    Board, Call, Controller, Outcome, Refusal, IMAGE_SIZE,
 };
 
 const OUTPUT: [u8; 3] = [0x0A, 0, 0];
@@ -58,8 +58,8 @@ fn repeats_go_on_from_the_board_that_is_left() {
 
 #[test]
 fn an_advance_tells_the_points_that_each_channel_met() {
-    // From 0: periodic at 10, 14 and so on, and at every number; one-shot at 5; and periodic at 1, 3 and so on. A channel
-    // has 0x40 addresses, and its compare, reload and control end at 0x293, 0x29B and 0x283.
+    // From 0: periodic at 10, 14 and so on, and at every number; one-shot at 5; and periodic at 1, 3 and so on. A
+    // channel has 0x40 addresses, and its compare, reload and control end at 0x293, 0x29B and 0x283.
     let mut start = Vec::new();
     for (channel, compare, reload, control) in [(0, 10, 4, 5), (1, 0, 1, 5), (2, 5, 0, 4), (3, 1, 2, 5)] {
         for (address, byte) in [(0x293, compare), (0x29B, reload), (0x283, control)] {
@@ -90,8 +90,8 @@ fn an_advance_tells_the_points_that_each_channel_met() {
     assert_eq!(advance(&[by(u64::MAX)]), [(1 << 62) - 2, 1 << 64, 1, 1 << 63]);
 }
 
-/// Where the timer enable stands in an image: four channels of 38 bytes, and a tag and a length.
-const TIMER_ENABLE: usize = 4 * 38 + 3;
+/// Where the timer enable stands in an image: the rate's 7 bytes, four channels of 38 bytes, and a tag and a length.
+const TIMER_ENABLE: usize = 7 + 4 * 38 + 3;
 
 #[test]
 fn a_board_goes_on_where_a_run_left_it() {
@@ -259,7 +259,8 @@ fn previews_are_refused_in_order_and_write_nothing() {
 #[test]
 fn a_board_is_shown_as_its_image() {
     let text = format!("{:?}", Board::fresh());
-    assert!(text.starts_with("Board(2000230000"), "{text}");
+    // The rate, 48,000,000, and the first channel.
+    assert!(text.starts_with("Board(24000402dc6c002000230000"), "{text}");
     assert_eq!(text.len(), "Board()".len() + 2 * IMAGE_SIZE);
 }
 
@@ -278,6 +279,7 @@ fn images_that_are_refused_stay() {
         (&[], Refusal::MalformedImage),
     ] {
         assert_eq!(image_refusal(image), Some(refusal));
+        assert_eq!(image_form(image), Err(refusal));
         assert_eq!(Board::from_image(image), Err(refusal));
         let mut lent = image.to_vec();
         let mut answers = [7; 8];

@@ -1,6 +1,6 @@
 //! C and C++ programs over the header and the archive: document 01's worked answers, boards of each rate, counts of
-//! matches, parked boards, a skip that is refused, previews of many totals, turns of the dispatcher, and the memory
-//! that the library uses.
+//! matches, parked boards, a skip that is refused, moves of images from form to form, previews of many totals, turns of
+//! the dispatcher, and the memory that the library uses.
 
 use std::env;
 use std::io::Write;
@@ -106,7 +106,7 @@ fn a_board_is_parked_and_taken_up_from_c_and_from_cpp() {
     let far = "too far: 13 2 12 6\ntoo far, not parked: 13 2 12 6\n".repeat(2);
     let nearer = "nearer: 0 2 14 80, line 1\n";
     let expected = format!(
-        "short: 11 0\nfresh: 0 269, read 0\n{runs}{far}{nearer}one byte over: 12 12 0 0 0\ncut: 12 12 0 0 0\n\
+        "short: 11 0\nfresh: 0 276, read 0\n{runs}{far}{nearer}one byte over: 12 12 0 0 0\ncut: 12 12 0 0 0\n\
          unsound: 1 1 0 0 0\ndamaged and unsound: 12 12 0 0 0\ndamaged: 12 12 0 0 0\n"
     );
     for language in [C, CPP] {
@@ -115,9 +115,48 @@ fn a_board_is_parked_and_taken_up_from_c_and_from_cpp() {
 }
 
 #[test]
+fn images_are_moved_from_form_to_form_from_c_and_from_cpp() {
+    // Refusal and bytes written, which were 99: with more room than needed, with just enough, with a byte less and with
+    // none; a rate that no board has is refused ahead of a short buffer.
+    let fresh: String = [1_000_000, 12_000_000, 48_000_000]
+        .map(|rate| format!("{rate}: 0 276 0 276 11 0 11 0\n"))
+        .concat();
+    let others: String = [0, 24_000_000, u32::MAX]
+        .map(|rate| format!("{rate}: 15 0 15 0 15 0 15 0\n"))
+        .concat();
+    // Nine writes and an advance are done. The alarm is due 7 cycles earlier than after 96,000,000.
+    let same = "calls: 10 10\npreviews: 0 1 0 1\n";
+    // Into a buffer with more room, with that of the old form alone, and with none.
+    let malformed = "12 0 12 0 12 0";
+    let unsound = "1 0 1 0 1 0";
+    let moves = format!(
+        "new: forward {malformed} back 0 269 0 269 11 0\n\
+         old: forward 0 276 11 0 11 0 back {malformed}\n\
+         new, unsound: forward {malformed} back {unsound}\n\
+         old, unsound: forward {unsound} back {malformed}\n\
+         new, cut: forward {malformed} back {malformed}\n\
+         old, cut: forward {malformed} back {malformed}\n"
+    );
+    // A board of another rate has no old image: 16, after 12 and 1 and ahead of 11.
+    let another = format!(
+        "calls: 10, rate 12000000\n\
+         12 MHz: forward {malformed} back 16 0 16 0 16 0\n\
+         12 MHz, unsound: forward {malformed} back {unsound}\n\
+         read: 1\n\
+         another rate: forward {malformed} back {unsound}\n"
+    );
+    for language in [C, CPP] {
+        assert_eq!(
+            printed("forms", language, &[]),
+            format!("{fresh}{others}{same}{moves}{another}")
+        );
+    }
+}
+
+#[test]
 fn totals_are_previewed_from_c_and_from_cpp() {
-    // Refusal, and the eight bytes of the buffer, of which seven are lent. The deadline is 30; the totals are 30, 29, 0,
-    // 31, 2^64 - 1 and 30. Without totals all bytes stay, and so they do where there is one byte less than totals.
+    // Refusal, and the eight bytes of the buffer, of which seven are lent. The deadline is 30; the totals are 30, 29,
+    // 0, 31, 2^64 - 1 and 30. Without totals all bytes stay, and so they do where there is one byte less than totals.
     let low = "due after 30: 0 1 0 0 1 1 1 7 7\nno totals: 0 7 7 7 7 7 7 7 7\nshort: 11 7 7 7 7 7 7 7 7\n";
     // After an advance of 30 cycles the line is high; a fresh board has no deadline.
     let constant = "high: 0 1 1 1 1 1 1 7 7\nfresh: 0 0 0 0 0 0 0 7 7\n";
@@ -156,7 +195,7 @@ fn sources_are_served_in_turn_from_c_and_from_cpp() {
 }
 
 #[test]
-fn a_run_and_a_preview_use_little_stack() {
+fn a_run_a_preview_and_a_move_use_little_stack() {
     // One call of each tag, and reads and writes in every block of registers.
     let mut calls = vec![Call::HostTime {
         seconds: 7,
@@ -174,8 +213,8 @@ fn a_run_and_a_preview_use_little_stack() {
     ]);
     calls.extend([Call::ControllerWrite { address: 5, byte: 255 }, Call::Output]);
     let text = printed("stack", C, &list_of(&calls));
-    let [alone, run, at_a_rate, parked, preview] = [0, 1, 2, 3, 4].map(|place| {
-        let figure = text.split_whitespace().nth(place).expect("five figures");
+    let [alone, run, at_a_rate, parked, preview, moved] = [0, 1, 2, 3, 4, 5].map(|place| {
+        let figure = text.split_whitespace().nth(place).expect("six figures");
         figure.parse::<usize>().expect("decimal")
     });
     assert!(alone > 0, "{text}");
@@ -184,6 +223,7 @@ fn a_run_and_a_preview_use_little_stack() {
         ("a run at a rate", at_a_rate),
         ("a run over a parked board", parked),
         ("a preview", preview),
+        ("a move", moved),
     ] {
         println!("stack of {name}: {} bytes", used - alone);
         assert!(used > alone && used - alone < 16_384, "{name}: {text}");

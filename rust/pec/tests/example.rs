@@ -1,12 +1,12 @@
 //! The example prints what document 01's rules give: a tick every 3 cycles and a match every 10 ticks, so an interrupt
-//! every 30 cycles. Friday ends 13 cycles after the first one, and 17 are left on Monday. A million cycles from the third
-//! one on are 33,333 periods and 10 cycles.
+//! every 30 cycles. Friday ends 13 cycles after the first one, and 17 are left on Monday. A million cycles from the
+//! third one on are 33,333 periods and 10 cycles.
 
 use std::fs;
-use std::path::PathBuf;
+use std::path::{Path, PathBuf};
 use std::process::{Command, Output};
 
-use pec::{list_of, Board, Call};
+use pec::{image_form, list_of, Board, Call, Form};
 
 fn example(arguments: &[&str]) -> Output {
     Command::new(env!("CARGO"))
@@ -54,6 +54,67 @@ fn the_example_prints_both_days_and_leaves_fridays_board() {
 }
 
 #[test]
+fn the_example_takes_up_an_image_of_either_form() {
+    let folder = folder("example-earlier");
+    let board = folder.join("board");
+    let path = |path: &Path| path.to_str().expect("the path is text").to_string();
+    let friday = Path::new(env!("CARGO_MANIFEST_DIR")).join("tests/images/friday.image");
+    // What the library of S-1 parked on Friday; and then the image that the example made of it, which has the rate.
+    let parked = folder.join("parked");
+    for (earlier, form) in [(&friday, "old"), (&parked, "new")] {
+        let output = example(&[&path(&board), &path(earlier)]);
+        let text = String::from_utf8(output.stdout).expect("the example prints text");
+        let expected = format!(
+            "Friday\nan image of the {form} form, 48000000 cycles a second\n\
+             Monday\ndeadline: 17\ninterrupt after 17 cycles, line 1\ninterrupt after 30 cycles, line 1\n\
+             advanced, line 1, 33333 matches of channel 0\n\
+             one record of 126 bytes\n"
+        );
+        assert_eq!(text, expected);
+        assert!(output.status.success());
+        fs::rename(&board, &parked).expect("the image is there");
+        let image = fs::read(&parked).expect("the image is there");
+        assert_eq!(image_form(&image), Ok(Form::New));
+        assert_eq!(image[7..], fs::read(&friday).expect("it is there"));
+    }
+}
+
+#[test]
+fn the_example_tells_what_it_cannot_read() {
+    let folder = folder("example-unread");
+    let board = folder.join("board");
+    let images = Path::new(env!("CARGO_MANIFEST_DIR")).join("tests/images");
+    let old = fs::read(images.join("friday.image")).expect("it is there");
+    // Cut, and not sound: timer enable is 16.
+    fs::write(folder.join("cut"), &old[1..]).expect("the file can be written");
+    let mut unsound = old.clone();
+    unsound[4 * 38 + 3] = 16;
+    fs::write(folder.join("unsound"), &unsound).expect("the file can be written");
+    for (name, reason) in [
+        ("missing", "No such file"),
+        ("cut", "the image is malformed"),
+        ("unsound", "the board is not sound"),
+    ] {
+        let earlier = folder.join(name);
+        let earlier = earlier.to_str().expect("the path is text");
+        let output = example(&[board.to_str().expect("the path is text"), earlier]);
+        let text = String::from_utf8(output.stderr).expect("the example prints text");
+        assert_eq!(output.status.code(), Some(1), "{text}");
+        assert!(text.starts_with(&format!("deadline: {earlier}: {reason}")), "{text}");
+        assert!(!board.exists(), "{name}");
+    }
+    // Monday's skip over a board whose deadline is too large.
+    let far = images.join("far.image");
+    let output = example(&[&board, &far].map(|path| path.to_str().expect("the path is text")));
+    let text = String::from_utf8(output.stderr).expect("the example prints text");
+    assert_eq!(output.status.code(), Some(1), "{text}");
+    assert!(
+        text.starts_with("deadline: Skip was refused: the deadline is above 2^64 - 1"),
+        "{text}"
+    );
+}
+
+#[test]
 fn the_example_tells_what_it_cannot_write() {
     let folder = folder("example-refused");
     let missing = folder.join("missing").join("board");
@@ -61,7 +122,11 @@ fn the_example_tells_what_it_cannot_write() {
     for (arguments, message) in [
         (&[missing][..], format!("deadline: {missing}: ")),
         (&[], "usage: deadline IMAGE".to_string()),
-        (&[missing, missing], "usage: deadline IMAGE".to_string()),
+        (&[missing, missing], format!("deadline: {missing}: ")),
+        (
+            &[missing, missing, missing],
+            "usage: deadline IMAGE [FRIDAY]".to_string(),
+        ),
     ] {
         let output = example(arguments);
         let text = String::from_utf8(output.stderr).expect("the example prints text");

@@ -14,7 +14,7 @@ static const uint8_t ADVANCE[] = {4, 0, 8, 0, 0, 0, 0, 0, 0, 0, 30};
 /* The clock's control: enabled, in realtime. */
 static const uint8_t REALTIME[] = {3, 0, 3, 0x00, 0x83, 5};
 static const uint64_t TOTALS[] = {30, 29, 0, 31, UINT64_MAX, 30};
-enum { COUNT = 6, BUFFER = 8, LENT = 7, FILLING = 7, TIMER_ENABLE_AT = 155 };
+enum { COUNT = 6, BUFFER = 8, LENT = 7, FILLING = 7, TIMER_ENABLE_AT = 162 };
 
 static int wrong = 0;
 

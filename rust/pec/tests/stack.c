@@ -1,6 +1,7 @@
 /* Prints the bytes of stack that a thread uses, first alone, then with a run of the list on standard input, then with a
-   run of it at a rate of its own, then with a run of it over a parked board, and then with previews of a parked board:
-   the stack is filled before, and what no longer holds the filling was used. */
+   run of it at a rate of its own, then with a run of it over a parked board, then with previews of a parked board, and
+   then with moves of its image back and forward: the stack is filled before, and what no longer holds the filling was
+   used. */
 #define _POSIX_C_SOURCE 200809L
 #include "pec.h"
 
@@ -52,6 +53,15 @@ static void *preview(void *unused)
     return unused;
 }
 
+static void *move(void *unused)
+{
+    static uint8_t old[PEC_OLD_IMAGE_SIZE], again[PEC_IMAGE_SIZE];
+    size_t written;
+    pec_move_back(fresh, sizeof fresh, old, sizeof old, &written);
+    pec_move_forward(old, sizeof old, again, sizeof again, &written);
+    return unused;
+}
+
 static size_t used_by(void *(*work)(void *))
 {
     pthread_t thread;
@@ -76,6 +86,7 @@ int main(void)
     size_t written, alone = used_by(nothing), with_run = used_by(run), with_rate = used_by(run_at),
                     with_parked = used_by(run_parked);
     pec_fresh(fresh, sizeof fresh, &written);
-    printf("%zu %zu %zu %zu %zu\n", alone, with_run, with_rate, with_parked, used_by(preview));
+    size_t with_preview = used_by(preview), with_move = used_by(move);
+    printf("%zu %zu %zu %zu %zu %zu\n", alone, with_run, with_rate, with_parked, with_preview, with_move);
     return 0;
 }

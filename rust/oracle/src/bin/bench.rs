@@ -8,8 +8,7 @@
 //! prints how the Rust is built. Then it prints nanoseconds of the work on parked boards, which is the proved board's
 //! alone, and their ratios to an advance inside a long list; and of previews, with their ratios to an advance of a copy
 //! of the Rust's board. `bench NAME` prints one kind alone, `bench parking` the parked boards, `bench previews` the
-//! previews. `bench --rate RATE [NAME]` prints the lists at another rate; there are no images of such boards, and so no
-//! other work.
+//! previews. `bench --rate RATE [NAME]` prints the lists at another rate; the other work is on a board at 48,000,000.
 
 use std::process::ExitCode;
 use std::time::Instant;

@@ -3,24 +3,28 @@
 //! `compare FIRST LAST` compares the lists of the seeds from FIRST to LAST, what the boards hold after each, and lists
 //! over parked boards and previews by the same seeds. `compare all FIRST LAST` compares these, and every register with
 //! every byte, the clock about its limits, rates that no board has, damaged lists, short buffers, skips to large
-//! deadlines, advances with counts of matches at limits, prescalers at their limits, damaged images, previews to large
-//! deadlines and of damaged images, the controller by itself, and the dispatcher. The lists of the seeds, the registers
-//! and the clock are compared at each of the three rates, and all else at that of a board of which none is said. Prints
-//! the comparisons of each part, and ends with how many agreed, or prints the shortest list that shows a difference.
+//! deadlines, advances with counts of matches at limits, prescalers at their limits, damaged images, moves of images
+//! from form to form, fresh boards that are parked, previews to large deadlines, of clocks and of damaged images, the
+//! controller by itself, and the dispatcher. The lists of the seeds, the registers, the clock, and parked boards and
+//! previews by seed, by damaged images and by moves are compared at each of the three rates, and all else at that of a
+//! board of which none is said. Images are of the new form, and at 48,000,000 of the old form too. Prints the
+//! comparisons of each part, and ends with how many agreed, or prints the shortest list that shows a difference.
 //!
-//! The Rust has neither the counts in an advance's answer nor the dispatcher: there the proved board is compared with
-//! the oracle's own reading of S-4 and of S-3. It has no previews either: each byte of one is compared with an advance of
-//! the Rust, of a board of its own.
+//! The Rust has neither the counts in an advance's answer nor the dispatcher nor images: there the proved board is
+//! compared with the oracle's own reading of S-4, of S-3, and of S-1 and S-8. It has no previews either: each byte of
+//! one is compared with an advance of the Rust, of a board of its own.
 
 use std::process::ExitCode;
+use std::sync::atomic::{AtomicU64, Ordering::Relaxed};
 use std::time::Instant;
 
-use calls::{DEFAULT_RATE, RATES};
+use calls::{Refusal, DEFAULT_RATE, RATES};
 use oracle::compare::clock::{self, AtRates};
 use oracle::compare::parked::{self, Parking};
 use oracle::compare::{controller, dispatcher, matches, passes, prescaler, previews, skips};
-use oracle::compare::{Count, Difference, Pair};
+use oracle::compare::{shared, Count, Difference, Pair};
 use oracle::dispatcher::Turn;
+use oracle::image::Form;
 use oracle::list::Runner;
 use oracle::proved;
 
@@ -31,9 +35,20 @@ const AT_RATES: AtRates = AtRates {
 
 const PARKING: Parking = Parking {
     fresh: pec::park_fresh,
-    refusal: pec::image_refusal,
+    fresh_at: pec::park_fresh_at,
+    form: proved_form,
     run: pec::run_parked,
+    forward: pec::move_forward,
+    back: pec::move_back,
 };
+
+/// The form of an image by the proved board, or the refusal of reading it.
+fn proved_form(image: &[u8]) -> Result<Form, Refusal> {
+    Ok(match pec::image_form(image)? {
+        pec::Form::Old => Form::Old,
+        pec::Form::New => Form::New,
+    })
+}
 
 /// A turn of the proved dispatcher on pending, enable and levels, after a remembered number.
 fn proved_turn([pending, enable, levels]: [u16; 3], last: u8) -> Turn {
@@ -99,35 +114,39 @@ fn compare(all: bool, first: u64, last: u64) -> Result<Count, String> {
         lists?;
         println!("  of these, {own} calls of the seeds' own lists");
     }
-    part("parked boards by seed", &mut total, || {
-        let mut count = Count::default();
-        for seed in first..=last {
-            count.add(parked::seed(&PARKING, seed).map_err(|reason| format!("seed {seed}: {reason}"))?);
-        }
-        Ok(count)
-    })?;
-    let mut shown = 0_u64;
-    let mut preview = |image: &[u8], totals: &[u64], high: &mut [u8]| {
-        let previewed = pec::preview_parked(image, totals, high);
-        shown += if previewed.is_ok() { totals.len() as u64 } else { 0 };
-        previewed
+    let by_seed = |compare: &(dyn Fn(u64) -> Result<Count, String> + Sync)| {
+        shared(first..=last, |seed| {
+            compare(seed).map_err(|reason| format!("seed {seed}: {reason}"))
+        })
     };
-    part("previews by seed", &mut total, || {
-        let mut count = Count::default();
-        for seed in first..=last {
-            let compared = previews::seed(&mut preview, seed);
-            count.add(compared.map_err(|reason| format!("seed {seed}: {reason}"))?);
-        }
-        Ok(count)
-    })?;
-    if all {
-        part("previews to large deadlines", &mut total, || {
-            previews::limits(&mut preview)
-        })?;
-        part("previews of damaged images", &mut total, || {
-            previews::images(&mut preview)
+    for (form, rate) in parked::forms() {
+        let name = at(&of_form("parked boards", form, "by seed"), rate);
+        part(&name, &mut total, || {
+            by_seed(&|seed| parked::seed(&PARKING, form, rate, seed))
         })?;
     }
+    let shown = AtomicU64::new(0);
+    let preview = |image: &[u8], totals: &[u64], high: &mut [u8]| {
+        let previewed = pec::preview_parked(image, totals, high);
+        shown.fetch_add(if previewed.is_ok() { totals.len() as u64 } else { 0 }, Relaxed);
+        previewed
+    };
+    for (form, rate) in parked::forms() {
+        let name = at(&of_form("previews", form, "by seed"), rate);
+        part(&name, &mut total, || {
+            by_seed(&|seed| previews::seed(&preview, form, rate, seed))
+        })?;
+    }
+    if all {
+        part("previews to large deadlines", &mut total, || previews::limits(&preview))?;
+        for (form, rate) in parked::forms() {
+            let name = at(&of_form("previews of clocks", form, ""), rate);
+            part(&name, &mut total, || previews::clocks(&preview, form, rate))?;
+            let name = at(&of_form("previews of damaged images", form, ""), rate);
+            part(&name, &mut total, || previews::images(&preview, form, rate))?;
+        }
+    }
+    let shown = shown.into_inner();
     println!("  in these, {shown} totals, each against an advance of the Rust");
     if all {
         let text = |difference: Box<Difference>| difference.to_string();
@@ -157,8 +176,16 @@ fn compare(all: bool, first: u64, last: u64) -> Result<Count, String> {
         part("prescalers of parked boards", &mut total, || {
             prescaler::parked(&PARKING)
         })?;
-        part("damaged images", &mut total, || parked::damaged(&PARKING))?;
-        part("a fresh board's image", &mut total, || parked::fresh(&PARKING))?;
+        for (form, rate) in parked::forms() {
+            let name = at(&of_form("damaged images", form, ""), rate);
+            part(&name, &mut total, || parked::damaged(&PARKING, form, rate))?;
+        }
+        for rate in RATES {
+            part(&at("moves from form to form", rate), &mut total, || {
+                parked::moves(&PARKING, rate)
+            })?;
+        }
+        part("fresh boards' images", &mut total, || parked::fresh(&PARKING))?;
         part("controller", &mut total, controller::compare)?;
         let mut turns = 0_u64;
         part("dispatcher", &mut total, || {
@@ -170,6 +197,20 @@ fn compare(all: bool, first: u64, last: u64) -> Result<Count, String> {
         println!("  in these, {turns} turns of the dispatcher, against the oracle's own reading of S-3");
     }
     Ok(total)
+}
+
+/// A part's name with the form of its images, where that is the old one.
+fn of_form(name: &str, form: Form, way: &str) -> String {
+    let form = match form {
+        Form::Old => "of the old form",
+        Form::New => "",
+    };
+    let words = [name, form, way];
+    words
+        .into_iter()
+        .filter(|word| !word.is_empty())
+        .collect::<Vec<_>>()
+        .join(" ")
 }
 
 /// A part's name with its rate.

@@ -5,8 +5,8 @@
 //! `instructions` prints, for each kind of list, the instructions a call of both, and then those of the work on parked
 //! boards, which is the proved board's alone, and of previews. `instructions NAME` prints one kind alone,
 //! `instructions parking` the parked boards, `instructions previews` the previews. `instructions --rate RATE [NAME]`
-//! prints the lists at another rate; there are no images of such boards, and so no other work. It counts by running
-//! itself under callgrind: `instructions --rate RATE NAME BOARD TIMES` repeats the list of that name so many times, and
+//! prints the lists at another rate; the other work is on a board at 48,000,000. It counts by running itself under
+//! callgrind: `instructions --rate RATE NAME BOARD TIMES` repeats the list of that name so many times, and
 //! `instructions NAME TIMES` 4,000 times the operation of that name.
 
 use std::env;

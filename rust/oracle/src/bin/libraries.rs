@@ -5,8 +5,8 @@
 //! repeats of the first library, and the instructions a call. It counts these by running itself under callgrind:
 //! `libraries repeat NAME FILE TIMES` repeats the list of that name so many times.
 //!
-//! The libraries must agree in every answer, as far as the shorter one goes: an earlier one may give fewer members. Some
-//! take no rate, so that all are measured on boards of which none is said.
+//! The libraries must agree in every answer, as far as the shorter one goes: an earlier one may give fewer members.
+//! Some take no rate, so that all are measured on boards of which none is said.
 
 use std::env;
 use std::ffi::{c_char, c_int, c_void, CStr, CString};

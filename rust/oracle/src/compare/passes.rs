@@ -1,10 +1,8 @@
 //! What is compared: lists by seed, every register with every byte, damaged lists, short buffers.
 
-use std::thread;
-
 use calls::{list_of, Call, DEFAULT_RATE};
 
-use super::{readouts, Count, Difference, Pair};
+use super::{readouts, shared, Count, Difference, Pair};
 use crate::generate;
 use crate::registers::{self, channel, of_channel, CHANNELS};
 use crate::writes::{alarm, byte, two_words, word};
@@ -40,29 +38,10 @@ pub fn seed_calls(pair: &Pair, seed: u64) -> u64 {
 /// Every register address with every byte written, and read, over several boards: what each board holds afterwards.
 /// The addresses are shared out over the machine's processors.
 pub fn registers(pair: &Pair) -> Compared {
-    let workers = thread::available_parallelism().map_or(1, usize::from);
-    let results: Vec<Compared> = thread::scope(|scope| {
-        let spawned: Vec<_> = (0..workers)
-            .map(|worker| scope.spawn(move || registers_from(pair, worker, workers)))
-            .collect();
-        spawned
-            .into_iter()
-            .map(|one| one.join().expect("a comparison panicked"))
-            .collect()
-    });
-    let mut count = Count::default();
-    for result in results {
-        count.add(result?);
-    }
-    Ok(count)
-}
-
-/// The addresses from `start` on, in steps.
-fn registers_from(pair: &Pair, start: usize, step: usize) -> Compared {
-    let mut count = Count::default();
-    let state = state_readout();
-    for board in prepared(pair.rate) {
-        for address in (0..registers::SIZE).skip(start).step_by(step) {
+    let (boards, state) = (prepared(pair.rate), state_readout());
+    shared(0..registers::SIZE, |address| {
+        let mut count = Count::default();
+        for board in &boards {
             let read = list_of(&[Call::Read { address }]);
             for readout in readouts() {
                 count.add(pair.compare(&[&board[..], &read].concat(), Some(&readout), BUFFER)?);
@@ -72,8 +51,8 @@ fn registers_from(pair: &Pair, start: usize, step: usize) -> Compared {
                 count.add(pair.compare(&[&board[..], &write].concat(), Some(&state), REGISTERS_BUFFER)?);
             }
         }
-    }
-    Ok(count)
+        Ok(count)
+    })
 }
 
 /// Lists that leave boards with little set, with every field set, about to commit, with an alarm due on host time and

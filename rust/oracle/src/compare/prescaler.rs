@@ -10,6 +10,7 @@ use super::parked::{self, Parking};
 use super::passes::{Compared, BUFFER};
 use super::{Count, Pair};
 use crate::fields::Channel;
+use crate::image::Form;
 use crate::registers::CHANNELS;
 use crate::writes::RUNNING;
 
@@ -111,7 +112,8 @@ pub fn parked(parking: &Parking) -> Result<Count, String> {
         for cycles in advances(&start.channels) {
             let calls = [Call::Advance { cycles }, Call::Deadline];
             let room = calls.iter().map(Call::answer_bytes).sum();
-            count.add(parked::list_from(parking, &start.fields(), &list_of(&calls), room)?);
+            let (fields, list) = (start.fields(), list_of(&calls));
+            count.add(parked::list_from(parking, Form::New, &fields, &list, room)?);
         }
     }
     Ok(count)

@@ -1,33 +1,33 @@
 //! Previews of many totals against the originals: on boards by seed, on boards whose deadlines are about 2^64, and on
-//! images that are damaged; into buffers with room, without and with more.
+//! images that are damaged; of both forms and at each rate; into buffers with room, without and with more.
 
 use calls::{list_of, Refusal};
 
-use super::{hex, parked, skips, Count, OLD};
-use crate::board::Board;
+use super::{clock, hex, parked, skips, Count, OLD};
+use crate::board::{AnyBoard, Board};
 use crate::deadline;
 use crate::fields::Fields;
 use crate::generate::{self, Random};
-use crate::image::image_of;
+use crate::image::{image_of, Form};
 use crate::list;
 use crate::preview::preview_parked;
 
 /// What previews the totals of the board of an image, into a buffer.
-pub type Previewer<'a> = dyn FnMut(&[u8], &[u64], &mut [u8]) -> Result<(), Refusal> + 'a;
+pub type Previewer<'a> = dyn Fn(&[u8], &[u64], &mut [u8]) -> Result<(), Refusal> + Sync + 'a;
 
-/// Random sound boards of a seed, beside the one that its list leaves.
-const BOARDS: usize = 8;
+/// Random sound boards of a seed in a form at a rate, beside the one that its list leaves.
+const BOARDS: usize = 4;
 
 /// Random totals of a board, beside those about its deadline.
 const RANDOM: usize = 12;
 
-/// The board that the list of a seed leaves, and random sound boards.
-pub fn boards(seed: u64) -> Vec<Fields> {
-    let generated = generate::list(seed);
-    let mut board = Board::fresh();
-    list::run(&mut board, &generated.list, &mut vec![0; generated.buffer]);
+/// The board that the list of a seed leaves at a rate, and random sound boards.
+pub fn boards(rate: u32, seed: u64) -> Vec<Fields> {
+    let generated = generate::list_at(rate, seed);
+    let mut board = AnyBoard::from_fields(&Fields::fresh_at(rate));
+    board.run(&generated.list, &mut vec![0; generated.buffer]);
     let mut boards = vec![board.fields()];
-    let mut random = Random::new(seed);
+    let mut random = Random::at(rate, seed);
     boards.extend((0..BOARDS).map(|_| random.sound_fields()));
     boards
 }
@@ -52,43 +52,60 @@ pub fn totals(fields: &Fields, random: &mut Random) -> Vec<u64> {
     totals
 }
 
-/// The boards of a seed, each with its totals into buffers with just room, with more and with less, and with no totals.
-pub fn seed(preview: &mut Previewer, seed: u64) -> Result<Count, String> {
+/// The boards of a seed, parked in a form, each with its totals into buffers with just room, with more and with less,
+/// and with no totals.
+pub fn seed(preview: &Previewer, form: Form, rate: u32, seed: u64) -> Result<Count, String> {
     let mut count = Count::default();
-    let mut random = Random::new(!seed);
-    for fields in boards(seed) {
+    let mut random = Random::at(rate, !seed);
+    for fields in boards(rate, seed) {
+        let image = image_of(form, &fields);
         let totals = totals(&fields, &mut random);
         let over = 1 + random.below(9) as usize;
         let short = random.below(totals.len() as u64) as usize;
         for buffer in [totals.len(), totals.len() + over, totals.len() - 1, short] {
-            count.add(compare(preview, &image_of(&fields), &totals, buffer)?);
+            count.add(compare(preview, &image, &totals, buffer)?);
         }
-        count.add(compare(preview, &image_of(&fields), &[], over)?);
+        count.add(compare(preview, &image, &[], over)?);
     }
     Ok(count)
 }
 
-/// Boards whose deadline is about 2^64 or above, with the line low and high; and buffers of every length up to two bytes
-/// more than the totals.
-pub fn limits(preview: &mut Previewer) -> Result<Count, String> {
+/// Boards whose deadline is about 2^64 or above, with the line low and high; and buffers of every length up to two
+/// bytes more than the totals.
+pub fn limits(preview: &Previewer) -> Result<Count, String> {
     let mut count = Count::default();
     let mut random = Random::new(1);
     for start in skips::starts() {
         let mut board = Board::fresh();
         list::run(&mut board, &list_of(&start.calls), &mut OLD.to_vec());
         let fields = board.fields();
+        let image = image_of(Form::New, &fields);
         let mut totals = totals(&fields, &mut random);
         totals.push(u64::MAX - 1);
         for buffer in 0..=totals.len() + 2 {
-            count.add(compare(preview, &image_of(&fields), &totals, buffer)?);
+            count.add(compare(preview, &image, &totals, buffer)?);
         }
     }
     Ok(count)
 }
 
-/// Images as they are, with each byte replaced by another, cut at every place, and with a byte over: into buffers with
-/// room and without, so that what is wrong with an image is seen to come first.
-pub fn images(preview: &mut Previewer) -> Result<Count, String> {
+/// Boards of a rate whose clock counts, parked in a form, with totals about the ends of seconds, the polls and the
+/// alarm's deadline, and boards with an alarm that is due about 2^64.
+pub fn clocks(preview: &Previewer, form: Form, rate: u32) -> Result<Count, String> {
+    let mut count = Count::default();
+    for start in clock::counting(rate).into_iter().chain(clock::far(rate)) {
+        let mut board = AnyBoard::from_fields(&Fields::fresh_at(rate));
+        board.run(&list_of(&start.calls), &mut OLD.to_vec());
+        let totals: Vec<u64> = start.advances.into_iter().collect();
+        let image = image_of(form, &board.fields());
+        count.add(compare(preview, &image, &totals, totals.len())?);
+    }
+    Ok(count)
+}
+
+/// Images in a form of boards of a rate, as they are, with each byte replaced by another, cut at every place, and with
+/// a byte over: into buffers with room and without, so that what is wrong with an image is seen to come first.
+pub fn images(preview: &Previewer, form: Form, rate: u32) -> Result<Count, String> {
     let mut count = Count::default();
     let mut add = |image: &[u8]| -> Result<(), String> {
         for buffer in [2, 3] {
@@ -96,8 +113,8 @@ pub fn images(preview: &mut Previewer) -> Result<Count, String> {
         }
         Ok(())
     };
-    for (_, fields) in parked::images() {
-        let image = image_of(&fields);
+    for (_, fields) in parked::images(rate) {
+        let image = image_of(form, &fields);
         add(&image)?;
         for place in 0..image.len() {
             for change in [0x01, 0x80, 0xFF] {
@@ -113,7 +130,7 @@ pub fn images(preview: &mut Previewer) -> Result<Count, String> {
 }
 
 /// One comparison: the refusal, and the whole buffer.
-fn compare(preview: &mut Previewer, image: &[u8], totals: &[u64], buffer: usize) -> Result<Count, String> {
+fn compare(preview: &Previewer, image: &[u8], totals: &[u64], buffer: usize) -> Result<Count, String> {
     let mut expected = OLD[..buffer].to_vec();
     let mut found = expected.clone();
     let rust = preview_parked(image, totals, &mut expected);

@@ -7,6 +7,7 @@ use super::parked::{self, Parking};
 use super::passes::{Compared, BUFFER};
 use super::{readouts, Count, Pair};
 use crate::fields::Fields;
+use crate::image::Form;
 use crate::registers::{self, CHANNELS};
 use crate::writes::{alarm, alarm_due, byte, channel_due, program, RUNNING};
 
@@ -196,7 +197,7 @@ pub fn parked(parking: &Parking) -> Result<Count, String> {
     for Case { list, room, before } in cases() {
         let after = before + Call::Skip.answer_bytes();
         for buffer in [before, after - 1, after, room] {
-            count.add(parked::list_from(parking, &Fields::fresh(), &list, buffer)?);
+            count.add(parked::list_from(parking, Form::New, &Fields::fresh(), &list, buffer)?);
         }
     }
     Ok(count)

@@ -4,7 +4,9 @@
 use std::hint::black_box;
 
 use calls::{list_of, Call};
-use pec::{image_refusal, park_fresh, run_parked, run_repeated, Board, IMAGE_SIZE};
+use pec::{
+    image_refusal, move_back, move_forward, park_fresh, run_parked, run_repeated, Board, IMAGE_SIZE, OLD_IMAGE_SIZE,
+};
 
 use super::{running, Group, Operation, BUFFER, CALLS};
 
@@ -20,6 +22,18 @@ pub const GROUP: Group = Group {
         Operation {
             name: "read an image",
             repeat: read_images,
+        },
+        Operation {
+            name: "read an old image",
+            repeat: read_old_images,
+        },
+        Operation {
+            name: "move an image forward",
+            repeat: move_forward_images,
+        },
+        Operation {
+            name: "move an image back",
+            repeat: move_back_images,
         },
         Operation {
             name: "an advance over a parked board",
@@ -56,6 +70,34 @@ fn read_images(times: u64) {
     let image = *board().image();
     for _ in 0..times {
         assert_eq!(image_refusal(black_box(&image)), None);
+    }
+}
+
+/// The same board's image in the old form.
+fn old_image() -> [u8; OLD_IMAGE_SIZE] {
+    board().old_image().expect("the board has the rate of the old form")
+}
+
+fn read_old_images(times: u64) {
+    let image = old_image();
+    for _ in 0..times {
+        assert_eq!(image_refusal(black_box(&image)), None);
+    }
+}
+
+/// Moves that board's image to the new form: reads it, and writes it.
+fn move_forward_images(times: u64) {
+    let (image, mut moved) = (old_image(), [0; IMAGE_SIZE]);
+    for _ in 0..times {
+        assert_eq!(move_forward(black_box(&image), black_box(&mut moved)), Ok(IMAGE_SIZE));
+    }
+}
+
+/// The same to the old form.
+fn move_back_images(times: u64) {
+    let (image, mut moved) = (*board().image(), [0; OLD_IMAGE_SIZE]);
+    for _ in 0..times {
+        assert_eq!(move_back(black_box(&image), black_box(&mut moved)), Ok(OLD_IMAGE_SIZE));
     }
 }
 

@@ -48,7 +48,8 @@ fn totals() -> Vec<u64> {
 
 /// The Rust's board, of the image of the proved one.
 fn rust_board(image: &[u8]) -> Devices<At48> {
-    match Board::from_fields(&read_image(image).expect("a board's own image is accepted")) {
+    let (_, fields) = read_image(image).expect("a board's own image is accepted");
+    match Board::from_fields(&fields) {
         Board::Sound(devices) => devices,
         Board::Unsound(_) => unreachable!("an accepted image is of a sound board"),
     }

@@ -4,7 +4,7 @@
 use calls::{list_of, Call, Outcome};
 use oracle::board::AnyBoard;
 use oracle::compare::passes::{self, BUFFER, REGISTERS_BUFFER};
-use oracle::compare::{readouts, shortest};
+use oracle::compare::{readouts, shared, shortest, Count};
 use oracle::kinds;
 use oracle::list::{run_repeated, run_repeated_at};
 use oracle::registers;
@@ -145,5 +145,26 @@ fn the_measured_lists_run_to_their_ends() {
                 assert_eq!(outcome.refusal, None, "{} at {rate}, {times} times", kind.name);
             }
         }
+    }
+}
+
+#[test]
+fn every_member_that_is_shared_out_is_compared_once_and_a_difference_is_given() {
+    let one = |member| Count {
+        comparisons: 1,
+        calls: member,
+    };
+    let all = Count {
+        comparisons: 1_000,
+        calls: 499_500,
+    };
+    assert_eq!(shared(0..1_000, |member| Ok::<_, String>(one(member))), Ok(all));
+    assert_eq!(shared(0..0, |_| Err("none is compared")), Ok(Count::default()));
+    for wrong in [0, 700, 999] {
+        let compared = shared(0..1_000, |member| match member == wrong {
+            true => Err(wrong),
+            false => Ok(one(member)),
+        });
+        assert_eq!(compared, Err(wrong));
     }
 }

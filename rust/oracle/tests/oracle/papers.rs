@@ -1,8 +1,8 @@
-//! The tables of registers in docs/CONTRACT.md and docs/BOARD.md are those of the Rust, the manual's table of an image is
-//! that of the oracle's images, and its worked example is what a run gives.
+//! The tables of registers in docs/CONTRACT.md and docs/BOARD.md are those of the Rust, the manual's table of an image
+//! is that of the oracle's images, and its worked example is what a run gives.
 
 use oracle::board::Board;
-use oracle::image::image_of;
+use oracle::image::{image_of, Form};
 use oracle::registers::{self, channel, of_channel};
 
 use crate::originals::TIMING;
@@ -144,9 +144,16 @@ fn the_manuals_worked_example_is_what_a_run_gives() {
 #[test]
 fn the_manuals_image_is_the_oracles() {
     let text = paper("BOARD.md");
-    let image = image_of(&Board::fresh().fields());
+    let section = section(&text, "## Parked boards");
+    let rows = rows(&section);
+    // The new form begins with the rate, tag 24.
+    let form = match rows.first().map(|row| row[1]) {
+        Some("24") => Form::New,
+        _ => Form::Old,
+    };
+    let image = image_of(form, &Board::fresh().fields());
     let mut at = 0;
-    for row in rows(&section(&text, "## Parked boards")) {
+    for row in rows {
         let [from, tag, _, length] = row[..] else {
             panic!("{row:?} has four cells")
         };

@@ -270,12 +270,12 @@ fn by_lists<const STEP: usize>(first: &[u8], list: &[u8], times: u64, answers: &
 
 /// Such a board in an image.
 fn in_image<const STEP: usize>(image: &mut [u8], list: &[u8], answers: &mut [u8]) -> Outcome {
-    let Ok(fields) = read_image(image) else {
+    let Ok((form, fields)) = read_image(image) else {
         return run_parked(image, list, answers);
     };
     let mut board = Board::from_fields(&fields);
     let outcome = each_call(&mut board, list, answers, one_call::<STEP>);
-    image.copy_from_slice(&image_of(&board.fields()));
+    image.copy_from_slice(&image_of(form, &board.fields()));
     outcome
 }
 

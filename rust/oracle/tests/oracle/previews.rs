@@ -1,13 +1,14 @@
-//! Previews of many totals: rows worked out by hand from S-6's sentences, what the compared boards and totals reach, and
-//! the faults that the comparison finds.
+//! Previews of many totals: rows worked out by hand from S-6's sentences, what the compared boards and totals reach,
+//! and the faults that the comparison finds.
 
 use calls::Refusal;
 use oracle::board::BoardAt;
-use oracle::compare::previews::{boards, images, limits, seed, totals, Previewer};
+use oracle::compare::parked::forms;
+use oracle::compare::previews::{boards, clocks, images, limits, seed, totals, Previewer};
 use oracle::deadline;
 use oracle::fields::Fields;
 use oracle::generate::Random;
-use oracle::image::{image_of, read_image};
+use oracle::image::{image_of, read_image, Form};
 use oracle::preview::preview_parked;
 use oracle::timing::At48;
 
@@ -51,7 +52,10 @@ fn previews_are_those_worked_out_by_hand() {
         (setting_a(), vec![], vec![]),
     ] {
         let mut buffer = vec![7; high.len() + 2];
-        assert_eq!(preview_parked(&image_of(&fields), &totals, &mut buffer), Ok(()));
+        assert_eq!(
+            preview_parked(&image_of(Form::New, &fields), &totals, &mut buffer),
+            Ok(())
+        );
         assert_eq!(buffer, [high, vec![7, 7]].concat(), "{totals:?}");
     }
 }
@@ -64,28 +68,49 @@ fn previews_are_refused_in_order_and_write_nothing() {
     };
     let mut unsound = controlled(5);
     unsound.channels[0].control = 16;
-    let images = [controlled(1), controlled(5), unsound].map(|fields| image_of(&fields));
-    let [plain, realtime, unsound] = &images;
-    let cut = &unsound[1..];
-    for (image, room, refusal) in [
-        (&plain[..], 1, Refusal::BufferTooSmall),
-        (realtime, 2, Refusal::ClockInRealtime),
-        (realtime, 1, Refusal::ClockInRealtime),
-        (unsound, 1, Refusal::UnsoundBoard),
-        (cut, 1, Refusal::MalformedImage),
-    ] {
-        let mut buffer = [7; 2];
-        let refused = preview_parked(image, &[30, 29], &mut buffer[..room]);
-        assert_eq!((refused, buffer), (Err(refusal), [7; 2]));
+    for form in Form::ALL {
+        let images = [controlled(1), controlled(5), unsound].map(|fields| image_of(form, &fields));
+        let [plain, realtime, unsound] = &images;
+        let cut = &unsound[1..];
+        for (image, room, refusal) in [
+            (&plain[..], 1, Refusal::BufferTooSmall),
+            (realtime, 2, Refusal::ClockInRealtime),
+            (realtime, 1, Refusal::ClockInRealtime),
+            (unsound, 1, Refusal::UnsoundBoard),
+            (cut, 1, Refusal::MalformedImage),
+        ] {
+            let mut buffer = [7; 2];
+            let refused = preview_parked(image, &[30, 29], &mut buffer[..room]);
+            assert_eq!((refused, buffer), (Err(refusal), [7; 2]));
+        }
+        // Of no totals too.
+        let refused = preview_parked(realtime, &[], &mut []);
+        assert_eq!(refused, Err(Refusal::ClockInRealtime));
+        // Realtime without enable, and enable without realtime, are no realtime clock.
+        for clock_control in [0, 1, 2, 3, 4, 6] {
+            let mut buffer = [7; 2];
+            let image = image_of(form, &controlled(clock_control));
+            let previewed = preview_parked(&image, &[30, 29], &mut buffer);
+            assert_eq!((previewed, buffer), (Ok(()), [1, 0]), "{clock_control}");
+        }
     }
-    // Of no totals too.
-    let refused = preview_parked(realtime, &[], &mut []);
-    assert_eq!(refused, Err(Refusal::ClockInRealtime));
-    // Realtime without enable, and enable without realtime, are no realtime clock.
-    for clock_control in [0, 1, 2, 3, 4, 6] {
+}
+
+#[test]
+fn previews_go_by_the_rate_of_the_image() {
+    for rate in RATES {
+        let mut fields = Fields::fresh_at(rate);
+        (fields.alarm, fields.alarm_armed, fields.alarm_enable) = (2, true, 1);
+        let due = 2 * u64::from(rate);
         let mut buffer = [7; 2];
-        let previewed = preview_parked(&image_of(&controlled(clock_control)), &[30, 29], &mut buffer);
-        assert_eq!((previewed, buffer), (Ok(()), [1, 0]), "{clock_control}");
+        assert_eq!(
+            preview_parked(&image_of(Form::New, &fields), &[due, due - 1], &mut buffer),
+            Ok(())
+        );
+        assert_eq!(buffer, [1, 0], "{rate}");
+        // The old form says no rate.
+        let previewed = preview_parked(&image_of(Form::Old, &fields), &[96_000_000, 95_999_999], &mut buffer);
+        assert_eq!((previewed, buffer), (Ok(()), [1, 0]));
     }
 }
 
@@ -96,7 +121,7 @@ fn the_boards_and_totals_of_the_seeds_reach_every_case() {
     let mut repeats = 0;
     for number in 1..=SEEDS {
         let mut random = Random::new(number);
-        for fields in boards(number) {
+        for fields in RATES.map(|rate| boards(rate, number)).concat() {
             let mut totals = totals(&fields, &mut random);
             let due = deadline::exact(&fields);
             let kind = match due {
@@ -132,7 +157,8 @@ fn accepted_but(
     change: impl FnOnce(&Fields, &[u64], &mut [u8]),
 ) -> Result<(), Refusal> {
     preview_parked(image, totals, high)?;
-    change(&read_image(image).expect("it was accepted"), totals, high);
+    let (_, fields) = read_image(image).expect("it was accepted");
+    change(&fields, totals, high);
     Ok(())
 }
 
@@ -153,7 +179,7 @@ fn capped(fields: &Fields) -> Option<u64> {
     deadline::exact(fields).map(|due| due.try_into().unwrap_or(u64::MAX))
 }
 
-const FAULTS: [(&str, Fault); 20] = [
+const FAULTS: [(&str, Fault); 23] = [
     ("more than the deadline", |image, totals, high| {
         each((image, totals, high), |fields, total| {
             fields.line() || deadline::exact(fields).is_some_and(|due| due < total.into())
@@ -230,7 +256,7 @@ const FAULTS: [(&str, Fault); 20] = [
     ("14 left out", |image, totals, high| {
         match preview_parked(image, totals, &mut high.to_vec()) {
             Err(Refusal::ClockInRealtime) if totals.len() <= high.len() => {
-                let fields = read_image(image)?;
+                let (_, fields) = read_image(image)?;
                 for (byte, total) in high.iter_mut().zip(totals) {
                     *byte = line_after(&fields, *total).into();
                 }
@@ -240,7 +266,7 @@ const FAULTS: [(&str, Fault); 20] = [
         }
     }),
     ("14 without enable", |image, totals, high| {
-        if read_image(image).is_ok_and(|fields| fields.realtime()) {
+        if read_image(image).is_ok_and(|(_, fields)| fields.realtime()) {
             return Err(Refusal::ClockInRealtime);
         }
         preview_parked(image, totals, high)
@@ -272,6 +298,25 @@ const FAULTS: [(&str, Fault); 20] = [
         }
         previewed.and_then(|()| preview_parked(image, totals, high))
     }),
+    ("48,000,000 whatever the rate", |image, totals, high| {
+        each((image, totals, high), |fields, total| {
+            line_after(&Fields { rate: F, ..*fields }, total)
+        })
+    }),
+    ("1,000,000 of an old image", |image, totals, high| {
+        each((image, totals, high), |fields, total| {
+            let slow = Fields {
+                rate: 1_000_000,
+                ..*fields
+            };
+            let taken = image.len() == Form::Old.size() && slow.sound();
+            line_after(if taken { &slow } else { fields }, total)
+        })
+    }),
+    ("the old form refused", |image, totals, high| match read_image(image) {
+        Ok((Form::Old, _)) => Err(Refusal::MalformedImage),
+        _ => preview_parked(image, totals, high),
+    }),
     ("zeros where the clock is in realtime", |image, totals, high| {
         let previewed = preview_parked(image, totals, high);
         if previewed == Err(Refusal::ClockInRealtime) {
@@ -282,24 +327,27 @@ const FAULTS: [(&str, Fault); 20] = [
 ];
 
 /// Everything that is compared, or the first difference.
-fn everything(preview: &mut Previewer) -> Result<u64, String> {
-    let mut comparisons = 0;
-    for number in 1..=SEEDS {
-        comparisons += seed(preview, number)?.comparisons;
+fn everything(preview: &Previewer) -> Result<u64, String> {
+    let mut comparisons = limits(preview)?.comparisons;
+    for (form, rate) in forms() {
+        for number in 1..=SEEDS {
+            comparisons += seed(preview, form, rate, number)?.comparisons;
+        }
+        comparisons += clocks(preview, form, rate)?.comparisons;
+        comparisons += images(preview, form, rate)?.comparisons;
     }
-    comparisons += limits(preview)?.comparisons;
-    Ok(comparisons + images(preview)?.comparisons)
+    Ok(comparisons)
 }
 
 #[test]
 fn the_rules_of_previews_agree_with_themselves() {
-    assert!(everything(&mut preview_parked).unwrap() > 10_000);
+    assert!(everything(&preview_parked).unwrap() > 40_000);
 }
 
 #[test]
 fn faults_of_previews_are_found() {
-    for (name, mut fault) in FAULTS {
-        let text = everything(&mut fault).expect_err(name);
+    for (name, fault) in FAULTS {
+        let text = everything(&fault).expect_err(name);
         assert!(text.starts_with("previews of ["), "{name}: {text}");
     }
 }

@@ -79,8 +79,8 @@ pub const CLAUSES: [(&str, Edit, Edit); 19] = [
     ),
 ];
 
-/// S-7's clause, on what no image says: 'a record carrying a rate outside the three is 1'.
-const RATE_CLAUSES: [(&str, Edit, Edit); 4] = [
+/// S-7's clause, on what no image of the old form says: 'a record carrying a rate outside the three is 1'.
+pub const RATE_CLAUSES: [(&str, Edit, Edit); 4] = [
     ("rate 0", |f| f.rate = 0, |f| f.rate = 1_000_000),
     ("rate below", |f| f.rate = 999_999, |f| f.rate = 1_000_000),
     ("rate between", |f| f.rate = 24_000_000, |f| f.rate = 12_000_000),
