@@ -86,6 +86,12 @@ module _ (to : Form) (l old : List ℕ) (r : Reading) (e : r ≡ readingIn (othe
 
 -- ---- there and back
 
+-- an accepted image whose rate the form takes is moved to it, where there is room
+pub move-accepted : (to : Form) (l : List ℕ) (room : ℕ) → formRefusal (otherForm to) l ≡ 0 →
+    formTakes to (rateOf (boardIn (otherForm to) l .clock)) ≡ true → imageLength to ≤ room → moveRefusal to l room ≡ 0
+unfolding moveRefusal
+move-accepted to l room e t h = rw (e, t, le-ltb room (imageLength to) h) refl
+
 twice : (f : Form) → otherForm (otherForm f) ≡ f
 twice Old = refl
 twice New = refl

@@ -145,17 +145,14 @@ fn the_manuals_worked_example_is_what_a_run_gives() {
 fn the_manuals_image_is_the_oracles() {
     let text = paper("BOARD.md");
     let section = section(&text, "## Parked boards");
-    let rows = rows(&section);
-    // The new form begins with the rate, tag 24.
-    let form = match rows.first().map(|row| row[1]) {
-        Some("24") => Form::New,
-        _ => Form::Old,
-    };
-    let image = image_of(form, &Board::fresh().fields());
+    // The table of fields has four columns, those of refusals two.
+    let fields: Vec<_> = rows(&section).into_iter().filter(|row| row.len() == 4).collect();
+    assert_eq!(fields.len(), 8);
+    let image = image_of(Form::New, &Board::fresh().fields());
     let mut at = 0;
-    for row in rows {
+    for row in fields {
         let [from, tag, _, length] = row[..] else {
-            panic!("{row:?} has four cells")
+            unreachable!("the row has four cells")
         };
         let size = usize::from(u16::from_be_bytes([image[at + 1], image[at + 2]]));
         assert_eq!([from, tag], [at.to_string(), format!("{:02X}", image[at])]);
