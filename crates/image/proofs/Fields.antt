@@ -1,5 +1,6 @@
 -- The fields of an image one behind another: their lengths, and how they are stored. Assumes nothing.
 use Prim.Native.Nat.{ℕ, _+_, _-_, _^_, _≤_, _<_}
+use native.Mathlib.Nat.{zero-add}
 use native.Mathlib.Omega.{arith}
 use mathlib.Core.Path.{_≡_, refl, sym, ap, ap₂, _∙_, subst}
 use mathlib.Core.List.{List, [], _∷_, _++_, map, append-assoc, append-nil}
@@ -40,7 +41,15 @@ use Rattle.image.specs.Image.{
 }
 use Rattle.image.specs.declared.Form.{Form}
 use Rattle.image.specs.declared.Form.the-variants.{Old, New}
-use Rattle.image.specs.CodeTables.{channels, channelsBytes, clockAt, latchesAt, controllerAt}
+use Rattle.image.specs.CodeTables.{
+  channels,
+  channelsBytes,
+  clockAt,
+  latchesAt,
+  controllerAt,
+  frontBytes,
+  frontLength,
+}
 use Rattle.image.specs.Words.{CountWord, LatchWords}
 
 -- ---- four elements
@@ -147,10 +156,19 @@ old-stored b four x y z u v e f g h =
     (sym (fields-append channels others (map timerMembers (b .timers)) (otherMembers b)
     (length-map (b .timers) timerMembers ∙ four)))
 
--- the new form is the rate's field and the old form
-pub new-image : (b : Board) → imageOf New b ≡ fieldBytes rateField (rateOf (b .clock) ∷ []) ++ imageOf Old b
+-- an image is what stands ahead of S-1's fields, and the old form
+pub front-image : (f : Form) (b : Board) → imageOf f b ≡ frontBytes f (rateOf (b .clock)) ++ imageOf Old b
 unfolding imageOf fieldsBytes
-new-image b = refl
+front-image Old b = refl
+front-image New b = refl
+
+front-length : (f : Form) (rate : ℕ) → length (frontBytes f rate) ≡ frontLength f
+front-length Old rate = refl
+front-length New rate = field-length rateField (rate ∷ [])
+
+pub whole-length : (f : Form) → imageLength f ≡ frontLength f + imageLength Old
+whole-length Old = refl
+whole-length New = refl
 
 -- a store into the bytes from an index on, which go back to their place
 part-stored : (y vs : List ℕ) (n : ℕ) → n + length vs ≤ length y →
@@ -166,29 +184,29 @@ part-stored y vs n h =
     ∙ sym (append-assoc (take n y) vs (drop (n + length vs) y))
     ∙ sym (sets-eq vs y n h)
 
--- so it is stored: y is the buffer with the rate's field, and the old form goes into the bytes behind that
-module _ (b : Board) (x y : List ℕ) (room : imageLength New ≤ length x)
-    (e : y ≡ sets x 0 (fieldBytes rateField (rateOf (b .clock) ∷ []))) where
+-- so it is stored: y is the buffer with what stands ahead, and the old form goes into the bytes behind that
+module _ (f : Form) (b : Board) (x y : List ℕ) (room : imageLength f ≤ length x) (n : ℕ) (at : n ≡ frontLength f)
+    (e : y ≡ sets x 0 (frontBytes f (rateOf (b .clock)))) where
   same-length : length y ≡ length x
-  same-length = ap length e ∙ length-sets x 0 (fieldBytes rateField (rateOf (b .clock) ∷ []))
+  same-length = ap length e ∙ length-sets x 0 (frontBytes f (rateOf (b .clock)))
 
-  pub rate-room : 7 ≤ length y
-  rate-room = omega (arith, room, same-length)
+  pub front-room : n ≤ length y
+  front-room = omega (arith, room, same-length, at, whole-length f)
 
-  pub old-room : imageLength Old ≤ length (take (length y - 7) (drop 7 y))
+  pub old-room : imageLength Old ≤ length (take (length y - n) (drop n y))
   old-room =
-      subst (λ (l : List ℕ). imageLength Old ≤ length l) (sym (part-rest y 7))
-      (omega (arith, room, same-length, length-drop 7 y))
+      subst (λ (l : List ℕ). imageLength Old ≤ length l) (sym (part-rest y n))
+      (omega (arith, room, same-length, at, whole-length f, length-drop n y))
 
-  pub new-stored : (z : List ℕ) → z ≡ sets (take (length y - 7) (drop 7 y)) 0 (imageOf Old b) →
-      take 7 y ++ (z ++ drop (length y - 7) (drop 7 y)) ≡ sets x 0 (imageOf New b)
-  new-stored z f =
-      ap (λ (l : List ℕ). take 7 y ++ (l ++ drop (length y - 7) (drop 7 y))) f
-      ∙ part-stored y (imageOf Old b) 7 (omega (arith, room, same-length, image-length Old b))
-      ∙ ap (λ (l : List ℕ). sets l 7 (imageOf Old b)) e
-      ∙ sets-then x 0 7 (fieldBytes rateField (rateOf (b .clock) ∷ [])) (imageOf Old b)
-      (field-length rateField (rateOf (b .clock) ∷ []))
-      ∙ ap (sets x 0) (sym (new-image b))
+  pub image-stored : (z : List ℕ) → z ≡ sets (take (length y - n) (drop n y)) 0 (imageOf Old b) →
+      take n y ++ (z ++ drop (length y - n) (drop n y)) ≡ sets x 0 (imageOf f b)
+  image-stored z h =
+      let put : take n y ++ (z ++ drop (length y - n) (drop n y)) ≡ sets y n (imageOf Old b) =
+      ap (λ (l : List ℕ). take n y ++ (l ++ drop (length y - n) (drop n y))) h
+      ∙ part-stored y (imageOf Old b) n (omega (arith, room, same-length, at, whole-length f, image-length Old b)) in
+      stored-then x y _ 0 n n (frontBytes f (rateOf (b .clock))) (imageOf Old b) e
+      (front-length f (rateOf (b .clock)) ∙ sym at) (sym (zero-add n)) put
+      ∙ ap (sets x 0) (sym (front-image f b))
 
 -- ---- the latches' field
 

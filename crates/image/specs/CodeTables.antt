@@ -1,5 +1,5 @@
--- Not sentences of S-1 but what the code goes by: its tables of widths, the channels' fields together, and where the
--- others begin.
+-- Not sentences of S-1 or S-8 but what the code goes by: its tables of widths, the channels' fields together, where the
+-- others begin, and what stands ahead of S-1's fields.
 use Prim.Native.Nat.{ℕ, _+_, _<_}
 use mathlib.Core.Path.{_≡_}
 use mathlib.Core.List.{List, [], _∷_, map}
@@ -8,15 +8,19 @@ use lib.ListN.{length}
 use lib.Dec.{leb}
 use Rattle.channel.specs.declared.HardwareTimer.{HardwareTimer}
 use Rattle.format.specs.Format.{headerLength, membersAt}
+use Rattle.image.specs.declared.Form.{Form}
+use Rattle.image.specs.declared.Form.the-variants.{Old, New}
 use Rattle.image.specs.Image.{
   Field,
   widthsOf,
   channelField,
   clockField,
   latchesField,
+  rateField,
   fieldLength,
   fieldsLength,
   timerMembers,
+  fieldBytes,
   fieldsBytes,
 }
 
@@ -51,3 +55,13 @@ controllerAt = latchesAt + fieldLength latchesField
 -- the members of a field that begins at an index
 abbrev pub membersIn : Field → List ℕ → ℕ → List ℕ
 membersIn f l at = membersAt l (at + headerLength) (widthsOf (f .members))
+
+-- the bytes ahead of S-1's fields in each form, of a rate
+abbrev pub frontBytes : Form → ℕ → List ℕ
+frontBytes Old rate = []
+frontBytes New rate = fieldBytes rateField (rate ∷ [])
+
+-- how many they are
+abbrev pub frontLength : Form → ℕ
+frontLength Old = 0
+frontLength New = fieldLength rateField

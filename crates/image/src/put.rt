@@ -9,6 +9,7 @@ ghost use Rattle.format.specs.Format.{sum, membersBytes, recordOf};
 ghost use Rattle.board.specs.Loops.{All};
 ghost use Rattle.board.specs.Board.{BoardFits, heldOf, heldValue};
 ghost use Rattle.image.specs.CodeTables.{Laid, channelsBytes, clockAt, latchesAt, controllerAt};
+ghost use Rattle.image.specs.CodeTables.{frontBytes, frontLength};
 ghost use Rattle.image.specs.Image.{channelField, clockField, latchesField, controllerField, rateField};
 ghost use Rattle.image.specs.Image.{timerMembers, clockMembers, latchesMembers, controllerMembers};
 ghost use Rattle.image.specs.Image.{fieldLength, imageLength, fieldBytes, imageOf};
@@ -252,17 +253,28 @@ fn put_rate(buf: &mut [u8], rate: u32)
     put_field(buf, 0, RATE_TAG, RATE_LENGTH, &RATE_WIDTHS, &members);
 }
 
-// The image of a board in a form, from the buffer's first byte on.
+// What stands ahead of S-1's fields in a form, of a rate. Gives its length.
+fn put_front(buf: &mut [u8], form: Form, rate: u32) -> usize
+    requires { ⌜ frontLength form ≤ length (now buf) ⌝ }
+    ensures { λ r. ⌜ r ≡ frontLength form ⌝ }
+    ensures { λ _. ⌜ now (buf .exit) ≡ sets (now (buf .entry)) 0 (frontBytes form rate) ⌝ }
+{
+    match form {
+        Form::Old => 0,
+        Form::New => {
+            put_rate(buf, rate);
+            RATE_SIZE
+        }
+    }
+}
+
+// The image of a board in a form, from the buffer's first byte on. The bytes of the old form stand in one place of the
+// code, for both forms.
 pub fn put_image(buf: &mut [u8], form: Form, board: Board)
     requires { ⌜ imageLength form ≤ length (now buf) ⌝ }
     ensures { λ _. ⌜ now (buf .exit) ≡ sets (now (buf .entry)) 0 (imageOf form board) ⌝ }
     ensures { λ _. ⌜ (BoardFits board → BoardWords board) ⌝ }
 {
-    match form {
-        Form::Old => put_old(buf, board),
-        Form::New => {
-            put_rate(buf, board.clock.rate);
-            put_old(&mut buf[RATE_SIZE..], board);
-        }
-    }
+    let at = put_front(buf, form, board.clock.rate);
+    put_old(&mut buf[at..], board);
 }

@@ -11,6 +11,7 @@ use borrow.Author.Tests.{eq-eqb, ne-eqb, ltb-false}
 use Rattle.format.proofs.Frames.{part-rest, sets-front}
 use Rattle.wide.proofs.Choices.{choose, either}
 use Rattle.clock.specs.Clock.{rateOf}
+use Rattle.clock.specs.Fields.{freshRate}
 use Rattle.board.specs.declared.Board.{Board}
 use Rattle.board.specs.Fields.{freshBoard}
 use Rattle.board.specs.Board.{sound}
@@ -46,13 +47,13 @@ use Rattle.parking.specs.Parking.{
   imageMalformed,
   said,
   boardIn,
-  emptiesIn,
   soundIn,
   formRefusal,
   readingIn,
   formOf,
   readingOf,
 }
+use Rattle.parking.specs.CodeReads.{membersRead}
 use Rattle.parking.specs.Moves.{otherForm, moveRefusal}
 use Rattle.image.proofs.Fields.{image-length}
 use Rattle.parking.proofs.Shifted.{said-behind, formed-behind}
@@ -96,44 +97,50 @@ module _ (l : List ℕ) (long : length l ≡ imageLength New) where
   rest-said : said Old rest ≡ membersFrom l 7 layout
   rest-said = ap (said Old) (part-rest l 7) ∙ said-behind l 7 0 layout
 
-  pub new-said : (a b r v : Bool) (rate : ℕ) (board : Board) →
-      (a ≡ fieldAt l 0 rateField) × (rate ≡ getD (membersIn rateField l 0) 0 0) →
-      (b ≡ formed Old rest) × ((v ≡ emptiesIn Old rest) × (board ≡ boardFrom rate (said Old rest))) →
-      r ≡ (a && b) →
-      (r ≡ formed New l) × ((v ≡ emptiesIn New l) × (board ≡ boardIn New l))
-  unfolding fieldsAt membersFrom
-  new-said a b r v rate board first behind e = (
-    e ∙ ap₂ _&&_ (first .0) (behind .0 ∙ rest-formed),
-    (
-      behind .1 .0 ∙ ap (λ (mss : List (List ℕ)). emptiesHold0 (getD mss 5 [])) rest-said,
-      behind .1 .1 ∙ ap₂ boardFrom (first .1) rest-said,
-    ),
-  )
+  pub new-read : (rate : ℕ) (ahead : Bool) → rate ≡ getD (membersIn rateField l 0) 0 0 →
+      ahead ≡ fieldAt l 0 rateField → membersRead New rate (ahead && formed Old rest) (said Old rest) ≡ readingIn New l
+  unfolding readingIn formRefusal membersRead fieldsAt membersFrom
+  new-read rate ahead r e =
+      ap (λ (n : ℕ). membersRead New n (ahead && formed Old rest) (said Old rest)) r
+      ∙ ap₂ (membersRead New (getD (membersIn rateField l 0) 0 0)) (ap₂ _&&_ e rest-formed) rest-said
+
+-- in the old form nothing stands ahead
+pub old-read : (l : List ℕ) → membersRead Old freshRate (true && formed Old l) (said Old l) ≡ readingIn Old l
+unfolding readingIn formRefusal membersRead
+old-read l = refl
 
 -- ---- a reading
 
--- soundness by the code's tests
-pub sound-in : (f : Form) (l : List ℕ) (v s r : Bool) (b : Board) →
-    v ≡ emptiesIn f l → b ≡ boardIn f l → s ≡ sound b → r ≡ (v && s) → r ≡ soundIn f l
-sound-in f l v s r b e i g h = h ∙ rw (e, g, i)
-
-module _ (f : Form) (l : List ℕ) where
+-- of S-1's fields, by the code's tests
+module _ (f : Form) (rate : ℕ) (form : Bool) (mss : List (List ℕ)) where
   -- 12
-  pub reading-malformed : formed f l ≡ false →
-      record { board = freshBoard; form = defaultForm; refusal = imageMalformed } ≡ readingIn f l
-  unfolding readingIn formRefusal
-  reading-malformed e = rw e
+  pub members-malformed : form ≡ false →
+      record { board = freshBoard; form = defaultForm; refusal = imageMalformed } ≡ membersRead f rate form mss
+  unfolding membersRead
+  members-malformed e = rw e
 
-  module _ (h : formed f l ≡ true) where
+  module _ (h : form ≡ true) (v s : Bool) (b : Board) (empties : v ≡ emptiesHold0 (getD mss 5 []))
+      (said-board : b ≡ boardFrom rate mss) (sounds : s ≡ sound b) where
+    tested : (v && s) ≡ (emptiesHold0 (getD mss 5 []) && sound (boardFrom rate mss))
+    tested = ap₂ _&&_ empties (sounds ∙ ap sound said-board)
+
     -- 1
-    pub reading-unsound : soundIn f l ≡ false →
-        record { board = freshBoard; form = defaultForm; refusal = notSound } ≡ readingIn f l
-    unfolding readingIn formRefusal
-    reading-unsound e = rw (h, e)
+    pub members-unsound : (v && s) ≡ false →
+        record { board = freshBoard; form = defaultForm; refusal = notSound } ≡ membersRead f rate form mss
+    unfolding membersRead
+    members-unsound e = rw (h, sym tested ∙ e)
 
-    pub reading-accepted : soundIn f l ≡ true → record { board = boardIn f l; form = f; refusal = 0 } ≡ readingIn f l
-    unfolding readingIn formRefusal
-    reading-accepted e = rw (h, e)
+    pub members-accepted : (v && s) ≡ true →
+        record { board = b; form = f; refusal = 0 } ≡ membersRead f rate form mss
+    unfolding membersRead
+    members-accepted e =
+        ap (λ (x : Board). record { board = x; form = f; refusal = 0 }) said-board ∙ rw (h, sym tested ∙ e) refl
+
+-- bytes that are not formed so
+pub reading-malformed : (f : Form) (l : List ℕ) → formed f l ≡ false →
+    record { board = freshBoard; form = defaultForm; refusal = imageMalformed } ≡ readingIn f l
+unfolding readingIn formRefusal
+reading-malformed f l e = rw e
 
 -- by its length an image is read in the form that it has
 module _ (l : List ℕ) where
@@ -148,6 +155,10 @@ module _ (l : List ℕ) where
   pub read-old : (length l ≡ imageLength New → ⊥) → readingIn Old l ≡ readingOf l
   unfolding readingOf formOf
   read-old n = rw (formed-not New l n) refl
+
+  pub read-by-length : (f : Form) → length l ≡ imageLength f → readingOf l ≡ readingIn f l
+  read-by-length New long = sym (read-new long)
+  read-by-length Old long = sym (read-old (λ same. omega (arith, long, same)))
 
 -- ---- a writing
 

@@ -17,7 +17,7 @@ use Rattle.image.specs.declared.Form.{Form}
 use Rattle.image.specs.declared.Form.the-variants.{Old, New}
 use Rattle.image.specs.Image.{rateField, fieldLength, imageLength, fieldBytes, imageOf, boardFrom}
 use Rattle.image.specs.Words.{BoardWords}
-use Rattle.image.proofs.Fields.{field-length, new-image}
+use Rattle.image.proofs.Fields.{field-length, front-image}
 use Rattle.parking.specs.declared.Reading.{Reading}
 use Rattle.parking.specs.declared.Writing.{Writing}
 use Rattle.parking.specs.Parking.{
@@ -159,7 +159,7 @@ pub moved-forward : (l : List ℕ) → Bytes l → (room : ℕ) → moveRefusal 
     movedImage New l ≡ fieldBytes rateField (48_000_000 ∷ []) ++ l
 unfolding boardFrom
 moved-forward l bytes room e =
-    new-image (boardIn Old l)
+    front-image New (boardIn Old l)
     ∙ ap (λ (m : List ℕ). fieldBytes rateField (48_000_000 ∷ []) ++ m)
     (sym (only-in Old l bytes (accepted New l room e .image)))
 
@@ -169,5 +169,5 @@ pub moved-back : (l : List ℕ) → Bytes l → (room : ℕ) → moveRefusal Old
 moved-back l bytes room e =
     let first = fieldBytes rateField (rateOf (boardIn New l .clock) ∷ []) in
     sym
-    (ap (drop 7) (only-in New l bytes (accepted Old l room e .image) ∙ new-image (boardIn New l))
+    (ap (drop 7) (only-in New l bytes (accepted Old l room e .image) ∙ front-image New (boardIn New l))
     ∙ drop-at first (imageOf Old (boardIn New l)) 7 (field-length rateField (rateOf (boardIn New l .clock) ∷ [])))

@@ -1,10 +1,16 @@
--- Not sentences of S-1 but what the code computes of the latches' members.
+-- Not sentences of S-1 or S-8 but what the code computes: of the latches' members, and of S-1's fields alone.
 use Prim.Native.Nat.{ℕ, _+_}
-use mathlib.Core.Bool.{Bool, _&&_, _||_}
-use mathlib.Core.List.{List}
+use mathlib.Core.Bool.{Bool, cond, _&&_, _||_}
+use mathlib.Core.List.{List, []}
 use lib.ListN.{getD}
 use lib.Dec.{leb, eqb}
-use Rattle.image.specs.Image.{flagIs}
+use Rattle.board.specs.Fields.{freshBoard}
+use Rattle.board.specs.Board.{sound}
+use Rattle.board.specs.Calls.{notSound}
+use Rattle.image.specs.declared.Form.{Form}
+use Rattle.image.specs.Image.{flagIs, emptiesHold0, boardFrom}
+use Rattle.parking.specs.declared.Reading.{Reading}
+use Rattle.parking.specs.Parking.{defaultForm, imageMalformed}
 
 -- the held flags of the latches' members
 abbrev pub heldFlags : List ℕ → Bool
@@ -20,3 +26,17 @@ abbrev pub sixHold0 : List ℕ → Bool
 sixHold0 ms =
     ((emptyHolds0 0 ms && emptyHolds0 2 ms) && (emptyHolds0 4 ms && emptyHolds0 6 ms))
     && (emptyHolds0 8 ms && emptyHolds0 10 ms)
+
+-- the refusal of members of S-1's fields, with a rate, where their bytes are formed or not
+abbrev pub membersRefusal : ℕ → Bool → List (List ℕ) → ℕ
+membersRefusal rate form mss =
+    cond form (cond (emptiesHold0 (getD mss 5 []) && sound (boardFrom rate mss)) 0 notSound) imageMalformed
+
+-- and what is read of them, in a form
+unfoldable pub membersRead : Form → ℕ → Bool → List (List ℕ) → Reading
+membersRead f rate form mss =
+    record {
+      board = cond (eqb (membersRefusal rate form mss) 0) (boardFrom rate mss) freshBoard;
+      form = cond (eqb (membersRefusal rate form mss) 0) f defaultForm;
+      refusal = membersRefusal rate form mss;
+    }

@@ -12,7 +12,7 @@ ghost use Rattle.image.specs.Image.{channelField, clockField, latchesField, con
 ghost use Rattle.image.specs.Image.{fieldLength, imageLength, formed, fieldAt, flagIs, boardFrom};
 ghost use Rattle.image.specs.Image.{timerFrom, clockFrom, latchFrom, latchesFrom, emptiesHold0, controllerFrom};
 ghost use Rattle.image.specs.declared.Form.the-variants.{Old};
-ghost use Rattle.parking.specs.Parking.{said, emptiesIn, boardIn};
+ghost use Rattle.parking.specs.Parking.{said, emptiesIn};
 use board::Board;
 use board::CountLatch;
 use board::Latch;
@@ -37,13 +37,11 @@ use image::CONTROLLER_AT;
 use image::CONTROLLER_LENGTH;
 use image::CONTROLLER_TAG;
 use image::CONTROLLER_WIDTHS;
-use image::Form;
 use image::LATCHES_AT;
 use image::LATCHES_LENGTH;
 use image::LATCHES_TAG;
 use image::LATCHES_WIDTHS;
 use image::RATE_LENGTH;
-use image::RATE_SIZE;
 use image::RATE_TAG;
 use wide::fields;
 use wide::flags::both;
@@ -72,9 +70,10 @@ struct ControllerSaid {
     controller: IrqController,
 }
 
-struct RateSaid {
-    formed: bool,
-    rate: u32,
+// The field ahead of them in the new form: whether it stands there, and its rate.
+pub struct RateSaid {
+    pub formed: bool,
+    pub rate: u32,
 }
 
 // What an image says: whether it has the form of one, whether its empty latches hold 0, and its board.
@@ -295,7 +294,7 @@ fn controller_in(image: &[u8]) -> ControllerSaid
 }
 
 // What the bytes of an image in the old form say, the board at a rate.
-fn board_in(rate: u32, image: &[u8]) -> BoardSaid
+pub fn board_in(rate: u32, image: &[u8]) -> BoardSaid
     requires { ⌜ length (now image) ≡ imageLength Old ⌝ }
     ensures { λ r. ⌜ (r .formed ≡ formed Old (now (image .entry)))
         × ((r .«empties_hold_0» ≡ emptiesIn Old (now (image .entry)))
@@ -333,7 +332,7 @@ fn board_in(rate: u32, image: &[u8]) -> BoardSaid
 }
 
 // The field that the new form begins with.
-fn rate_in(image: &[u8]) -> RateSaid
+pub fn rate_in(image: &[u8]) -> RateSaid
     requires { ⌜ fieldLength rateField ≤ length (now image) ⌝ }
     ensures { λ r. ⌜ (r .formed ≡ fieldAt (now (image .entry)) 0 rateField)
         × (r .rate ≡ getD (membersIn rateField (now (image .entry)) 0) 0 0) ⌝ }
@@ -341,27 +340,5 @@ fn rate_in(image: &[u8]) -> RateSaid
     RateSaid {
         formed: has_header(image, 0, RATE_TAG, RATE_LENGTH),
         rate: fields::get(image, HEADER_LENGTH, RATE_LENGTH) as u32,
-    }
-}
-
-// What the bytes of an image in a form say: in the new one, behind the rate's field stand the bytes of the old.
-pub fn said_in(form: Form, image: &[u8]) -> BoardSaid
-    requires { ⌜ length (now image) ≡ imageLength form ⌝ }
-    ensures { λ r. ⌜ (r .formed ≡ formed form (now (image .entry)))
-        × ((r .«empties_hold_0» ≡ emptiesIn form (now (image .entry)))
-        × (r .board ≡ boardIn form (now (image .entry)))) ⌝ }
-{
-    match form {
-        Form::Old => board_in(Board::RATE, image),
-        Form::New => {
-            let first = rate_in(image);
-            let rest = board_in(first.rate, &image[RATE_SIZE..]);
-            let board = rest.board;
-            BoardSaid {
-                formed: both(first.formed, rest.formed),
-                empties_hold_0: rest.empties_hold_0,
-                board,
-            }
-        }
     }
 }

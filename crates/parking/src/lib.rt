@@ -1,15 +1,20 @@
 // Parked boards: a sound board written to a lent buffer as its image, in a form, an image read back, and an image moved
 // from one form to the other.
 ghost use mathlib.Core.Path.{_≡_};
+ghost use mathlib.Core.Bool.{_&&_};
 ghost use lib.ListN.{length};
 ghost use Rattle.board.specs.Fields.{freshBoard};
-ghost use Rattle.image.specs.Image.{imageOf};
+ghost use Rattle.image.specs.declared.Form.the-variants.{Old};
+ghost use Rattle.image.specs.Image.{imageOf, formed};
 ghost use Rattle.image.specs.Words.{BoardWords};
 ghost use Rattle.parking.specs.Parking.{defaultForm, formTakes, parkingRefusal};
-ghost use Rattle.parking.specs.Parking.{writingOf, bufferAfter, readingIn, readingOf};
+ghost use Rattle.parking.specs.Parking.{writingOf, bufferAfter, said, readingIn, readingOf};
+ghost use Rattle.parking.specs.CodeReads.{membersRead};
 use board::Board;
 use image::Form;
 use image::NEW_LENGTH;
+use image::OLD_LENGTH;
+use image::RATE_SIZE;
 use image::image_length;
 use wide::flags::both;
 
@@ -107,15 +112,16 @@ fn refused(refusal: u8) -> Reading
     }
 }
 
-// Reads the board whose image in a form a lent slice is.
-fn read_in(form: Form, image: &[u8]) -> Reading
-    ensures { λ r. ⌜ r ≡ readingIn form (now (image .entry)) ⌝ }
+// Reads S-1's fields, of a board at a rate, in an image of a form; ahead says whether what stands ahead of them is formed.
+fn read_fields(form: Form, rate: u32, ahead: bool, fields: &[u8]) -> Reading
+    ensures { λ r. ⌜ r ≡ membersRead form rate (ahead && formed Old (now (fields .entry)))
+        (said Old (now (fields .entry))) ⌝ }
 {
-    if image.len() != image_length(form) {
+    if fields.len() != OLD_LENGTH {
         return refused(IMAGE_MALFORMED);
     }
-    let said = get::said_in(form, image);
-    if !said.formed {
+    let said = get::board_in(rate, fields);
+    if !both(ahead, said.formed) {
         return refused(IMAGE_MALFORMED);
     }
     let board = said.board;
@@ -135,8 +141,19 @@ pub fn read(image: &[u8]) -> Reading
     ensures { λ r. ⌜ r ≡ readingOf (now (image .entry)) ⌝ }
 {
     if image.len() == NEW_LENGTH {
-        read_in(Form::New, image)
+        let first = get::rate_in(image);
+        read_fields(Form::New, first.rate, first.formed, &image[RATE_SIZE..])
     } else {
-        read_in(Form::Old, image)
+        read_fields(Form::Old, Board::RATE, true, image)
     }
+}
+
+// Reads the board whose image in one form a lent slice is.
+fn read_in(form: Form, image: &[u8]) -> Reading
+    ensures { λ r. ⌜ r ≡ readingIn form (now (image .entry)) ⌝ }
+{
+    if image.len() != image_length(form) {
+        return refused(IMAGE_MALFORMED);
+    }
+    read(image)
 }
