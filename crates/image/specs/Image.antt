@@ -1,7 +1,7 @@
 -- S-1, 'Parked boards': the image of a board. 'Each channel is one field with tag 20 (hexadecimal, as all tags); then
 -- 21 timer enable to host nanoseconds, 22 latches, 23 controller. A field is tag, two-byte length, and the members in
--- document 01's order and widths, big-endian.' S-8, 'Parked boards with a rate': this is the old form, and 'The new form
--- begins with a field, tag 24, four bytes of rate.'
+-- document 01's order and widths, big-endian.' S-8, 'Parked boards with a rate': this is the old form, and 'The new
+-- form begins with a field, tag 24, four bytes of rate.'
 use Prim.Native.Nat.{ℕ, _+_}
 use mathlib.Core.Bool.{Bool, true, cond, _&&_, _||_}
 use mathlib.Core.List.{List, [], _∷_, _++_, map}
@@ -275,8 +275,8 @@ abbrev pub boardMembers : Form → List (List ℕ) → List (List ℕ)
 boardMembers Old mss = mss
 boardMembers New mss = drop 1 mss
 
--- the rate that the members of each form say: 'Images from S-1 have no rate', and are 48,000,000's, which a fresh board
--- has of which no rate is said
+-- the rate that the members of each form say: 'Images from S-1 have no rate', and move to the new form 'with
+-- 48,000,000', the rate of a fresh board of which none is said
 abbrev pub rateFrom : Form → List (List ℕ) → ℕ
 rateFrom Old mss = freshRate
 rateFrom New mss = getD (getD mss 0 []) 0 0

@@ -43,7 +43,8 @@ pub parked-back : (f : Form) (b : Board) → sound b ≡ true → BoardWords b �
 unfolding parkedAndRead writingOf
 parked-back f b s w =
     either (formTakes f (rateOf (b .clock)))
-    (λ t. rw (s, t, le-ltb (imageLength f) (imageLength f) (omega arith)) (ap (λ (x : Reading). x .board) (read-back f b s t w)))
+    (λ t. rw (s, t, le-ltb (imageLength f) (imageLength f) (omega arith))
+    (ap (λ (x : Reading). x .board) (read-back f b s t w)))
     (λ t. rw (s, t))
 
 -- the calls without the parkings

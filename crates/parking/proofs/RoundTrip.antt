@@ -1,6 +1,6 @@
--- S-1, 'Parked boards', and S-8, 'Parked boards with a rate': a sound board that is written in a form that takes its rate
--- and read back is the same board, and an accepted image is the only image of its board in its form. `Bytes` says of a
--- list what a machine's bytes are. Assumes nothing.
+-- S-1, 'Parked boards', and S-8, 'Parked boards with a rate': a sound board that is written in a form that takes its
+-- rate and read back is the same board, and an accepted image is the only image of its board in its form. `Bytes` says
+-- of a list what a machine's bytes are. Assumes nothing.
 use Prim.Native.Nat.{ℕ}
 use native.Mathlib.Omega.{arith}
 use native.Mathlib.Nat.{zero-add}

@@ -16,8 +16,8 @@ abbrev pub otherForm : Form → Form
 otherForm Old = New
 otherForm New = Old
 
--- 'a move checks its image as reading does, and 12 is also one already in the target form'; '16, another rate moved back
--- .., after 12 and 1 and before 11'
+-- 'a move checks its image as reading does, and 12 is also one already in the target form'; '16, another rate moved
+-- back .., after 12 and 1 and before 11'
 unfoldable pub moveRefusal : Form → List ℕ → ℕ → ℕ
 moveRefusal to l room =
     cond (eqb (formRefusal (otherForm to) l) 0)

@@ -35,8 +35,8 @@ pub struct Writing {
     pub written: usize,
 }
 
-// The board that was read and the form of its image, a fresh board and the form that is written unless the old is chosen
-// where the reading is refused, and the refusal, 0 for none.
+// The board that was read and the form of its image, and the refusal, 0 for none. Where the reading is refused, the
+// board is a fresh one, and the form that which is written unless the old is chosen.
 pub struct Reading {
     pub board: Board,
     pub form: Form,
@@ -112,7 +112,8 @@ fn refused(refusal: u8) -> Reading
     }
 }
 
-// Reads S-1's fields, of a board at a rate, in an image of a form; ahead says whether what stands ahead of them is formed.
+// Reads S-1's fields, of a board at a rate, in an image of a form; `ahead` says whether what stands ahead of them is
+// formed.
 fn read_fields(form: Form, rate: u32, ahead: bool, fields: &[u8]) -> Reading
     ensures { λ r. ⌜ r ≡ membersRead form rate (ahead && formed Old (now (fields .entry)))
         (said Old (now (fields .entry))) ⌝ }

@@ -22,8 +22,8 @@ fn other_form(to: Form) -> Form
     }
 }
 
-// Moves an image to a form, at the start of a lent buffer. The image is checked as reading checks it, in the other form:
-// one that is already in the target form is malformed.
+// Moves an image to a form, at the start of a lent buffer. The image is checked as reading checks it, in the other
+// form: one that is already in the target form is malformed.
 pub fn move_image(to: Form, image: &[u8], buffer: &mut [u8]) -> Moved
     ensures { λ r. ⌜ r ≡ moveOf to (now (image .entry)) (length (now (buffer .entry))) ⌝ }
     ensures { λ _. ⌜ now (buffer .exit) ≡ movedBuffer to (now (image .entry)) (now (buffer .entry)) ⌝ }

@@ -14,9 +14,13 @@ use Rattle.parking.specs.Parking.{defaultForm, writingOf, bufferAfter}
 use Rattle.resume.specs.declared.Resumed.{Resumed}
 use Rattle.pec.specs.Parked.{freshWriting, freshBuffer}
 
--- a writing that is told: its refusal, the buffer and the bytes written
-pub told : {P : Type 0} (r s : Writing) → r ≡ s → P → (r .refusal ≡ s .refusal) × (P × (r .written ≡ s .written))
-told r s e p = (ap (λ (x : Writing). x .refusal) e, (p, ap (λ (x : Writing). x .written) e))
+-- an answer of which two numbers are told, with what is told between them
+told : {A P : Type 0} (first second : A → ℕ) (r s : A) → r ≡ s → P → (first r ≡ first s) × (P × (second r ≡ second s))
+told first second r s e p = (ap first e, (p, ap second e))
+
+-- a writing: its refusal, the buffer and the bytes written
+written : {P : Type 0} (r s : Writing) → r ≡ s → P → (r .refusal ≡ s .refusal) × (P × (r .written ≡ s .written))
+written r s e p = told (λ (x : Writing). x .refusal) (λ (x : Writing). x .written) r s e p
 
 -- a board that is fresh
 pub parked-fresh : (b : Board) (r : Writing) (old new : List ℕ) → b ≡ freshBoard →
@@ -25,7 +29,7 @@ pub parked-fresh : (b : Board) (r : Writing) (old new : List ℕ) → b ≡ fres
     × ((new ≡ bufferAfter defaultForm freshBoard old)
     × (r .written ≡ writingOf defaultForm freshBoard (length old) .written))
 parked-fresh b r old new e f g =
-    told r (writingOf defaultForm freshBoard (length old))
+    written r (writingOf defaultForm freshBoard (length old))
     (f ∙ ap (λ (x : Board). writingOf defaultForm x (length old)) e)
     (g ∙ ap (λ (x : Board). bufferAfter defaultForm x old) e)
 
@@ -43,7 +47,7 @@ module _ (rate : ℕ) (a : EmptyAnswer) (made : a ≡ freshOf rate) (old : List 
       × ((new ≡ freshBuffer rate old) × (r .written ≡ freshWriting rate (length old) .written))
   unfolding freshWriting freshBuffer
   fresh-written z r new f g =
-      rw (← made, eq-eqb (a .refusal) 0 z) (told r (writingOf defaultForm (a .board) (length old)) f g)
+      rw (← made, eq-eqb (a .refusal) 0 z) (written r (writingOf defaultForm (a .board) (length old)) f g)
 
 -- a run over a parked board: its refusal, the image, the answers, and its counts
 pub parked-run : {P Q : Type 0} (r s : Resumed) → r ≡ s → P → Q →
@@ -63,6 +67,6 @@ parked-run r s e p q = (
   ),
 )
 
--- a move: its refusal, the buffer and the bytes written
+-- a move, the same
 pub moved : {P : Type 0} (r s : Moved) → r ≡ s → P → (r .refusal ≡ s .refusal) × (P × (r .written ≡ s .written))
-moved r s e p = (ap (λ (x : Moved). x .refusal) e, (p, ap (λ (x : Moved). x .written) e))
+moved r s e p = told (λ (x : Moved). x .refusal) (λ (x : Moved). x .written) r s e p

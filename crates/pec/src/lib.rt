@@ -184,8 +184,8 @@ pub extern "C" fn pec_listing(
     listing::listing(answers, calls, refusal, used, text)
 }
 
-// Parks a fresh board: writes its image, in the new form, at the start of a lent buffer. Gives the bytes written, and as
-// its result the refusal: 11 for a buffer that is too short, 0 for none.
+// Parks a fresh board: writes its image, in the new form, at the start of a lent buffer. Gives the bytes written, and
+// as its result the refusal: 11 for a buffer that is too short, 0 for none.
 #[no_mangle]
 pub extern "C" fn pec_fresh(image: &mut [u8], written: &mut usize) -> u8
     ensures { λ r. ⌜ r ≡ writingOf defaultForm freshBoard (length (now (image .entry))) .refusal ⌝ }
@@ -252,8 +252,8 @@ pub extern "C" fn pec_image_refusal(image: &[u8]) -> u8
     r.refusal
 }
 
-// Runs a list over a parked board, and writes the board that the run left back into the image, in the form that it has. A
-// refused image, by 12 or 1, changes nothing and gives counts 0; otherwise the result is the run's refusal.
+// Runs a list over a parked board, and writes the board that the run left back into the image, in the form that it has.
+// A refused image, by 12 or 1, changes nothing and gives counts 0; otherwise the result is the run's refusal.
 #[no_mangle]
 pub extern "C" fn pec_run_parked(
     image: &mut [u8],

@@ -86,7 +86,8 @@ module _ (image l a : List ℕ) (bytes : (i : ℕ) → getD image i 0 < 256) (li
     same-image : w ≡ imageOf (readingOf image .form) (runParked image l (length a) .outcome .board)
     same-image =
         written
-        ∙ ap₂ (λ (f : Form) (y : Outcome). bufferAfter f (y .board) image) (ap (λ (y : Reading). y .form) e) same-outcome
+        ∙ ap₂ (λ (f : Form) (y : Outcome). bufferAfter f (y .board) image)
+        (ap (λ (y : Reading). y .form) e) same-outcome
         ∙ written-over (readingOf image .form) (runParked image l (length a) .outcome .board) image left-sound left-rate
         (accepted-long image accepted)
 
