@@ -256,10 +256,11 @@ pub moves :
     × (moveRefusal Old (freshIn New 48_000_000) 268 ≡ 11)
     × (moveRefusal Old (freshIn New 12_000_000) 268 ≡ 16)
     × (moveRefusal Old (freshIn New 24_000_000) 268 ≡ 1)
+    × (moveRefusal Old (set (freshIn New 12_000_000) 2 5) 268 ≡ 12)
     × (moveRefusal Old (freshIn Old 48_000_000) 268 ≡ 12)
     × (movedImage Old (freshIn New 48_000_000) ≡ freshIn Old 48_000_000)
 unfolding
     sound soundParts line foldFrom lineOf soundTimer soundRate soundOffset soundAlarm clockParts alarmAhead
     soundClock imageOf fieldsBytes fieldBytes recordOf membersBytes be beAt membersAt flagsHold fieldAt fieldsAt
     membersFrom boardFrom formRefusal moveRefusal
-moves = (refl, refl, refl, refl, refl, refl, refl, refl, refl, refl)
+moves = (refl, refl, refl, refl, refl, refl, refl, refl, refl, refl, refl)

@@ -40,7 +40,8 @@ pub enum Refusal {
     DeadlineTooLarge = 13,
     /// Previews: 'the clock is enabled in realtime'.
     ClockInRealtime = 14,
-    /// A fresh board: 'another rate' than [`RATES`](crate::RATES). In parking it no longer arises.
+    /// A fresh board, to be run or to be parked: 'another rate' than [`RATES`](crate::RATES). A board that is there is
+    /// not refused with it when it is parked.
     UnsupportedRate = 15,
     /// 'Another rate moved back or parked in the old form', which has no rate: its board is at
     /// [`DEFAULT_RATE`](crate::DEFAULT_RATE).

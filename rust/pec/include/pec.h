@@ -55,7 +55,7 @@ size_t pec_listing(const uint8_t *answers, size_t answers_length, size_t calls, 
 
 /* The bytes of an image, which is a board parked: eight fields, each a tag, a length of two bytes and its members in
    order and big-endian. The first field, of tag 24 in hexadecimal, is the board's rate in four bytes. The old form,
-   which was written before boards had a rate, has the other seven fields alone, and its board is at PEC_RATE_DEFAULT.
+   which was written before images had a rate, has the other seven fields alone, and its board is at PEC_RATE_DEFAULT.
 
    Functions that read an image take either form. The length of an image that is accepted tells its form: it is
    PEC_IMAGE_SIZE or PEC_OLD_IMAGE_SIZE. What is written is the new form, but by `pec_move_back`, and by

@@ -5,9 +5,9 @@
 //! and its answers are bytes that the caller lends; the types of the crate rust/calls, which stand here too, make and
 //! read them. [`run`] takes a fresh board, and [`run_at`] one of another rate; a [`Board`], of any of the rates, goes
 //! on from list to list, and its image keeps it while no program runs; [`Board::preview`] tells of many totals of
-//! cycles whether its line would be high after each. Images that were parked before boards had a rate are read too, and
-//! [`move_forward`] and [`move_back`] lead from [`Form`] to form. A [`Controller`] is the interrupt controller by
-//! itself, and a [`Dispatcher`] above it serves its sources in turn.
+//! cycles whether its line would be high after each. Images that were parked before images had a rate are read too, and
+//! [`move_forward`] and [`move_back`] move an image from one [`Form`] to the other. A [`Controller`] is the interrupt
+//! controller by itself, and a [`Dispatcher`] above it serves its sources in turn.
 //!
 //! ```
 //! use pec::{answers, list_of, Answer, Call, Refusal};

@@ -96,7 +96,7 @@ pub fn park_fresh_at(rate: u32, buffer: &mut [u8]) -> Result<usize, Refusal> {
 /// ```
 /// use pec::{image_form, move_back, move_forward, Board, Form, Refusal, IMAGE_SIZE};
 ///
-/// // An image that was parked before boards had a rate.
+/// // An image as it was parked before images had a rate.
 /// let old = Board::fresh().old_image()?;
 /// assert_eq!(image_form(&old), Ok(Form::Old));
 /// let mut new = [0; IMAGE_SIZE];

@@ -143,7 +143,8 @@ fn images_are_moved_from_form_to_form_from_c_and_from_cpp() {
          12 MHz: forward {malformed} back 16 0 16 0 16 0\n\
          12 MHz, unsound: forward {malformed} back {unsound}\n\
          read: 1\n\
-         another rate: forward {malformed} back {unsound}\n"
+         another rate: forward {malformed} back {unsound}\n\
+         12 MHz, cut: forward {malformed} back {malformed}\n"
     );
     for language in [C, CPP] {
         assert_eq!(

@@ -146,6 +146,8 @@ static void another_rate(void)
     image[RATE_AT + 3] ^= 1;
     printf("read: %u\n", pec_image_refusal(image, sizeof image));
     moves("another rate", image, sizeof image);
+    image[RATE_AT + 3] ^= 1;
+    moves("12 MHz, cut", image, sizeof image - 1);
 }
 
 int main(void)

@@ -117,6 +117,7 @@ fn moves_are_refused_in_order_and_leave_the_buffer() {
     let unsound_new = replaced(new, TIMER_ENABLE, 16);
     let unsound_old = replaced(old, TIMER_ENABLE - 7, 16);
     let unsound_slow = replaced(slow, TIMER_ENABLE, 16);
+    let malformed_slow = replaced(slow, 0, 0x25);
     let no_rate = replaced(new, RATE + 3, 1);
     let full = IMAGE_SIZE;
     for (image, length, forward, back) in [
@@ -150,7 +151,13 @@ fn moves_are_refused_in_order_and_leave_the_buffer() {
             Some(Refusal::MalformedImage),
         ),
         (&[], 0, Some(Refusal::MalformedImage), Some(Refusal::MalformedImage)),
-        // 1 ahead of 16, 16 ahead of 11.
+        // 12 ahead of 16, 1 ahead of 16, 16 ahead of 11.
+        (
+            &malformed_slow,
+            full,
+            Some(Refusal::MalformedImage),
+            Some(Refusal::MalformedImage),
+        ),
         (
             &unsound_slow,
             full,

@@ -10,6 +10,9 @@ use pec::{
     DEFAULT_RATE, IMAGE_SIZE, OLD_IMAGE_SIZE,
 };
 
+/// The digest of `SHA256SUMS`.
+const DIGESTS: &str = "025af03d3db7b364ffdbe1db6217390bf1a0f63f39ed05e7c9d64228f3744af4";
+
 fn folder() -> PathBuf {
     Path::new(env!("CARGO_MANIFEST_DIR")).join("tests/images")
 }
@@ -52,6 +55,14 @@ fn the_images_are_as_the_library_of_s_1_wrote_them() {
     assert!(output.status.success(), "{text}");
     // A line that is missing would leave its file unchecked.
     assert_eq!(text.lines().filter(|line| line.ends_with(".image: OK")).count(), count);
+    // The list of digests is the one of then, too.
+    let output = Command::new("sha256sum")
+        .arg("SHA256SUMS")
+        .current_dir(folder())
+        .output()
+        .expect("sha256sum runs");
+    let text = String::from_utf8(output.stdout).expect("sha256sum prints text");
+    assert_eq!(text.split_whitespace().next(), Some(DIGESTS));
 }
 
 #[test]

@@ -16,7 +16,7 @@ use crate::preview::preview_parked;
 pub type Previewer<'a> = dyn Fn(&[u8], &[u64], &mut [u8]) -> Result<(), Refusal> + Sync + 'a;
 
 /// Random sound boards of a seed in a form at a rate, beside the one that its list leaves.
-const BOARDS: usize = 4;
+const BOARDS: usize = 8;
 
 /// Random totals of a board, beside those about its deadline.
 const RANDOM: usize = 12;

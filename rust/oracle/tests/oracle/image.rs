@@ -420,6 +420,8 @@ fn moves_are_refused_in_order_and_leave_the_buffer() {
     };
     let new = |fields: &Fields| image_of(Form::New, fields);
     let old = |fields: &Fields| image_of(Form::Old, fields);
+    let mut other_tag = new(&slow);
+    other_tag[0] = 0x25;
     use Refusal::*;
     for (to, image, length, refusal) in [
         // Of neither form; of the target form already, sound or not, which comes before 1.
@@ -429,6 +431,9 @@ fn moves_are_refused_in_order_and_leave_the_buffer() {
         (Form::New, new(&unsound), 0, MalformedImage),
         (Form::Old, old(&marked()), 276, MalformedImage),
         (Form::Old, old(&unsound), 0, MalformedImage),
+        // Also where the rate is another.
+        (Form::Old, new(&slow)[..275].to_vec(), 0, MalformedImage),
+        (Form::Old, other_tag, 276, MalformedImage),
         // Then 1, then 16, then 11.
         (Form::New, old(&unsound), 275, UnsoundBoard),
         (Form::Old, new(&unsound), 268, UnsoundBoard),
@@ -493,7 +498,7 @@ fn the_images_that_the_library_of_s_1_wrote_have_their_deadlines() {
         let (form, fields) = read_image(&image).expect("it is read for ever");
         assert_eq!((form, fields.rate), (Form::Old, F), "{name}");
         assert_eq!(image_of(Form::Old, &fields), image, "{name}");
-        // What was recorded then is what the rules give now. The 64-bit deadline is the Rust's.
+        // What was recorded then is what the rules give now.
         let due = deadline(&mut Board::from_fields(&fields));
         assert_eq!(due.is_some(), present == "1", "{name}");
         assert_eq!(due.unwrap_or(0).to_string(), exact, "{name}");

@@ -634,6 +634,14 @@ fn faults_of_a_fresh_board_that_is_parked_are_found() {
     }
 }
 
+/// A fault that only an image of the new form's length that is malformed and has another rate shows.
+const BACK_FAULT_OF_FORM: (&str, Move) = ("16 before 12", |image, moved| {
+    if image.len() == IMAGE_SIZE && formed(image).is_none() && image[RATE] != F.to_be_bytes() {
+        return Err(Refusal::RateNeedsNewForm);
+    }
+    move_back(image, moved)
+});
+
 #[test]
 fn faults_of_moves_are_found() {
     let forward = FORWARD_FAULTS.map(|(name, forward)| (name, Parking { forward, ..RULES }, "form New"));
@@ -651,7 +659,8 @@ fn faults_of_moves_are_found() {
 fn faults_of_moves_that_room_does_not_show_are_found_in_damaged_images_and_by_the_seeds() {
     let shown = |name: &str| !name.starts_with("11") && name != "a short buffer filled";
     let forward = FORWARD_FAULTS.map(|(name, forward)| (name, Parking { forward, ..RULES }));
-    let back = BACK_FAULTS.map(|(name, back)| (name, Parking { back, ..RULES }));
+    let back = BACK_FAULTS.into_iter().chain([BACK_FAULT_OF_FORM]);
+    let back = back.map(|(name, back)| (name, Parking { back, ..RULES }));
     for (name, parking) in forward.into_iter().chain(back).filter(|(name, _)| shown(name)) {
         all_damaged(&parking).expect_err(name);
         // The boards of the seeds are sound.
