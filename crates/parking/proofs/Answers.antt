@@ -4,7 +4,7 @@ use native.Mathlib.Omega.{arith}
 use mathlib.Core.Path.{_≡_, refl, sym, ap, ap₂, _∙_}
 use mathlib.Core.Bool.{Bool, true, false, _&&_, and-true, and-assoc}
 use mathlib.Core.List.{List, [], _++_}
-use lib.ListN.{length, getD, take, drop, length-drop}
+use lib.ListN.{length, getD, take, drop}
 use lib.Seq.{sets}
 use lib.Dec.{ltb, eqb}
 use borrow.Author.Tests.{eq-eqb, ne-eqb, ltb-false}
@@ -87,9 +87,6 @@ module _ (l : List ℕ) where
 module _ (l : List ℕ) (long : length l ≡ imageLength New) where
   abbrev rest : List ℕ
   rest = take (length l - 7) (drop 7 l)
-
-  pub rest-long : length rest ≡ imageLength Old
-  rest-long = ap length (part-rest l 7) ∙ omega (arith, long, length-drop 7 l)
 
   rest-formed : formed Old rest ≡ fieldsAt l 7 layout
   rest-formed = ap (formed Old) (part-rest l 7) ∙ formed-behind l 7 (omega (arith, long)) 0 layout
