@@ -119,10 +119,19 @@ fn run_by(
 }
 
 /// Writes the image of a board in a form over the front of some bytes, as far as they go.
-fn put(form: Form, fields: &Fields, bytes: &mut [u8]) {
-    let image = image_of(form, fields);
+fn put(form: Form, fields: Fields, bytes: &mut [u8]) {
+    let image = image_of(form, &fields);
     let length = image.len().min(bytes.len());
     bytes[..length].copy_from_slice(&image[..length]);
+}
+
+/// A board at 48,000,000, or a refusal of one at another rate.
+fn if_default(fields: Fields, refusal: Refusal) -> Result<Fields, Refusal> {
+    if fields.rate == F {
+        Ok(fields)
+    } else {
+        Err(refusal)
+    }
 }
 
 /// What a run over an image does in the place of the rules.
@@ -134,7 +143,7 @@ const RUN_FAULTS: [(&str, Run); 8] = [
             image,
             (list, answers),
             |_, fields| Ok(fields),
-            |_, fields, image| put(Form::Old, &fields, image),
+            |_, fields, image| put(Form::Old, fields, image),
         )
     }),
     ("the new form written back for an old one", |image, list, answers| {
@@ -142,7 +151,7 @@ const RUN_FAULTS: [(&str, Run); 8] = [
             image,
             (list, answers),
             |_, fields| Ok(fields),
-            |_, fields, image| put(Form::New, &fields, image),
+            |_, fields, image| put(Form::New, fields, image),
         )
     }),
     ("48,000,000 whatever the rate", |image, list, answers| {
@@ -150,7 +159,7 @@ const RUN_FAULTS: [(&str, Run); 8] = [
             image,
             (list, answers),
             |_, fields| Ok(Fields { rate: F, ..fields }),
-            |form, fields, image| put(form, &fields, image),
+            put,
         )
     }),
     (
@@ -161,7 +170,7 @@ const RUN_FAULTS: [(&str, Run); 8] = [
                 image,
                 (list, answers),
                 |_, fields| Ok(Fields { rate: F, ..fields }),
-                |form, fields, image| put(form, &Fields { rate, ..fields }, image),
+                |form, fields, image| put(form, Fields { rate, ..fields }, image),
             )
         },
     ),
@@ -170,7 +179,7 @@ const RUN_FAULTS: [(&str, Run); 8] = [
             image,
             (list, answers),
             |_, fields| Ok(fields),
-            |form, fields, image| put(form, &Fields { rate: F, ..fields }, image),
+            |form, fields, image| put(form, Fields { rate: F, ..fields }, image),
         )
     }),
     ("1,000,000 of an old image", |image, list, answers| {
@@ -188,35 +197,23 @@ const RUN_FAULTS: [(&str, Run); 8] = [
                     fields
                 })
             },
-            |form, fields, image| put(form, &fields, image),
+            put,
         )
     }),
     ("15 in parking", |image, list, answers| {
         run_by(
             image,
             (list, answers),
-            |_, fields| {
-                if fields.rate == F {
-                    Ok(fields)
-                } else {
-                    Err(Refusal::UnsupportedRate)
-                }
-            },
-            |form, fields, image| put(form, &fields, image),
+            |_, fields| if_default(fields, Refusal::UnsupportedRate),
+            put,
         )
     }),
     ("16 in a run", |image, list, answers| {
         run_by(
             image,
             (list, answers),
-            |_, fields| {
-                if fields.rate == F {
-                    Ok(fields)
-                } else {
-                    Err(Refusal::RateNeedsNewForm)
-                }
-            },
-            |form, fields, image| put(form, &fields, image),
+            |_, fields| if_default(fields, Refusal::RateNeedsNewForm),
+            put,
         )
     }),
 ];
