@@ -97,11 +97,11 @@ twice Old = refl
 twice New = refl
 
 -- what is known of an accepted move
-record Accepted (to : Form) (l : List ℕ) (room : ℕ) : Type 0 where
+record Accepted (to : Form) (l : List ℕ) : Type 0 where
   image : formRefusal (otherForm to) l ≡ 0
   takes : formTakes to (rateOf (boardIn (otherForm to) l .clock)) ≡ true
 
-accepted : (to : Form) (l : List ℕ) (room : ℕ) → moveRefusal to l room ≡ 0 → Accepted to l room
+accepted : (to : Form) (l : List ℕ) (room : ℕ) → moveRefusal to l room ≡ 0 → Accepted to l
 unfolding moveRefusal
 accepted to l room e =
     either (eqb (formRefusal (otherForm to) l) 0)
@@ -117,7 +117,7 @@ module _ (to : Form) (l : List ℕ) (bytes : Bytes l) (room : ℕ) (e : moveRefu
   abbrev moved : Board
   moved = boardIn (otherForm to) l
 
-  a : Accepted to l room
+  a : Accepted to l
   a = accepted to l room e
 
   moved-sound : sound moved ≡ true
