@@ -1,8 +1,10 @@
 -- The fields that stand in some bytes: the code's tests of a field are the rule's. Assumes nothing.
-use Prim.Native.Nat.{ℕ, _+_, _^_, _≤_, _<_}
+use Prim.Native.Nat.{ℕ, suc, _+_, _^_, _≤_, _<_}
+use native.Mathlib.Omega.{arith}
+use native.Mathlib.Nat.{zero-add}
 use mathlib.Core.Path.{_≡_, refl, ap, ap₂, _∙_}
 use mathlib.Core.Bool.{Bool, true, _&&_, and-true, and-assoc}
-use mathlib.Core.List.{List}
+use mathlib.Core.List.{List, [], _∷_}
 use lib.ListN.{length, getD}
 use lib.Dec.{leb, eqb}
 use borrow.Author.Tests.{le-leb}
@@ -22,12 +24,17 @@ use Rattle.image.specs.Image.{
   fieldAt,
   emptiesHold0,
 }
-use Rattle.parking.specs.CodeReads.{heldFlags, emptyHolds0, sixHold0}
+use Rattle.parking.specs.CodeReads.{FitFrom, heldFlags, emptyHolds0, sixHold0}
 
--- a member of bytes fits its width, which has n values
-pub member-fits : (l ms : List ℕ) (at : ℕ) (ws : List ℕ) (k n : ℕ) → 256 ^ getD ws k 0 ≡ n →
-    ((i : ℕ) → getD l i 0 < 256) → ms ≡ membersAt l at ws → getD ms k 0 < n
-member-fits l ms at ws k n w bytes e = rw (e, ← w) (members-below l bytes at ws k)
+-- members that were taken out of bytes fit their widths
+pub members-fit : (l ms : List ℕ) (at : ℕ) (ws : List ℕ) → ((i : ℕ) → getD l i 0 < 256) → ms ≡ membersAt l at ws →
+    FitFrom 0 ws ms
+members-fit l ms at ws bytes e =
+    from 0 ws (λ i j p. rw (e, p, zero-add) (members-below l bytes at ws i))
+  where
+    from : (k : ℕ) (vs : List ℕ) → ((i j : ℕ) → j ≡ k + i → getD ms j 0 < 256 ^ getD vs i 0) → FitFrom k vs ms
+    from k [] h = tt
+    from k (v ∷ vs) h = (h 0 k (omega arith), from (suc k) vs (λ i j p. h (suc i) j (omega (arith, p))))
 
 -- a header and flags that hold, where there is room, are the field
 pub field-formed : (l : List ℕ) (at : ℕ) (f : Field) → at + fieldLength f ≤ length l → (h v r : Bool) →

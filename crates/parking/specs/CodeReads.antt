@@ -1,7 +1,8 @@
--- Not sentences of S-1 or S-8 but what the code computes: of the latches' members, and of S-1's fields alone.
-use Prim.Native.Nat.{ℕ, _+_}
+-- Not sentences of S-1 or S-8 but what the code computes: of members by their widths, of the latches' members, and of
+-- S-1's fields alone.
+use Prim.Native.Nat.{ℕ, suc, _+_, _^_, _<_}
 use mathlib.Core.Bool.{Bool, cond, _&&_, _||_}
-use mathlib.Core.List.{List, []}
+use mathlib.Core.List.{List, [], _∷_}
 use lib.ListN.{getD}
 use lib.Dec.{leb, eqb}
 use Rattle.board.specs.Fields.{freshBoard}
@@ -11,6 +12,11 @@ use Rattle.image.specs.declared.Form.{Form}
 use Rattle.image.specs.Image.{flagIs, emptiesHold0, boardFrom}
 use Rattle.parking.specs.declared.Reading.{Reading}
 use Rattle.parking.specs.Parking.{defaultForm, imageMalformed}
+
+-- the members from the one of index k on, each below the values of its width
+abbrev pub FitFrom : ℕ → List ℕ → List ℕ → Type 0
+FitFrom k [] ms = Unit {0}
+FitFrom k (w ∷ ws) ms = (getD ms k 0 < 256 ^ w) × FitFrom (suc k) ws ms
 
 -- the held flags of the latches' members
 abbrev pub heldFlags : List ℕ → Bool

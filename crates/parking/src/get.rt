@@ -7,7 +7,7 @@ ghost use lib.Dec.{eqb};
 ghost use Rattle.wide.specs.Fields.{beAt};
 ghost use Rattle.format.specs.Format.{sum, membersAt};
 ghost use Rattle.image.specs.CodeTables.{Laid, clockAt, latchesAt, controllerAt, membersIn};
-ghost use Rattle.parking.specs.CodeReads.{heldFlags, sixHold0};
+ghost use Rattle.parking.specs.CodeReads.{FitFrom, heldFlags, sixHold0};
 ghost use Rattle.image.specs.Image.{channelField, clockField, latchesField, controllerField, rateField};
 ghost use Rattle.image.specs.Image.{fieldLength, imageLength, formed, fieldAt, flagIs, boardFrom};
 ghost use Rattle.image.specs.Image.{timerFrom, clockFrom, latchFrom, latchesFrom, emptiesHold0, controllerFrom};
@@ -83,10 +83,11 @@ pub struct BoardSaid {
     pub board: Board,
 }
 
-// The members from an index on, each of its width.
+// The members from an index on, each of its width, which it fits.
 fn get_members(image: &[u8], at: usize, widths: &[usize], members: &mut [u64])
     requires { ⌜ Laid (now widths) (now members) × (at + sum (now widths) ≤ length (now image)) ⌝ }
-    ensures { λ _. ⌜ now (members .exit) ≡ membersAt (now (image .entry)) at (now (widths .entry)) ⌝ }
+    ensures { λ _. ⌜ (now (members .exit) ≡ membersAt (now (image .entry)) at (now (widths .entry)))
+        × FitFrom 0 (now (widths .entry)) (now (members .exit)) ⌝ }
 {
     let mut p = at;
     let mut i = 0;

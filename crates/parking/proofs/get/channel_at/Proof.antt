@@ -1,6 +1,6 @@
 -- `get::channel_at` meets its contract. Assumes nothing.
-use Rattle.parking.proofs.Forms.{member-fits, field-formed, channel-flags}
-use Rattle.image.specs.Image.{widthsOf, channelField, timerFrom}
+use Rattle.parking.proofs.Forms.{field-formed, channel-flags}
+use Rattle.image.specs.Image.{channelField, timerFrom}
 use mathlib.Core.Path.{refl, ap, _∙_}
 use native.Mathlib.Omega.{arith}
 use borrow.Author.Needs.{needs}
@@ -39,15 +39,7 @@ array-read-t15 : tie.Need-array-read-t15
 array-read-t15 c = search needs
 
 cast-t23 : tie.Need-cast-t23
-cast-t23 c =
-    let at-get-members = c .before .before .before .before in
-    let at-shared-slice-known = at-get-members .before .before .before in
-    omega (
-      arith,
-      member-fits _ _ _ (widthsOf (channelField .members)) 0 256 refl
-          (λ i. omega (arith, at-shared-slice-known .shared-slice-known .given i))
-          (at-get-members .get-members .ensures),
-    )
+cast-t23 c = search needs
 
 array-read-t19 : tie.Need-array-read-t19
 array-read-t19 c = search needs
@@ -62,29 +54,13 @@ array-read-t34 : tie.Need-array-read-t34
 array-read-t34 c = search needs
 
 cast-t35 : tie.Need-cast-t35
-cast-t35 c =
-    let at-get-members = c .before .before .before .before in
-    let at-shared-slice-known = at-get-members .before .before .before in
-    omega (
-      arith,
-      member-fits _ _ _ (widthsOf (channelField .members)) 4 4294967296 refl
-          (λ i. omega (arith, at-shared-slice-known .shared-slice-known .given i))
-          (at-get-members .get-members .ensures),
-    )
+cast-t35 c = search needs
 
 array-read-t38 : tie.Need-array-read-t38
 array-read-t38 c = search needs
 
 cast-t39 : tie.Need-cast-t39
-cast-t39 c =
-    let at-get-members = c .before .before .before .before in
-    let at-shared-slice-known = at-get-members .before .before .before in
-    omega (
-      arith,
-      member-fits _ _ _ (widthsOf (channelField .members)) 5 4294967296 refl
-          (λ i. omega (arith, at-shared-slice-known .shared-slice-known .given i))
-          (at-get-members .get-members .ensures),
-    )
+cast-t39 c = search needs
 
 array-read-t42 : tie.Need-array-read-t42
 array-read-t42 c = search needs
@@ -97,8 +73,8 @@ returns c =
     let at-get-members = c .before .before .before .before in
     let start = at-get-members .before .before .before .before in (
       field-formed _ _ channelField (omega (arith, start .pre)) _ _ _ (c .before .before .has-header .ensures)
-          (c .before .both .ensures ∙ channel-flags _ _ _ (at-get-members .get-members .ensures)) (c .both2 .ensures),
-      ap timerFrom (at-get-members .get-members .ensures),
+          (c .before .both .ensures ∙ channel-flags _ _ _ (at-get-members .get-members .ensures .0)) (c .both2 .ensures),
+      ap timerFrom (at-get-members .get-members .ensures .0),
     )
 
 pub channel-at-spec : {M : Type 1} → statement M

@@ -1,6 +1,6 @@
 -- `get::clock_in` meets its contract. Assumes nothing.
-use Rattle.parking.proofs.Forms.{member-fits, field-formed, clock-flags}
-use Rattle.image.specs.Image.{widthsOf, clockField, clockFrom}
+use Rattle.parking.proofs.Forms.{field-formed, clock-flags}
+use Rattle.image.specs.Image.{clockField, clockFrom}
 use lib.ListN.{getD}
 use mathlib.Core.List.{List}
 use Prim.Native.Nat.{ℕ}
@@ -48,29 +48,13 @@ array-read-t15 : tie.Need-array-read-t15
 array-read-t15 c = search needs
 
 cast-t28 : tie.Need-cast-t28
-cast-t28 c =
-    let at-get-members = c .before .before .before .before .before in
-    let at-shared-slice-known = at-get-members .before .before .before in
-    omega (
-      arith,
-      member-fits _ _ _ (widthsOf (clockField .members)) 0 256 refl
-          (λ i. omega (arith, at-shared-slice-known .shared-slice-known .given i))
-          (at-get-members .get-members .ensures),
-    )
+cast-t28 c = search needs
 
 array-read-t24 : tie.Need-array-read-t24
 array-read-t24 c = search needs
 
 cast-t31 : tie.Need-cast-t31
-cast-t31 c =
-    let at-get-members = c .before .before .before .before .before in
-    let at-shared-slice-known = at-get-members .before .before .before in
-    omega (
-      arith,
-      member-fits _ _ _ (widthsOf (clockField .members)) 1 256 refl
-          (λ i. omega (arith, at-shared-slice-known .shared-slice-known .given i))
-          (at-get-members .get-members .ensures),
-    )
+cast-t31 c = search needs
 
 array-read-t20 : tie.Need-array-read-t20
 array-read-t20 c = search needs
@@ -79,15 +63,7 @@ array-read-t36 : tie.Need-array-read-t36
 array-read-t36 c = search needs
 
 cast-t37 : tie.Need-cast-t37
-cast-t37 c =
-    let at-get-members = c .before .before .before .before .before in
-    let at-shared-slice-known = at-get-members .before .before .before in
-    omega (
-      arith,
-      member-fits _ _ _ (widthsOf (clockField .members)) 3 4294967296 refl
-          (λ i. omega (arith, at-shared-slice-known .shared-slice-known .given i))
-          (at-get-members .get-members .ensures),
-    )
+cast-t37 c = search needs
 
 array-read-t40 : tie.Need-array-read-t40
 array-read-t40 c = search needs
@@ -99,29 +75,13 @@ array-read-t46 : tie.Need-array-read-t46
 array-read-t46 c = search needs
 
 cast-t47 : tie.Need-cast-t47
-cast-t47 c =
-    let at-get-members = c .before .before .before .before .before in
-    let at-shared-slice-known = at-get-members .before .before .before in
-    omega (
-      arith,
-      member-fits _ _ _ (widthsOf (clockField .members)) 6 4294967296 refl
-          (λ i. omega (arith, at-shared-slice-known .shared-slice-known .given i))
-          (at-get-members .get-members .ensures),
-    )
+cast-t47 c = search needs
 
 array-read-t51 : tie.Need-array-read-t51
 array-read-t51 c = search needs
 
 cast-t52 : tie.Need-cast-t52
-cast-t52 c =
-    let at-get-members = c .before .before .before .before .before in
-    let at-shared-slice-known = at-get-members .before .before .before in
-    omega (
-      arith,
-      member-fits _ _ _ (widthsOf (clockField .members)) 7 256 refl
-          (λ i. omega (arith, at-shared-slice-known .shared-slice-known .given i))
-          (at-get-members .get-members .ensures),
-    )
+cast-t52 c = search needs
 
 array-read-t55 : tie.Need-array-read-t55
 array-read-t55 c = search needs
@@ -139,29 +99,13 @@ array-read-t68 : tie.Need-array-read-t68
 array-read-t68 c = search needs
 
 cast-t69 : tie.Need-cast-t69
-cast-t69 c =
-    let at-get-members = c .before .before .before .before .before in
-    let at-shared-slice-known = at-get-members .before .before .before in
-    omega (
-      arith,
-      member-fits _ _ _ (widthsOf (clockField .members)) 12 256 refl
-          (λ i. omega (arith, at-shared-slice-known .shared-slice-known .given i))
-          (at-get-members .get-members .ensures),
-    )
+cast-t69 c = search needs
 
 array-read-t73 : tie.Need-array-read-t73
 array-read-t73 c = search needs
 
 cast-t74 : tie.Need-cast-t74
-cast-t74 c =
-    let at-get-members = c .before .before .before .before .before in
-    let at-shared-slice-known = at-get-members .before .before .before in
-    omega (
-      arith,
-      member-fits _ _ _ (widthsOf (clockField .members)) 13 4294967296 refl
-          (λ i. omega (arith, at-shared-slice-known .shared-slice-known .given i))
-          (at-get-members .get-members .ensures),
-    )
+cast-t74 c = search needs
 
 array-read-t77 : tie.Need-array-read-t77
 array-read-t77 c = search needs
@@ -170,15 +114,7 @@ array-read-t80 : tie.Need-array-read-t80
 array-read-t80 c = search needs
 
 cast-t81 : tie.Need-cast-t81
-cast-t81 c =
-    let at-get-members = c .before .before .before .before .before in
-    let at-shared-slice-known = at-get-members .before .before .before in
-    omega (
-      arith,
-      member-fits _ _ _ (widthsOf (clockField .members)) 15 256 refl
-          (λ i. omega (arith, at-shared-slice-known .shared-slice-known .given i))
-          (at-get-members .get-members .ensures),
-    )
+cast-t81 c = search needs
 
 array-read-t85 : tie.Need-array-read-t85
 array-read-t85 c = search needs
@@ -187,15 +123,7 @@ array-read-t88 : tie.Need-array-read-t88
 array-read-t88 c = search needs
 
 cast-t89 : tie.Need-cast-t89
-cast-t89 c =
-    let at-get-members = c .before .before .before .before .before in
-    let at-shared-slice-known = at-get-members .before .before .before in
-    omega (
-      arith,
-      member-fits _ _ _ (widthsOf (clockField .members)) 17 4294967296 refl
-          (λ i. omega (arith, at-shared-slice-known .shared-slice-known .given i))
-          (at-get-members .get-members .ensures),
-    )
+cast-t89 c = search needs
 
 returns : tie.Need-returns
 returns c =
@@ -203,11 +131,11 @@ returns c =
     let at-get-members = at-has-header .before .before in
     let start = at-get-members .before .before .before .before in (
       field-formed _ _ clockField (omega (arith, start .pre)) _ _ _ (at-has-header .has-header .ensures)
-          (clock-flags _ _ _ (at-get-members .get-members .ensures) _ _ (c .before .before .both .ensures)
+          (clock-flags _ _ _ (at-get-members .get-members .ensures .0) _ _ (c .before .before .both .ensures)
           (c .before .both2 .ensures)) (c .both3 .ensures),
       (
-        ap (λ (ms : List ℕ). getD ms 0 0) (at-get-members .get-members .ensures),
-        ap (clockFrom _) (at-get-members .get-members .ensures),
+        ap (λ (ms : List ℕ). getD ms 0 0) (at-get-members .get-members .ensures .0),
+        ap (clockFrom _) (at-get-members .get-members .ensures .0),
       ),
     )
 

@@ -1,6 +1,6 @@
 -- `get::controller_in` meets its contract. Assumes nothing.
-use Rattle.parking.proofs.Forms.{member-fits, field-formed, controller-flags}
-use Rattle.image.specs.Image.{widthsOf, controllerField, controllerFrom}
+use Rattle.parking.proofs.Forms.{field-formed, controller-flags}
+use Rattle.image.specs.Image.{controllerField, controllerFrom}
 use mathlib.Core.Bool.{and-true}
 use mathlib.Core.Path.{refl, sym, ap}
 use native.Mathlib.Omega.{arith}
@@ -28,37 +28,19 @@ array-read-t13 : tie.Need-array-read-t13
 array-read-t13 c = search needs
 
 cast-t14 : tie.Need-cast-t14
-cast-t14 c =
-    omega (
-      arith,
-      member-fits _ _ _ (widthsOf (controllerField .members)) 0 65536 refl
-          (λ i. omega (arith, c .before .before .before .before .before .shared-slice-known .given i))
-          (c .before .before .get-members .ensures),
-    )
+cast-t14 c = search needs
 
 array-read-t17 : tie.Need-array-read-t17
 array-read-t17 c = search needs
 
 cast-t18 : tie.Need-cast-t18
-cast-t18 c =
-    omega (
-      arith,
-      member-fits _ _ _ (widthsOf (controllerField .members)) 1 65536 refl
-          (λ i. omega (arith, c .before .before .before .before .before .shared-slice-known .given i))
-          (c .before .before .get-members .ensures),
-    )
+cast-t18 c = search needs
 
 array-read-t21 : tie.Need-array-read-t21
 array-read-t21 c = search needs
 
 cast-t22 : tie.Need-cast-t22
-cast-t22 c =
-    omega (
-      arith,
-      member-fits _ _ _ (widthsOf (controllerField .members)) 2 65536 refl
-          (λ i. omega (arith, c .before .before .before .before .before .shared-slice-known .given i))
-          (c .before .before .get-members .ensures),
-    )
+cast-t22 c = search needs
 
 returns : tie.Need-returns
 returns c =
@@ -66,7 +48,7 @@ returns c =
       field-formed _ _ controllerField (omega (arith, start .pre)) _ _ _ (c .has-header .ensures)
           (controller-flags _ 263)
           (sym (and-true _)),
-      ap controllerFrom (c .before .before .get-members .ensures),
+      ap controllerFrom (c .before .before .get-members .ensures .0),
     )
 
 pub controller-in-spec : {M : Type 1} → statement M

@@ -1,6 +1,6 @@
 -- `get::latches_in` meets its contract. Assumes nothing.
-use Rattle.parking.proofs.Forms.{member-fits, field-formed, latches-flags, latches-empty}
-use Rattle.image.specs.Image.{widthsOf, latchesField, latchesFrom}
+use Rattle.parking.proofs.Forms.{field-formed, latches-flags, latches-empty}
+use Rattle.image.specs.Image.{latchesField, latchesFrom}
 use mathlib.Core.Path.{refl, ap, _∙_}
 use native.Mathlib.Omega.{arith}
 use borrow.Author.Needs.{needs}
@@ -42,15 +42,7 @@ array-read-latch-from-2 : tie.Need-array-read-latch-from-2
 array-read-latch-from-2 c = search needs
 
 cast-latch-from : tie.Need-cast-latch-from
-cast-latch-from c =
-    let at-get-members = c .before .before .before .before .before .before in
-    let at-shared-slice-known = at-get-members .before .before .before in
-    omega (
-      arith,
-      member-fits _ _ _ (widthsOf (latchesField .members)) 1 4294967296 refl
-          (λ i. omega (arith, at-shared-slice-known .shared-slice-known .given i))
-          (at-get-members .get-members .ensures),
-    )
+cast-latch-from c = search needs
 
 latch-from-requires : tie.Need-latch-from-requires
 latch-from-requires c κs = search needs
@@ -62,15 +54,7 @@ array-read-latch-from-4 : tie.Need-array-read-latch-from-4
 array-read-latch-from-4 c = search needs
 
 cast-latch-from-2 : tie.Need-cast-latch-from-2
-cast-latch-from-2 c =
-    let at-get-members = c .before .before .before .before .before .before .before in
-    let at-shared-slice-known = at-get-members .before .before .before in
-    omega (
-      arith,
-      member-fits _ _ _ (widthsOf (latchesField .members)) 3 4294967296 refl
-          (λ i. omega (arith, at-shared-slice-known .shared-slice-known .given i))
-          (at-get-members .get-members .ensures),
-    )
+cast-latch-from-2 c = search needs
 
 latch-from-requires-2 : tie.Need-latch-from-requires-2
 latch-from-requires-2 c κs = search needs
@@ -82,15 +66,7 @@ array-read-latch-from-6 : tie.Need-array-read-latch-from-6
 array-read-latch-from-6 c = search needs
 
 cast-latch-from-3 : tie.Need-cast-latch-from-3
-cast-latch-from-3 c =
-    let at-get-members = c .before .before .before .before .before .before .before .before in
-    let at-shared-slice-known = at-get-members .before .before .before in
-    omega (
-      arith,
-      member-fits _ _ _ (widthsOf (latchesField .members)) 5 4294967296 refl
-          (λ i. omega (arith, at-shared-slice-known .shared-slice-known .given i))
-          (at-get-members .get-members .ensures),
-    )
+cast-latch-from-3 c = search needs
 
 latch-from-requires-3 : tie.Need-latch-from-requires-3
 latch-from-requires-3 c κs = search needs
@@ -102,15 +78,7 @@ array-read-latch-from-8 : tie.Need-array-read-latch-from-8
 array-read-latch-from-8 c = search needs
 
 cast-latch-from-4 : tie.Need-cast-latch-from-4
-cast-latch-from-4 c =
-    let at-get-members = c .before .before .before .before .before .before .before .before .before in
-    let at-shared-slice-known = at-get-members .before .before .before in
-    omega (
-      arith,
-      member-fits _ _ _ (widthsOf (latchesField .members)) 7 4294967296 refl
-          (λ i. omega (arith, at-shared-slice-known .shared-slice-known .given i))
-          (at-get-members .get-members .ensures),
-    )
+cast-latch-from-4 c = search needs
 
 latch-from-requires-4 : tie.Need-latch-from-requires-4
 latch-from-requires-4 c κs = search needs
@@ -122,15 +90,7 @@ array-read-latch-from-10 : tie.Need-array-read-latch-from-10
 array-read-latch-from-10 c = search needs
 
 cast-latch-from-5 : tie.Need-cast-latch-from-5
-cast-latch-from-5 c =
-    let at-get-members = c .before .before .before .before .before .before .before .before .before .before in
-    let at-shared-slice-known = at-get-members .before .before .before in
-    omega (
-      arith,
-      member-fits _ _ _ (widthsOf (latchesField .members)) 9 4294967296 refl
-          (λ i. omega (arith, at-shared-slice-known .shared-slice-known .given i))
-          (at-get-members .get-members .ensures),
-    )
+cast-latch-from-5 c = search needs
 
 latch-from-requires-5 : tie.Need-latch-from-requires-5
 latch-from-requires-5 c κs = search needs
@@ -142,15 +102,7 @@ array-read-latch-from-12 : tie.Need-array-read-latch-from-12
 array-read-latch-from-12 c = search needs
 
 cast-latch-from-6 : tie.Need-cast-latch-from-6
-cast-latch-from-6 c =
-    let at-get-members = c .before .before .before .before .before .before .before .before .before .before .before in
-    let at-shared-slice-known = at-get-members .before .before .before in
-    omega (
-      arith,
-      member-fits _ _ _ (widthsOf (latchesField .members)) 11 4294967296 refl
-          (λ i. omega (arith, at-shared-slice-known .shared-slice-known .given i))
-          (at-get-members .get-members .ensures),
-    )
+cast-latch-from-6 c = search needs
 
 latch-from-requires-6 : tie.Need-latch-from-requires-6
 latch-from-requires-6 c κs = search needs
@@ -170,10 +122,10 @@ returns c =
     let at-get-members = at-has-header .before .before in
     let start = at-get-members .before .before .before .before in (
       field-formed _ _ latchesField (omega (arith, start .pre)) _ _ _ (at-has-header .has-header .ensures)
-          (at-held-flags .held-flags .ensures ∙ latches-flags _ _ _ (at-get-members .get-members .ensures))
+          (at-held-flags .held-flags .ensures ∙ latches-flags _ _ _ (at-get-members .get-members .ensures .0))
           (c .both .ensures),
       (
-        at-empties-hold-0 .empties-hold-0 .ensures ∙ latches-empty _ _ _ (at-get-members .get-members .ensures),
+        at-empties-hold-0 .empties-hold-0 .ensures ∙ latches-empty _ _ _ (at-get-members .get-members .ensures .0),
         rw (
           at-latch-from .latch-from .ensures,
           at-latch-from2 .latch-from2 .ensures,
@@ -181,7 +133,7 @@ returns c =
           at-latch-from4 .latch-from4 .ensures,
           c .before .before .latch-from5 .ensures,
           c .before .latch-from6 .ensures,
-        ) (ap latchesFrom (at-get-members .get-members .ensures)),
+        ) (ap latchesFrom (at-get-members .get-members .ensures .0)),
       ),
     )
 
