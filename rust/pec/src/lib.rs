@@ -126,13 +126,31 @@ fn outcome_of(run: impl FnOnce(&mut usize, &mut usize, &mut usize) -> u8) -> Out
     outcome
 }
 
+/// Runs a list over a fresh board, of a rate where one is given. `behind` is a list that is run first, and how many
+/// times the list itself is run then; without it the list is run once. Each of the four is a function of the library.
+fn run_fresh(rate: Option<u32>, behind: Option<(&[u8], u64)>, list: &[u8], answers: &mut [u8]) -> Outcome {
+    let (first, times) = behind.unwrap_or_default();
+    let (head, before) = (first.as_ptr(), first.len());
+    let (at, length) = (list.as_ptr(), list.len());
+    let (to, room) = (answers.as_mut_ptr(), answers.len());
+    // SAFETY: the pointers and lengths are those of slices and numbers that live through the call. The lists are only
+    // read, and none of what is written overlaps anything else that is lent.
+    outcome_of(|calls, used, written| unsafe {
+        match (rate, behind) {
+            (None, None) => pec_run(at, length, to, room, calls, used, written),
+            (Some(rate), None) => pec_run_at(rate, at, length, to, room, calls, used, written),
+            (None, Some(_)) => pec_run_repeated(head, before, at, length, times, to, room, calls, used, written),
+            (Some(rate), Some(_)) => {
+                pec_run_repeated_at(rate, head, before, at, length, times, to, room, calls, used, written)
+            }
+        }
+    })
+}
+
 /// Runs a list over a fresh board. The buffer then holds the answers of the calls done, from its first byte, and
 /// after them its old bytes.
 pub fn run(list: &[u8], answers: &mut [u8]) -> Outcome {
-    let (from, room) = (answers.as_mut_ptr(), answers.len());
-    // SAFETY: the pointers and lengths are those of slices and numbers that live through the call, and none of what is
-    // written overlaps anything else that is lent.
-    outcome_of(|calls, used, written| unsafe { pec_run(list.as_ptr(), list.len(), from, room, calls, used, written) })
+    run_fresh(None, None, list, answers)
 }
 
 /// Runs `first` over a fresh board, and then `list` so many times, each time over the board that the run before it
@@ -141,23 +159,7 @@ pub fn run(list: &[u8], answers: &mut [u8]) -> Outcome {
 ///
 /// With `times` 1 and a list that reads, this shows all that a run left of its board.
 pub fn run_repeated(first: &[u8], list: &[u8], times: u64, answers: &mut [u8]) -> Outcome {
-    let (from, room) = (answers.as_mut_ptr(), answers.len());
-    let (start, length) = (first.as_ptr(), first.len());
-    // SAFETY: as in `run`; the two lists are only read.
-    outcome_of(|calls, used, written| unsafe {
-        pec_run_repeated(
-            start,
-            length,
-            list.as_ptr(),
-            list.len(),
-            times,
-            from,
-            room,
-            calls,
-            used,
-            written,
-        )
-    })
+    run_fresh(None, Some((first, times)), list, answers)
 }
 
 /// Runs a list over a fresh board of a rate, one of [`RATES`]: so many cycles are a second of its clock, and a
@@ -179,33 +181,12 @@ pub fn run_repeated(first: &[u8], list: &[u8], times: u64, answers: &mut [u8]) -
 /// assert_eq!(run_at(24_000_000, &[], &mut []), refused);
 /// ```
 pub fn run_at(rate: u32, list: &[u8], answers: &mut [u8]) -> Outcome {
-    let (from, room) = (answers.as_mut_ptr(), answers.len());
-    // SAFETY: as in `run`.
-    outcome_of(|calls, used, written| unsafe {
-        pec_run_at(rate, list.as_ptr(), list.len(), from, room, calls, used, written)
-    })
+    run_fresh(Some(rate), None, list, answers)
 }
 
 /// What [`run_repeated`] does, over a fresh board of a rate; another rate is refused as by [`run_at`].
 pub fn run_repeated_at(rate: u32, first: &[u8], list: &[u8], times: u64, answers: &mut [u8]) -> Outcome {
-    let (from, room) = (answers.as_mut_ptr(), answers.len());
-    let (start, length) = (first.as_ptr(), first.len());
-    // SAFETY: as in `run`; the two lists are only read.
-    outcome_of(|calls, used, written| unsafe {
-        pec_run_repeated_at(
-            rate,
-            start,
-            length,
-            list.as_ptr(),
-            list.len(),
-            times,
-            from,
-            room,
-            calls,
-            used,
-            written,
-        )
-    })
+    run_fresh(Some(rate), Some((first, times)), list, answers)
 }
 
 /// The listing of a run, as `listrun` prints it: a line for each answer, its tag and value in hexadecimal, and a last
@@ -223,7 +204,7 @@ pub fn listing(answers: &[u8], outcome: &Outcome) -> String {
     let mut text = vec![0; 2 * answers.len() + 67];
     let (calls, used) = (outcome.calls, outcome.list_bytes);
     let refusal = outcome.refusal_number();
-    // SAFETY: as in `run`; the answers are only read.
+    // SAFETY: as in `run_fresh`; the answers are only read.
     let length = unsafe {
         pec_listing(
             answers.as_ptr(),
