@@ -6,24 +6,53 @@ use mathlib.Core.Bool.{Bool, true, false, and-false}
 use lib.Dec.{leb}
 use borrow.Author.Tests.{leb-true, le-leb, lt-leb}
 use Rattle.wide.proofs.Choices.{and-parts}
-use Rattle.offsets.specs.Registers.{within, inTimers, inClock, inChannels}
+use Rattle.offsets.specs.Registers.{
+  secondsLowAt,
+  secondsHighAt,
+  Range,
+  behind,
+  Inside,
+  within,
+  lastOf,
+  fourBytes,
+  inRegister,
+  timerBlock,
+  inTimers,
+  clockBlock,
+  inClock,
+  channelBlocks,
+  inChannels,
+}
 
 -- ---- one range
 
-module _ (first last n : ℕ) where
-  pub inside : first ≤ n → n ≤ last → within first last n ≡ true
-  inside p q = simp (le-leb first n p, le-leb n last q)
+module _ (r : Range) (n : ℕ) where
+  pub inside : r .first ≤ n → n < behind r → within r n ≡ true
+  inside p q = simp (le-leb (r .first) n p, le-leb n (r .last) (omega arith))
 
-  pub below : n < first → within first last n ≡ false
-  below p = simp (lt-leb first n p)
+  pub below : n < r .first → within r n ≡ false
+  below p = simp (lt-leb (r .first) n p)
 
-  pub above : last < n → within first last n ≡ false
-  above p = simp (lt-leb n last p, and-false)
+  pub above : r .last < n → within r n ≡ false
+  above p = simp (lt-leb n (r .last) p, and-false)
 
-  pub bounds : within first last n ≡ true → (first ≤ n) × (n ≤ last)
+  pub bounds : within r n ≡ true → Inside r n
   bounds e =
-      let p = and-parts (leb first n) (leb n last) e in
-      (leb-true first n (p .0), leb-true n last (p .1))
+      let p = and-parts (leb (r .first) n) (leb n (r .last)) e in
+      (leb-true (r .first) n (p .0), leb-true n (r .last) (p .1))
+
+-- ---- the two words of the clock's seconds
+
+module _ (n : ℕ) where
+  -- the offset is in neither
+  abbrev NoSeconds : Type 0
+  NoSeconds = (inRegister secondsLowAt n ≡ false) × (inRegister secondsHighAt n ≡ false)
+
+  pub before-seconds : n < secondsLowAt → NoSeconds
+  before-seconds p = (below (fourBytes secondsLowAt) n p, below (fourBytes secondsHighAt) n (omega arith))
+
+  pub after-seconds : lastOf secondsHighAt < n → NoSeconds
+  after-seconds p = (above (fourBytes secondsLowAt) n (omega arith), above (fourBytes secondsHighAt) n p)
 
 -- ---- the three blocks
 
@@ -32,24 +61,23 @@ module _ (n : ℕ) where
   abbrev AfterClock : Bool → Type 0
   AfterClock v = (inTimers n ≡ false) × (inClock n ≡ false) × (inChannels n ≡ v)
 
-  pub in-timers : 0x180 ≤ n → n < 0x190 → inTimers n ≡ true
-  in-timers p q = inside 0x180 0x18F n p (omega arith)
+  pub in-clock : clockBlock .first ≤ n → n < behind clockBlock → (inTimers n ≡ false) × (inClock n ≡ true)
+  in-clock p q = (above timerBlock n (omega arith), inside clockBlock n p q)
 
-  pub in-clock : 0x200 ≤ n → n < 0x224 → (inTimers n ≡ false) × (inClock n ≡ true)
-  in-clock p q = (above 0x180 0x18F n (omega arith), inside 0x200 0x223 n p (omega arith))
-
-  pub in-channels : 0x400 ≤ n → n < 0x500 → AfterClock true
+  pub in-channels : channelBlocks .first ≤ n → n < behind channelBlocks → AfterClock true
   in-channels p q =
-      (above 0x180 0x18F n (omega arith), above 0x200 0x223 n (omega arith), inside 0x400 0x4FF n p (omega arith))
+      (above timerBlock n (omega arith), above clockBlock n (omega arith), inside channelBlocks n p q)
 
-  pub before-timers : n < 0x180 → AfterClock false
-  before-timers q = (below 0x180 0x18F n q, below 0x200 0x223 n (omega arith), below 0x400 0x4FF n (omega arith))
+  pub before-timers : n < timerBlock .first → AfterClock false
+  before-timers q =
+      (below timerBlock n q, below clockBlock n (omega arith), below channelBlocks n (omega arith))
 
-  pub before-clock : 0x190 ≤ n → n < 0x200 → AfterClock false
-  before-clock p q = (above 0x180 0x18F n p, below 0x200 0x223 n q, below 0x400 0x4FF n (omega arith))
+  pub before-clock : behind timerBlock ≤ n → n < clockBlock .first → AfterClock false
+  before-clock p q = (above timerBlock n p, below clockBlock n q, below channelBlocks n (omega arith))
 
-  pub before-channels : 0x224 ≤ n → n < 0x400 → AfterClock false
-  before-channels p q = (above 0x180 0x18F n (omega arith), above 0x200 0x223 n p, below 0x400 0x4FF n q)
+  pub before-channels : behind clockBlock ≤ n → n < channelBlocks .first → AfterClock false
+  before-channels p q = (above timerBlock n (omega arith), above clockBlock n p, below channelBlocks n q)
 
-  pub after-channels : 0x500 ≤ n → AfterClock false
-  after-channels p = (above 0x180 0x18F n (omega arith), above 0x200 0x223 n (omega arith), above 0x400 0x4FF n p)
+  pub after-channels : behind channelBlocks ≤ n → AfterClock false
+  after-channels p =
+      (above timerBlock n (omega arith), above clockBlock n (omega arith), above channelBlocks n p)

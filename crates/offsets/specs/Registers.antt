@@ -1,6 +1,6 @@
 -- Document 01, 'Registers and latches': where the registers are, 'decoded from the offset by ranges, four bytes each,
 -- most significant first'. The offsets are those of `timing.rs`.
-use Prim.Native.Nat.{ℕ, _+_, _-_, _*_, _/_, _%_, _^_}
+use Prim.Native.Nat.{ℕ, _+_, _-_, _*_, _/_, _%_, _^_, _≤_}
 use mathlib.Core.Bool.{Bool, _&&_}
 use lib.Dec.{leb}
 
@@ -72,22 +72,50 @@ channelStride = 0x40
 
 -- ---- ranges
 
-abbrev pub within : ℕ → ℕ → ℕ → Bool
-within first last offset = leb first offset && leb offset last
+-- offsets one behind another, by the first and the last
+pub record Range : Type 0 where
+  pub first : ℕ
+  pub last : ℕ
 
--- the four bytes of a register
+-- the offset right behind them
+abbrev pub behind : Range → ℕ
+behind r = r .last + 1
+
+-- an offset is one of them: as a statement, and as a test
+abbrev pub Inside : Range → ℕ → Type 0
+Inside r offset = (r .first ≤ offset) × (offset ≤ r .last)
+
+abbrev pub within : Range → ℕ → Bool
+within r offset = leb (r .first) offset && leb offset (r .last)
+
+-- the four bytes of a register, and the last of them
+abbrev pub lastOf : ℕ → ℕ
+lastOf register = register + 3
+
+abbrev pub fourBytes : ℕ → Range
+fourBytes register = record { first = register; last = lastOf register }
+
 abbrev pub inRegister : ℕ → ℕ → Bool
-inRegister register = within register (register + 3)
+inRegister register = within (fourBytes register)
 
 -- the three blocks
+abbrev pub timerBlock : Range
+timerBlock = record { first = timerIdAt; last = lastOf timerAckAt }
+
 abbrev pub inTimers : ℕ → Bool
-inTimers = within timerIdAt (timerAckAt + 3)
+inTimers = within timerBlock
+
+abbrev pub clockBlock : Range
+clockBlock = record { first = clockControlAt; last = lastOf clockAckAt }
 
 abbrev pub inClock : ℕ → Bool
-inClock = within clockControlAt (clockAckAt + 3)
+inClock = within clockBlock
+
+abbrev pub channelBlocks : Range
+channelBlocks = record { first = channelsAt; last = channelsAt + 4 * channelStride - 1 }
 
 abbrev pub inChannels : ℕ → Bool
-inChannels = within channelsAt (channelsAt + 4 * channelStride - 1)
+inChannels = within channelBlocks
 
 -- 'four bytes each, most significant first': the register of an offset, and the byte of that register
 abbrev pub registerOf : ℕ → ℕ

@@ -1,8 +1,8 @@
 // The parts of an offset, and the channel that one names.
 ghost use mathlib.Core.Path.{_≡_};
-ghost use Prim.Native.Nat.{_<_, _≤_};
+ghost use Prim.Native.Nat.{_<_};
 ghost use Rattle.board.specs.Fields.{channelAt};
-ghost use Rattle.offsets.specs.Registers.{byteOfWord, channelOf, placeOf};
+ghost use Rattle.offsets.specs.Registers.{Inside, channelBlocks, byteOfWord, channelOf, placeOf};
 use crate::Registers;
 use board::Board;
 use channel::ChannelNumber;
@@ -18,7 +18,7 @@ pub fn byte_of_word(word: u32, byte: u32) -> u8
 
 // The channel whose block has an offset.
 pub fn channel_of(offset: u32) -> ChannelNumber
-    requires { ⌜ (0x400 ≤ offset) × (offset ≤ 0x4FF) ⌝ }
+    requires { ⌜ Inside channelBlocks offset ⌝ }
     ensures { λ r. ⌜ (r .0 ≡ channelOf offset) × (r .0 < 4) ⌝ }
 {
     ChannelNumber(
@@ -28,7 +28,7 @@ pub fn channel_of(offset: u32) -> ChannelNumber
 
 // The offset in that block.
 pub fn place_of(offset: u32) -> u32
-    requires { ⌜ (0x400 ≤ offset) × (offset ≤ 0x4FF) ⌝ }
+    requires { ⌜ Inside channelBlocks offset ⌝ }
     ensures { λ r. ⌜ r ≡ placeOf offset ⌝ }
 {
     (offset - Registers::TIMER_CHANNEL_BASE) % Registers::TIMER_CHANNEL_STRIDE

@@ -53,12 +53,14 @@ impl Registers {
 
     pub const TIMER_CHANNEL_BASE: u32 = 0x400;
 
-    pub const TIMER_CHANNEL_LAST: u32 = 0x4FF;
-
     // From a channel's block to the next.
     pub const TIMER_CHANNEL_STRIDE: u32 = 0x40;
 
     pub const TIMER_CHANNELS: usize = 4;
+
+    pub const TIMER_CHANNEL_LAST: u32 = Self::TIMER_CHANNEL_BASE
+        + Self::TIMER_CHANNELS as u32 * Self::TIMER_CHANNEL_STRIDE
+        - 1;
 
     // The refusal of an address, by document 01's number.
     pub const ADDRESS_TOO_LARGE: u8 = 6;

@@ -3,12 +3,12 @@ use Prim.Native.Nat.{ℕ}
 use mathlib.Core.Bool.{Bool, cond}
 use lib.Dec.{eqb}
 use Rattle.wide.proofs.Choices.{choose}
-use Rattle.channel.specs.Registers.{countLowAt}
+use Rattle.channel.specs.Registers.{countLowAt, countHighAt}
 use Rattle.board.specs.declared.Latches.{Latches}
 use Rattle.board.specs.declared.Board.{Board}
 use Rattle.board.specs.Fields.{withLatches, countLatch}
 use Rattle.board.specs.Board.{heldOf}
-use Rattle.offsets.specs.Registers.{secondsLowAt, within, inChannels, channelOf, placeOf}
+use Rattle.offsets.specs.Registers.{secondsLowAt, secondsHighAt, inRegister, inChannels, channelOf, placeOf}
 use Rattle.registers.specs.Reads.{
   Read,
   checked,
@@ -45,7 +45,7 @@ module _ (P : Board → Type 0) (latches : (b : Board) (ls : Latches) → P b �
   channel-kept b p =
       choose Kept (eqb (placeOf offset) countLowAt)
       (λ _. live-kept (countHeld (channelOf offset) b) (latches b _ p))
-      (λ _. choose Kept (within 0x0C 0x0F (placeOf offset)) (λ _. count-high-kept b p) (λ _. live-kept b p))
+      (λ _. choose Kept (inRegister countHighAt (placeOf offset)) (λ _. count-high-kept b p) (λ _. live-kept b p))
 
   latched-kept : (b : Board) → P b → P (secondsLatched offset b)
   unfolding secondsLatched
@@ -62,7 +62,7 @@ module _ (P : Board → Type 0) (latches : (b : Board) (ls : Latches) → P b �
   pub read-cases : (b : Board) → P b → Kept (readAt offset b)
   unfolding readAt
   read-cases b p =
-      choose Kept (within 0x208 0x20B offset) (λ _. low-kept (secondsLatched offset b) (latched-kept b p))
-      (λ _. choose Kept (within 0x20C 0x20F offset) (λ _. high-kept b p)
+      choose Kept (inRegister secondsLowAt offset) (λ _. low-kept (secondsLatched offset b) (latched-kept b p))
+      (λ _. choose Kept (inRegister secondsHighAt offset) (λ _. high-kept b p)
       (λ _. choose Kept (inChannels offset) (λ _. channel-kept b p)
       (λ _. live-kept b p)))

@@ -1,5 +1,5 @@
 -- A read by its parts is the read of the rules. Assumes nothing.
-use Prim.Native.Nat.{ℕ, _+_, _*_, _/_, _≤_}
+use Prim.Native.Nat.{ℕ, _+_, _<_}
 use native.Mathlib.Omega.{arith}
 use mathlib.Core.Path.{_≡_, refl, sym, ap, _∙_}
 use mathlib.Core.Bool.{Bool, true, false, cond, false≢true}
@@ -11,7 +11,7 @@ use borrow.Author.Tests.{eqb-true, eq-eqb, ne-eqb}
 use Rattle.wide.proofs.Choices.{choose, either}
 use Rattle.channel.specs.declared.HardwareTimer.{HardwareTimer}
 use Rattle.channel.specs.Channel.{freshTimer}
-use Rattle.channel.specs.Registers.{countLowAt}
+use Rattle.channel.specs.Registers.{countLowAt, countHighAt}
 use Rattle.clock.specs.declared.Clock.{Clock}
 use Rattle.clock.specs.Fields.{withAlarm}
 use Rattle.clock.specs.Clock.{rateOf, alarmReached, checkAlarm}
@@ -24,7 +24,12 @@ use Rattle.board.specs.Board.{heldOf, heldValue}
 use Rattle.offsets.specs.Registers.{
   base,
   secondsLowAt,
-  within,
+  secondsHighAt,
+  channelsAt,
+  lastOf,
+  fourBytes,
+  inRegister,
+  channelBlocks,
   inChannels,
   registerOf,
   byteOf,
@@ -74,12 +79,13 @@ use Rattle.registers.specs.CodeReads.{
 -- ---- ranges
 
 -- the bytes of a count's high word
-high-place : (p : ℕ) → eqb (p / 4 * 4) 0x0C ≡ within 0x0C 0x0F p
+high-place : (p : ℕ) → eqb (registerOf p) countHighAt ≡ inRegister countHighAt p
 high-place p =
-    either (within 0x0C 0x0F p)
-    (λ e. let w = bounds 0x0C 0x0F p e in eq-eqb (p / 4 * 4) 0x0C (omega (arith, w .0, w .1)) ∙ sym e)
-    (λ e. ne-eqb (p / 4 * 4) 0x0C
-    (λ h. false≢true (sym e ∙ inside 0x0C 0x0F p (omega (arith, h)) (omega (arith, h)))) ∙ sym e)
+    either (inRegister countHighAt p)
+    (λ e. let w = bounds (fourBytes countHighAt) p e in
+    eq-eqb (registerOf p) countHighAt (omega (arith, w .0, w .1)) ∙ sym e)
+    (λ e. ne-eqb (registerOf p) countHighAt
+    (λ h. false≢true (sym e ∙ inside (fourBytes countHighAt) p (omega (arith, h)) (omega (arith, h)))) ∙ sym e)
 
 -- the alarm check changes the alarm's two flags alone
 check-flags : (k : Clock) →
@@ -164,12 +170,12 @@ module _ (o : ℕ) (b : Board) where
 
   -- ---- the clock's seconds
 
-  low-freed : (ls : Latches) → within 0x208 0x20B o ≡ true →
+  low-freed : (ls : Latches) → inRegister secondsLowAt o ≡ true →
       withSeconds (freed o (ls .low)) (ls .high) ls ≡ freedAt o ls
   unfolding freedAt latchFreed
   low-freed ls e = either (eqb (byteOf o) 3) (λ t. rw (t, e)) (λ t. rw t)
 
-  low-parts : (ls : Latches) → within 0x208 0x20B o ≡ true → readLow o (withLatches ls b) ≡ given b (by ls)
+  low-parts : (ls : Latches) → inRegister secondsLowAt o ≡ true → readLow o (withLatches ls b) ≡ given b (by ls)
   unfolding readLow serving
   low-parts ls e =
       read-by ls (withSeconds (freed o (ls .low)) (ls .high) ls) (ls .low) (rw e) (low-freed ls e)
@@ -179,12 +185,12 @@ module _ (o : ℕ) (b : Board) where
   unfolding secondsLatched filled countFilled atCountLow
   low-filled n = either (eqb o secondsLowAt) (λ t. rw t) (λ t. rw (t, n))
 
-  high-freed : (ls : Latches) → within 0x208 0x20B o ≡ false → within 0x20C 0x20F o ≡ true →
+  high-freed : (ls : Latches) → inRegister secondsLowAt o ≡ false → inRegister secondsHighAt o ≡ true →
       withSeconds (ls .low) (freed o (ls .high)) ls ≡ freedAt o ls
   unfolding freedAt latchFreed
   high-freed ls d e = either (eqb (byteOf o) 3) (λ t. rw (t, d, e)) (λ t. rw t)
 
-  high-parts : within 0x208 0x20B o ≡ false → within 0x20C 0x20F o ≡ true →
+  high-parts : inRegister secondsLowAt o ≡ false → inRegister secondsHighAt o ≡ true →
       readHigh o b ≡ given b (by (b .latches))
   unfolding readHigh serving
   high-parts d e =
@@ -193,18 +199,18 @@ module _ (o : ℕ) (b : Board) where
 
   -- ---- elsewhere
 
-  module _ (d : within 0x208 0x20B o ≡ false) where
+  module _ (d : inRegister secondsLowAt o ≡ false) where
     not-low : eqb o secondsLowAt ≡ false
     not-low =
         ne-eqb o secondsLowAt
-        (λ h. false≢true (sym d ∙ inside 0x208 0x20B o (omega (arith, h)) (omega (arith, h))))
+        (λ h. false≢true (sym d ∙ inside (fourBytes secondsLowAt) o (omega (arith, h)) (omega (arith, h))))
 
     -- nothing is filled
     none-filled : atCountLow o ≡ false → full ≡ b .latches
     unfolding filled countFilled
     none-filled n = rw (not-low, n)
 
-    module _ (e : within 0x20C 0x20F o ≡ false) where
+    module _ (e : inRegister secondsHighAt o ≡ false) where
       none-serves : (ls : Latches) → atCountHigh o ≡ false → serving o ls ≡ Empty
       unfolding serving countServing
       none-serves ls n = rw (d, e, n)
@@ -215,7 +221,7 @@ module _ (o : ℕ) (b : Board) where
         unfolding channelIndex
         index = rw c
 
-        high-at : atCountHigh o ≡ within 0x0C 0x0F (placeOf o)
+        high-at : atCountHigh o ≡ inRegister countHighAt (placeOf o)
         unfolding atCountHigh
         high-at = rw c (high-place (placeOf o))
 
@@ -223,7 +229,7 @@ module _ (o : ℕ) (b : Board) where
         unfolding filled countFilled atCountLow
         count-filled p = rw (not-low, c, p, index)
 
-        count-freed : within 0x0C 0x0F (placeOf o) ≡ true →
+        count-freed : inRegister countHighAt (placeOf o) ≡ true →
             withCount (channelOf o) (freed o (countLatch (channelOf o) b)) (b .latches) ≡ freedAt o (b .latches)
         unfolding freedAt latchFreed countFreed
         count-freed q =
@@ -232,7 +238,7 @@ module _ (o : ℕ) (b : Board) where
             (ap (λ (counts : _). record { counts = counts; low = b .latches .low; high = b .latches .high })
             (set-getD (b .latches .counts) (channelOf o) (record { high = Empty }))))
 
-        count-parts : within 0x0C 0x0F (placeOf o) ≡ true → readCountHigh o b ≡ given b (by (b .latches))
+        count-parts : inRegister countHighAt (placeOf o) ≡ true → readCountHigh o b ≡ given b (by (b .latches))
         unfolding readCountHigh serving countServing
         count-parts q =
             read-by (b .latches) (withCount (channelOf o) (freed o (countLatch (channelOf o) b)) (b .latches))
@@ -248,9 +254,10 @@ module _ (o : ℕ) (b : Board) where
             choose (λ (r : Read). r ≡ given b (by full)) (eqb (placeOf o) countLowAt)
             (λ p. let l = eqb-true (placeOf o) countLowAt p in
             ap (readLive o) (sym (count-filled p))
-            ∙ read-none full (none-serves full (high-at ∙ below 0x0C 0x0F (placeOf o) (omega (arith, l)))))
+            ∙ read-none full
+            (none-serves full (high-at ∙ below (fourBytes countHighAt) (placeOf o) (omega (arith, l)))))
             (λ p. rw (none-filled (not-count p))
-            (choose (λ (r : Read). r ≡ given b (by (b .latches))) (within 0x0C 0x0F (placeOf o)) count-parts
+            (choose (λ (r : Read). r ≡ given b (by (b .latches))) (inRegister countHighAt (placeOf o)) count-parts
             (λ q. read-none (b .latches) (none-serves (b .latches) (high-at ∙ q)))))
 
   -- ---- every offset
@@ -263,25 +270,24 @@ module _ (o : ℕ) (b : Board) where
   unfolding atCountHigh
   outside-high n = rw n
 
-  before-channels : (last : ℕ) → o ≤ last → last ≤ 0x3FF → inChannels o ≡ false
-  before-channels last p q = below 0x400 0x4FF o (omega (arith, p, q))
+  before-channels : (register : ℕ) → lastOf register < channelsAt → inRegister register o ≡ true →
+      inChannels o ≡ false
+  before-channels register p e = below channelBlocks o (omega (arith, p, bounds (fourBytes register) o e .1))
 
   read-at-parts : readAt o b ≡ given b (offsetReading o b)
   unfolding readAt readingOf
   read-at-parts =
-      choose P (within 0x208 0x20B o)
-      (λ d. ap (readLow o) (low-filled (before-channels 0x20B (bounds 0x208 0x20B o d .1) (omega arith)))
-      ∙ low-parts full d)
-      (λ d. choose P (within 0x20C 0x20F o)
-      (λ e. high-parts d e
-      ∙ sym (kept d (outside-low (before-channels 0x20F (bounds 0x20C 0x20F o e .1) (omega arith)))))
+      choose P (inRegister secondsLowAt o)
+      (λ d. ap (readLow o) (low-filled (before-channels secondsLowAt (omega arith) d)) ∙ low-parts full d)
+      (λ d. choose P (inRegister secondsHighAt o)
+      (λ e. high-parts d e ∙ sym (kept d (outside-low (before-channels secondsHighAt (omega arith) e))))
       (λ e. choose P (inChannels o) (λ c. channel-parts d e c)
       (λ n. read-none (b .latches) (none-serves d e (b .latches) (outside-high n)) ∙ sym (kept d (outside-low n)))))
     where
       P : Read → Type 0
       P r = r ≡ given b (by full)
 
-      kept : within 0x208 0x20B o ≡ false → atCountLow o ≡ false → given b (by full) ≡ given b (by (b .latches))
+      kept : inRegister secondsLowAt o ≡ false → atCountLow o ≡ false → given b (by full) ≡ given b (by (b .latches))
       kept d n = ap (λ (ls : Latches). given b (by ls)) (none-filled d n)
 
 -- the call

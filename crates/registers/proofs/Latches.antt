@@ -2,7 +2,7 @@
 -- latches. At every other offset the latch that serves is the one before the read: byte 0 of a count's low word fills
 -- the latch of its high word, which serves other offsets. At a channel's register other than its count no latch has a
 -- part. Assumes nothing.
-use Prim.Native.Nat.{ℕ, _≤_}
+use Prim.Native.Nat.{ℕ}
 use native.Mathlib.Omega.{arith}
 use mathlib.Core.Path.{_≡_, refl, sym, ap, _∙_}
 use mathlib.Core.Bool.{true, false, not, _&&_, false≢true, Bool·beq}
@@ -19,9 +19,20 @@ use Rattle.board.specs.declared.Latches.{Latches}
 use Rattle.board.specs.declared.Board.{Board}
 use Rattle.board.specs.Fields.{channelAt}
 use Rattle.board.specs.Board.{heldOf}
-use Rattle.offsets.specs.Registers.{secondsLowAt, inChannels, registerOf, byteOf, placeOf, byteOfWord}
+use Rattle.offsets.specs.Registers.{
+  secondsLowAt,
+  Inside,
+  timerBlock,
+  clockBlock,
+  channelBlocks,
+  inChannels,
+  registerOf,
+  byteOf,
+  placeOf,
+  byteOfWord,
+}
 use Rattle.offsets.specs.Words.{timerWord}
-use Rattle.offsets.proofs.Ranges.{above, bounds}
+use Rattle.offsets.proofs.Ranges.{above, bounds, after-seconds}
 use Rattle.registers.specs.declared.reads.Reading.{Reading}
 use Rattle.registers.specs.CodeReads.{
   channelIndex,
@@ -49,13 +60,8 @@ low-unserved : (o : ℕ) (ls : Latches) → atCountLow o ≡ true → serving o 
 unfolding atCountLow atCountHigh countServing serving
 low-unserved o ls e =
     let p = and-parts (inChannels o) (eqb (placeOf o) countLowAt) e in
-    let first = bounds 0x400 0x4FF o (p .0) .0 in
-    rw (
-      above 0x208 0x20B o (omega (arith, first)),
-      above 0x20C 0x20F o (omega (arith, first)),
-      p .0,
-      eqb-true (placeOf o) countLowAt (p .1),
-    )
+    let t = after-seconds o (omega (arith, bounds channelBlocks o (p .0) .0)) in
+    rw (t .0, t .1, p .0, eqb-true (placeOf o) countLowAt (p .1))
 
 module _ (o counter : ℕ) (ls : Latches) where
   -- the latch that serves is the one before
@@ -109,8 +115,8 @@ module _ (o : ℕ) (p : plainAt o ≡ true) where
   unfolding plainAt
   plain-in = and-parts (inChannels o) _ p .0
 
-  pub plain-range : (0x400 ≤ o) × (o ≤ 0x4FF)
-  plain-range = bounds 0x400 0x4FF o plain-in
+  pub plain-range : Inside channelBlocks o
+  plain-range = bounds channelBlocks o plain-in
 
   -- neither word of a count
   plain-not : (eqb (registerOf (placeOf o)) countLowAt ≡ false) × (eqb (registerOf (placeOf o)) countHighAt ≡ false)
@@ -124,13 +130,8 @@ module _ (o : ℕ) (p : plainAt o ≡ true) where
   plain-unserved : (ls : Latches) → serving o ls ≡ Empty
   unfolding serving countServing atCountHigh
   plain-unserved ls =
-      let first = plain-range .0 in
-      rw (
-        above 0x208 0x20B o (omega (arith, first)),
-        above 0x20C 0x20F o (omega (arith, first)),
-        plain-in,
-        plain-not .1,
-      )
+      let t = after-seconds o (omega (arith, plain-range .0)) in
+      rw (t .0, t .1, plain-in, plain-not .1)
 
   plain-unfilled : (counter : ℕ) (ls : Latches) → countFilled o counter ls ≡ ls
   unfolding countFilled atCountLow
@@ -156,8 +157,8 @@ module _ (o : ℕ) (p : plainAt o ≡ true) where
       (ne-eqb o secondsLowAt (λ e. omega (arith, first, e))) (plain-unserved (b .latches))
       ∙ rw (
         plain-unfilled (h .counter) (b .latches),
-        above 0x180 0x18F o (omega (arith, first)),
-        above 0x200 0x223 o (omega (arith, first)),
+        above timerBlock o (omega (arith, first)),
+        above clockBlock o (omega (arith, first)),
         plain-in,
       )
 

@@ -13,8 +13,11 @@ abbrev pub addressTooLarge : ℕ
 addressTooLarge = 6
 
 -- 'Read, write: 1; 6 address ≥ 0x380.' The call's own, 0 for none
+abbrev pub addressesEnd : ℕ
+addressesEnd = 0x380
+
 unfoldable pub addressRefusal : ℕ → ℕ
-addressRefusal address = cond (leb 0x380 address) addressTooLarge 0
+addressRefusal address = cond (leb addressesEnd address) addressTooLarge 0
 
 -- ---- 02 read
 

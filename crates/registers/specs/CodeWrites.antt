@@ -1,7 +1,7 @@
 -- Not document 01's sentences: what the code computes of a write, the part of the board that a byte written at an
 -- offset changes and the board with that part changed. The rule is `writtenAt` of crates/offsets, and `written-is` of
 -- proofs/CodeWrites.antt shows that the board here is the rule's.
-use Prim.Native.Nat.{ℕ, _+_, _%_}
+use Prim.Native.Nat.{ℕ, _%_}
 use mathlib.Core.Bool.{Bool, true, false, cond}
 use lib.Dec.{ltb, eqb}
 use Rattle.channel.specs.Registers.{byteWritten}
@@ -11,6 +11,7 @@ use Rattle.board.specs.Fields.{withTimers, withTimerEnable, withClock, channelA
 use Rattle.offsets.specs.Registers.{
   timerEnableAt,
   timerAckAt,
+  lastOf,
   inRegister,
   inClock,
   inChannels,
@@ -28,7 +29,7 @@ use Rattle.registers.specs.CodeReads.{channelIndex}
 unfoldable pub partOf : ℕ → WritePart
 partOf offset =
     cond (inRegister timerEnableAt offset) Enable
-    (cond (eqb offset (timerAckAt + 3)) Acknowledge
+    (cond (eqb offset (lastOf timerAckAt)) Acknowledge
     (cond (inClock offset) Clock
     (cond (inChannels offset) Channel
     Nothing)))

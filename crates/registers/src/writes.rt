@@ -1,11 +1,11 @@
 // What a byte written at an offset leaves of the part of a board that it changes.
 ghost use mathlib.Core.Path.{_≡_};
-ghost use Prim.Native.Nat.{_≤_, _%_};
+ghost use Prim.Native.Nat.{_%_};
 ghost use Rattle.channel.specs.Registers.{byteWritten};
 ghost use Rattle.clock.specs.Clock.{rateOf};
 ghost use Rattle.clock.specs.Registers.{mergeByte};
 ghost use Rattle.clock.specs.Sound.{Timed};
-ghost use Rattle.offsets.specs.Registers.{registerOf, byteOf, placeOf};
+ghost use Rattle.offsets.specs.Registers.{Inside, channelBlocks, registerOf, byteOf, placeOf};
 ghost use Rattle.offsets.specs.Writes.{clockWritten, writtenAt};
 ghost use Rattle.registers.specs.CodeWrites.{partOf, atControl};
 use board::Board;
@@ -44,7 +44,7 @@ pub fn part_at(offset: u32) -> WritePart
 
 // A channel's control register, which alone of its registers moves the line.
 pub fn at_control(offset: u32) -> bool
-    requires { ⌜ (0x400 ≤ offset) × (offset ≤ 0x4FF) ⌝ }
+    requires { ⌜ Inside channelBlocks offset ⌝ }
     ensures { λ r. ⌜ r ≡ atControl offset ⌝ }
 {
     place_of(offset) < 4
@@ -68,7 +68,7 @@ pub fn clock_after(clock: Clock, offset: u32, value: u8) -> Clock
 }
 
 pub fn timer_after(timer: HardwareTimer, offset: u32, value: u8) -> HardwareTimer
-    requires { ⌜ (0x400 ≤ offset) × (offset ≤ 0x4FF) ⌝ }
+    requires { ⌜ Inside channelBlocks offset ⌝ }
     ensures { λ r. ⌜ r ≡ byteWritten (registerOf (placeOf offset)) (byteOf offset) value timer ⌝ }
 {
     timer.write_byte(place_of(offset) / 4 * 4, (offset % 4) as usize, value)

@@ -1,16 +1,16 @@
 -- `address_refusal` meets its contract. Assumes nothing.
 use borrow.Author.Tests.{le-leb, lt-leb}
-use Rattle.registers.specs.Calls.{addressRefusal}
+use Rattle.registers.specs.Calls.{addressesEnd, addressRefusal}
 use Rattle.registers.proofs.address_refusal.Statement.{statement}
 use Rattle.registers.proofs.address_refusal.Tie as tie
 
 returns : tie.Need-returns
 unfolding addressRefusal
-returns c = rw (le-leb 0x380 (c .before .args .address) (c .if1 .taken))
+returns c = rw (le-leb addressesEnd (c .before .args .address) (c .if1 .taken))
 
 returns-2 : tie.Need-returns-2
 unfolding addressRefusal
-returns-2 c = rw (lt-leb 0x380 (c .before .args .address) (c .if1 .left))
+returns-2 c = rw (lt-leb addressesEnd (c .before .args .address) (c .if1 .left))
 
 pub address-refusal-spec : {M : Type 1} → statement M
 address-refusal-spec = tie.close (tie.spec returns returns-2)

@@ -1,5 +1,6 @@
 -- `reads::plain` meets its contract. Assumes nothing.
 use mathlib.Core.Path.{sym, _∙_}
+use Rattle.offsets.specs.Registers.{channelBlocks}
 use Rattle.offsets.proofs.Ranges.{bounds}
 use Rattle.registers.specs.CodeReads.{plainAt}
 use borrow.Author.Needs.{needs}
@@ -12,7 +13,7 @@ in-channels-requires c κs = search needs
 place-of-requires : tie.Need-place-of-requires
 place-of-requires c κs =
     let s = c .before in
-    bounds 0x400 0x4FF (s .before .args .offset) (sym (s .in-channels .ensures) ∙ c .if1 .taken)
+    bounds channelBlocks (s .before .args .offset) (sym (s .in-channels .ensures) ∙ c .if1 .taken)
 
 mul-register : tie.Need-mul-register
 mul-register c = search needs

@@ -1,6 +1,7 @@
 -- `reads::word_at` meets its contract. Assumes nothing.
+use Rattle.offsets.specs.Registers.{timerBlock}
 use Rattle.offsets.proofs.Ranges.{
-  in-timers,
+  inside,
   in-clock,
   in-channels,
   before-timers,
@@ -32,7 +33,7 @@ returns : tie.Need-returns
 unfolding wordAt
 returns c =
     let x = c .before .before .args .offset in
-    rw (in-timers x (c .before .if1 .left) (c .if2 .taken))
+    rw (inside timerBlock x (c .before .if1 .left) (c .if2 .taken))
 
 returns-2 : tie.Need-returns-2
 unfolding wordAt

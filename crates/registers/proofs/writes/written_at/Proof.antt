@@ -1,6 +1,5 @@
 -- `writes::written_at` meets its contract. Assumes nothing.
 use mathlib.Core.Path.{sym, _∙_}
-use Rattle.offsets.proofs.Ranges.{inside}
 use Rattle.registers.proofs.CodeWrites.{channel-range, channel-index, written-is}
 use borrow.Author.Needs.{needs}
 use Rattle.registers.proofs.writes.written_at.Statement.{statement}
@@ -111,11 +110,10 @@ returns-5 c =
     let p = m .before .before in
     let a = p .before .before .before .args in
     let t = sym (p .part-at .ensures) ∙ m .enum-told5 .given .1 in
-    let w = channel-range (a .offset) t in
     rw (
       written-is (a .offset) (a .value) (a .board),
       t,
-      channel-index (a .offset) (inside 0x400 0x4FF (a .offset) (w .0) (w .1)),
+      channel-index (a .offset) t,
       c .with-channel .ensures,
       c .before .timer-after .ensures,
       c .before .before .channel-at .ensures,
