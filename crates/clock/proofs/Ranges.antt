@@ -34,26 +34,31 @@ module _ (rate : ℕ) (k : Clock) (t : Timed rate k) where
   pos : 0 < rate
   pos = let h = t .subsecond in omega arith
 
+  -- another clock at k's rate
+  timed : {j : Clock} → rateOf j ≡ rate → j .subsecond < rate → j .offset .nanoseconds < nanosPerSecond →
+      j .host .nanoseconds < nanosPerSecond → Timed rate j
+  timed r u o h = record { own = r; known = t .known; subsecond = u; offset = o; host = h }
+
   pub time-timed : (s u : ℕ) → u < rate → Timed rate (withTime s u k)
-  time-timed s u h = record { own = t .own; known = t .known; subsecond = h; offset = t .offset; host = t .host }
+  time-timed s u h = timed (t .own) h (t .offset) (t .host)
 
   pub control-timed : (n : ℕ) → Timed rate (withControl n k)
-  control-timed n = record { own = t .own; known = t .known; subsecond = t .subsecond; offset = t .offset; host = t .host }
+  control-timed n = timed (t .own) (t .subsecond) (t .offset) (t .host)
 
   pub alarm-timed : (a : Alarm) → Timed rate (withAlarm a k)
-  alarm-timed a = record { own = t .own; known = t .known; subsecond = t .subsecond; offset = t .offset; host = t .host }
+  alarm-timed a = timed (t .own) (t .subsecond) (t .offset) (t .host)
 
   pub shadow-timed : (s : Shadow) → Timed rate (withShadow s k)
-  shadow-timed s = record { own = t .own; known = t .known; subsecond = t .subsecond; offset = t .offset; host = t .host }
+  shadow-timed s = timed (t .own) (t .subsecond) (t .offset) (t .host)
 
   pub poll-timed : (n : ℕ) → Timed rate (withPoll n k)
-  poll-timed n = record { own = t .own; known = t .known; subsecond = t .subsecond; offset = t .offset; host = t .host }
+  poll-timed n = timed (t .own) (t .subsecond) (t .offset) (t .host)
 
   pub alarm-shadow-timed : (s : Shadow) → Timed rate (withAlarmShadow s k)
-  alarm-shadow-timed s = record { own = t .own; known = t .known; subsecond = t .subsecond; offset = t .offset; host = t .host }
+  alarm-shadow-timed s = timed (t .own) (t .subsecond) (t .offset) (t .host)
 
   offset-timed : (a b : ℕ) → Timed rate (withOffset (signedDifference a b) k)
-  offset-timed a b = record { own = t .own; known = t .known; subsecond = t .subsecond; offset = signed-small a b; host = t .host }
+  offset-timed a b = timed (t .own) (t .subsecond) (signed-small a b) (t .host)
 
   pub moved-timed : (c : ℕ) → Timed rate (movedTime rate c k)
   moved-timed c =
@@ -63,7 +68,7 @@ module _ (rate : ℕ) (k : Clock) (t : Timed rate k) where
   pub kept-timed : (new : ℕ) → Timed rate (timeKept rate new k)
   kept-timed =
       kept-cases (Timed rate) rate k pos
-      (λ s u _ h. record { own = t .own; known = t .known; subsecond = h; offset = t .offset; host = t .host })
+      (λ s u _ h. timed (t .own) h (t .offset) (t .host))
       (λ _. offset-timed (timeOf rate k) (hostNanoseconds (k .host))) t
 
   pub offset-for-timed : (s : ℕ) → Timed rate (offsetFor s k)

@@ -381,7 +381,8 @@ module _ (rate : ℕ) (r : Rate rate) (c : ℕ) (k : Clock) where
       checked : (n : ℕ) → n < pollLimit rate → GoodClock rate (checkAlarm rate (withPoll n k))
       checked n h = check-good rate (withPoll n k) (poll-parts p n h)
 
-pub advance-good : (rate : ℕ) → Rate rate → (c : ℕ) (k : Clock) → GoodClock rate k → GoodClock rate (advanceClock rate c k)
+pub advance-good : (rate : ℕ) → Rate rate → (c : ℕ) (k : Clock) → GoodClock rate k →
+    GoodClock rate (advanceClock rate c k)
 unfolding advanceClock
 advance-good rate r c k s = end-good rate r c (movedTime rate c k) (moved-parts rate r c k (s .parts))
 
