@@ -96,11 +96,6 @@ pub record Kept (h r : HardwareTimer) : Type 0 where
   pub small : h .control < 16 → r .control < 16
 
 module _ (h : HardwareTimer) (f : TimerFits h) where
-  -- the words of a channel with the reload and the prescaler of h
-  pub fits-with : {r : HardwareTimer} → r .counter < 2 ^ 64 → r .compare < 2 ^ 64 → r .reload ≡ h .reload →
-      r .prescaler ≡ h .prescaler → TimerFits r
-  fits-with p q e d = record { counter = p; compare = q; reload = rw e (f .reload); prescaler = rw d (f .prescaler) }
-
   -- the counter moves
   moved : (n : ℕ) → n < 2 ^ 64 → Kept h (withCounter n h)
   moved n p =
@@ -110,7 +105,7 @@ module _ (h : HardwareTimer) (f : TimerFits h) where
         irq = refl;
         mode = refl;
         pending = λ e. e;
-        fits = fits-with p (f .compare) refl refl;
+        fits = record { counter = p; compare = f .compare; reload = f .reload; prescaler = f .prescaler };
         small = λ e. e;
       }
 
@@ -123,7 +118,7 @@ module _ (h : HardwareTimer) (f : TimerFits h) where
         irq = irq-kept (h .control);
         mode = mode-kept (h .control);
         pending = λ e. refl;
-        fits = fits-with p (f .compare) refl refl;
+        fits = record { counter = p; compare = f .compare; reload = f .reload; prescaler = f .prescaler };
         small = small-kept (h .control);
       }
 
@@ -137,7 +132,7 @@ module _ (h : HardwareTimer) (f : TimerFits h) where
         irq = refl;
         mode = refl;
         pending = λ e. refl;
-        fits = fits-with p q refl refl;
+        fits = record { counter = p; compare = q; reload = f .reload; prescaler = f .prescaler };
         small = λ e. e;
       }
 

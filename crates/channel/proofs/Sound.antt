@@ -3,11 +3,12 @@
 use Prim.Native.Nat.{ℕ, _+_, _^_, _<_}
 use native.Mathlib.Nat.{mod-lt}
 use native.Mathlib.Omega.{arith}
-use mathlib.Core.Path.{_≡_, refl}
+use mathlib.Core.Path.{_≡_}
 use mathlib.Core.Bool.{Bool, true}
 use lib.Dec.{ltb}
 use borrow.Author.Tests.{ltb-true, lt-ltb}
 use Rattle.wide.specs.Bits.{bit}
+use Rattle.wide.specs.Fields.{withByte}
 use Rattle.wide.proofs.BigEndian.{with-byte-fits}
 use Rattle.wide.proofs.Choices.{choose, and-parts, and-join}
 use Rattle.channel.specs.declared.HardwareTimer.{HardwareTimer}
@@ -22,7 +23,7 @@ use Rattle.channel.specs.Channel.{
 use Rattle.channel.specs.Prescaler.{runs, ticksOf, phaseAfter, advanced}
 use Rattle.channel.specs.Modes.{ticked}
 use Rattle.channel.specs.Registers.{controlWritten, byteWritten}
-use Rattle.channel.proofs.Keeping.{fits-with, Kept, ticked-keeps, written-cases}
+use Rattle.channel.proofs.Keeping.{Kept, ticked-keeps, written-cases}
 
 pub record GoodTimer (h : HardwareTimer) : Type 0 where
   pub fits : TimerFits h
@@ -48,13 +49,14 @@ module _ (h : HardwareTimer) where
       and-join (ltb (h .control) 16) (ltb (h .phase) (divisor h)) (lt-ltb (h .control) 16 (g .control))
       (lt-ltb (h .phase) (divisor h) (g .phase))
 
-pub fresh-good : GoodTimer freshTimer
-fresh-good =
-    record {
-      fits = record { counter = omega arith; compare = omega arith; reload = omega arith; prescaler = omega arith };
-      control = omega arith;
-      phase = omega arith;
-    }
+-- the facts in their order
+made : {h : HardwareTimer} → h .counter < 2 ^ 64 → h .compare < 2 ^ 64 → h .reload < 2 ^ 64 → h .prescaler < 2 ^ 32 →
+    h .control < 16 → h .phase < divisor h → GoodTimer h
+made c m r p n u =
+    record { fits = record { counter = c; compare = m; reload = r; prescaler = p }; control = n; phase = u }
+
+pub fresh-timer-good : GoodTimer freshTimer
+fresh-timer-good = made (omega arith) (omega arith) (omega arith) (omega arith) (omega arith) (omega arith)
 
 -- ---- an advance
 
@@ -64,7 +66,8 @@ module _ (selected : Bool) (c : ℕ) (h : HardwareTimer) (f : TimerFits h) where
   start = withPhase (phaseAfter c h) h
 
   pub start-fits : TimerFits start
-  start-fits = fits-with h f (f .counter) (f .compare) refl refl
+  start-fits =
+      record { counter = f .counter; compare = f .compare; reload = f .reload; prescaler = f .prescaler }
 
   pub advance-kept : Kept start (ticked (ticksOf c h) start)
   advance-kept = ticked-keeps start start-fits (ticksOf c h)
@@ -83,47 +86,28 @@ advanced-good selected c h g =
 -- ---- registers
 
 module _ (h : HardwareTimer) (g : GoodTimer h) where
-  -- a channel with the reload and the prescaler of h
-  good-with : {r : HardwareTimer} → r .counter < 2 ^ 64 → r .compare < 2 ^ 64 → r .reload ≡ h .reload →
-      r .prescaler ≡ h .prescaler → r .control < 16 → r .phase < divisor r → GoodTimer r
-  good-with p q e d c l = record { fits = fits-with h (g .fits) p q e d; control = c; phase = l }
+  abbrev f : TimerFits h
+  f = g .fits
 
   pub flags-good : (pending armed : Bool) → GoodTimer (withFlags pending armed h)
-  flags-good pending armed =
-      good-with (g .fits .counter) (g .fits .compare) refl refl (g .control) (g .phase)
+  flags-good pending armed = made (f .counter) (f .compare) (f .reload) (f .prescaler) (g .control) (g .phase)
 
   control-good : (w : ℕ) → GoodTimer (controlWritten w h)
   unfolding controlWritten
   control-good w =
       choose GoodTimer (bit 4 w)
-      (λ _. good-with (omega arith) (g .fits .compare) refl refl (omega arith) (omega arith))
-      (λ _. good-with (g .fits .counter) (g .fits .compare) refl refl (omega arith) (g .phase))
+      (λ _. made (omega arith) (f .compare) (f .reload) (f .prescaler) (omega arith) (omega arith))
+      (λ _. made (f .counter) (f .compare) (f .reload) (f .prescaler) (omega arith) (g .phase))
 
   pub byte-good : (register i v : ℕ) → v < 256 → GoodTimer (byteWritten register i v h)
   byte-good register i v b =
       written-cases GoodTimer register i v h (λ _. control-good)
-      (λ k l. good-with (with-byte-fits 8 k v _ l b (g .fits .counter)) (g .fits .compare) refl refl (g .control)
-      (g .phase))
-      (λ k l. good-with (g .fits .counter) (with-byte-fits 8 k v _ l b (g .fits .compare)) refl refl (g .control)
-      (g .phase))
-      (λ k l. record {
-        fits = record {
-          counter = g .fits .counter;
-          compare = g .fits .compare;
-          reload = with-byte-fits 8 k v _ l b (g .fits .reload);
-          prescaler = g .fits .prescaler;
-        };
-        control = g .control;
-        phase = g .phase;
-      })
-      (λ k l. record {
-        fits = record {
-          counter = g .fits .counter;
-          compare = g .fits .compare;
-          reload = g .fits .reload;
-          prescaler = with-byte-fits 4 k v _ l b (g .fits .prescaler);
-        };
-        control = g .control;
-        phase = omega arith;
-      })
+      (λ k l. made (word k l (f .counter)) (f .compare) (f .reload) (f .prescaler) (g .control) (g .phase))
+      (λ k l. made (f .counter) (word k l (f .compare)) (f .reload) (f .prescaler) (g .control) (g .phase))
+      (λ k l. made (f .counter) (f .compare) (word k l (f .reload)) (f .prescaler) (g .control) (g .phase))
+      (λ k l. made (f .counter) (f .compare) (f .reload) (with-byte-fits 4 k v (h .prescaler) l b (f .prescaler))
+      (g .control) (omega arith))
       g
+    where
+      word : (k : ℕ) {n : ℕ} → k < 8 → n < 2 ^ 64 → withByte k v n < 2 ^ 64
+      word k {n} l w = with-byte-fits 8 k v n l b w

@@ -547,8 +547,8 @@ module _ (rate i v : ℕ) (k : Clock) (s : GoodClock rate k) where
 
 -- ---- the fresh clock
 
-pub fresh-good : (rate : ℕ) → Rate rate → GoodClock rate (freshClockAt rate)
-fresh-good rate r = record {
+pub fresh-clock-good : (rate : ℕ) → Rate rate → GoodClock rate (freshClockAt rate)
+fresh-clock-good rate r = record {
   parts = record {
     own = refl;
     control = omega arith;

@@ -11,8 +11,8 @@ use Rattle.controller.specs.declared.IrqController.{IrqController}
 use Rattle.controller.specs.Controller.{ControllerFits, fresh, sourceSet, pendingCleared, controllerWritten}
 use Rattle.controller.proofs.Bits.{with-bit-lt, without-lt}
 
-pub fresh-fits : ControllerFits fresh
-fresh-fits = record { pending = omega arith; enable = omega arith; levels = omega arith }
+pub fresh-controller-fits : ControllerFits fresh
+fresh-controller-fits = record { pending = omega arith; enable = omega arith; levels = omega arith }
 
 module _ (c : IrqController) (f : ControllerFits c) where
   pub source-fits : (k : ℕ) (level : Bool) → ControllerFits (sourceSet c k level)
