@@ -1,7 +1,7 @@
 -- What a contract quotes of the deadline. Each theorem is about a sound machine board. In the first two parts its line
 -- is low and its clock does not run from host time: its deadline is d, or it gives none. In the last its clock has a
 -- deadline of its own. Assumes nothing.
-use Prim.Native.Nat.{ℕ, _+_, _-_, _*_, _≤_, _<_}
+use Prim.Native.Nat.{ℕ, _+_, _-_, _≤_, _<_}
 use native.Mathlib.Omega.{arith}
 use mathlib.Core.Path.{_≡_, sym, ap, _∙_}
 use mathlib.Core.Bool.{true, false, not, _&&_, _||_, or-false, or-true, false≢true}
@@ -14,7 +14,7 @@ use Rattle.wide.specs.Deadline.{due}
 use Rattle.wide.proofs.Choices.{either, and-parts, leb-same}
 use Rattle.wide.proofs.Deadlines.{due-sooner, due-is}
 use Rattle.clock.specs.Clock.{rateOf, fromHost, ownTime}
-use Rattle.clock.specs.Deadline.{awaited, clockDeadline}
+use Rattle.clock.specs.Deadline.{awaited, toAlarm, clockDeadline}
 use Rattle.board.specs.declared.Board.{Board}
 use Rattle.board.specs.Board.{BoardFits, line, exactDeadline, sound}
 use Rattle.board.specs.Channels.{soonestOf}
@@ -91,9 +91,6 @@ module _ (b : Board) (f : BoardFits b) (s : sound b ≡ true) (low : line b ≡ 
 
 -- where the clock has a deadline of its own, by the board's rate
 module _ (b : Board) (f : BoardFits b) (s : sound b ≡ true) where
-  abbrev toAlarm : ℕ
-  toAlarm = (b .clock .alarm .seconds - b .clock .seconds) * rateOf (b .clock) - b .clock .subsecond
-
   ahead : awaited (b .clock) ≡ true → b .clock .seconds < b .clock .alarm .seconds
   ahead a =
       let k = b .clock in
@@ -103,7 +100,8 @@ module _ (b : Board) (f : BoardFits b) (s : sound b ≡ true) where
       let r = and-parts (k .alarm .armed) (not (k .alarm .pending)) (q .1) in
       clock-facts b (f .clock) s .ahead (r .0) (p .0)
 
-  awaited-is : awaited (b .clock) ≡ true → clockDeadline (rateOf (b .clock)) (b .clock) ≡ some toAlarm
+  awaited-is : awaited (b .clock) ≡ true →
+      clockDeadline (rateOf (b .clock)) (b .clock) ≡ some (toAlarm (rateOf (b .clock)) (b .clock))
   unfolding clockDeadline
   awaited-is a = rw (a, lt-leb (b .clock .alarm .seconds) (b .clock .seconds) (ahead a))
 
@@ -113,7 +111,7 @@ module _ (b : Board) (f : BoardFits b) (s : sound b ≡ true) where
 
   module _ (n : ℕ) (own : clockDeadline (rateOf (b .clock)) (b .clock) ≡ some n) where
     -- it is the cycles to the alarm
-    pub clock-deadline : n ≡ toAlarm
+    pub clock-deadline : n ≡ toAlarm (rateOf (b .clock)) (b .clock)
     clock-deadline =
         either (awaited (b .clock)) (λ a. ap orZero (sym own ∙ awaited-is a))
         (λ a. absurd (false≢true (ap isPresent (sym (resting-is a) ∙ own))))

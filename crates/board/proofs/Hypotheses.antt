@@ -35,7 +35,7 @@ use Rattle.clock.specs.Clock.{
   advanceClock,
 }
 use Rattle.clock.specs.Fields.{freshClock, withControl, withAlarm}
-use Rattle.clock.specs.Sound.{soundRate, soundOffset, soundAlarm, soundParts as clockParts, alarmAhead, soundClock}
+use Rattle.clock.specs.Sound.{soundRate, soundOffset, soundAlarm, soundFields, alarmAhead, soundClock}
 use Rattle.clock.specs.Deadline.{clockDeadline}
 use Rattle.controller.specs.Bits.{withBit}
 use Rattle.controller.specs.Controller.{sourceSet}
@@ -96,7 +96,7 @@ pub shut-out :
 unfolding
     enabledOf irqEnabledOf disabled soundTimer lineOf advanced ticked tickedIn oneShot ticksToGo deadlineOf shifted
     ownNanoseconds timeOf timeSeconds alarmReached checkAlarm movedTime endAdvance advanceClock soundRate soundOffset
-    soundAlarm clockParts
+    soundAlarm soundFields
     alarmAhead soundClock clockDeadline withBit sourceSet mapFrom foldFrom line exactDeadline wired soundParts sound
     movedBoard advancedBoard
     hostTimeRefusal answerOf after afterAll

@@ -17,7 +17,7 @@ use Rattle.clock.specs.Sound.{soundRate}
 use Rattle.clock.proofs.Rate.{three-rate}
 use Rattle.clock.proofs.Soundness.{facts-sound as clock-sound, fresh-sound as clock-fresh}
 use Rattle.controller.specs.declared.IrqController.{IrqController}
-use Rattle.controller.specs.Controller.{sourceSet, byteWritten}
+use Rattle.controller.specs.Controller.{sourceSet, controllerWritten}
 use Rattle.board.specs.declared.Board.{Board}
 use Rattle.board.specs.declared.calls.EmptyAnswer.{EmptyAnswer}
 use Rattle.board.specs.Loops.{foldFrom}
@@ -126,7 +126,7 @@ pub controller-read-keeps : (address : ℕ) → Keeps (controllerReadCall addres
 controller-read-keeps address b g z = wired-good b g
 
 pub controller-write-keeps : (address value : ℕ) → Keeps (controllerWriteCall address value)
-controller-write-keeps address value b g z = controller-good b g (byteWritten (b .controller) address value)
+controller-write-keeps address value b g z = controller-good b g (controllerWritten (b .controller) address value)
 
 pub output-keeps : Keeps outputCall
 output-keeps b g z = wired-good b g

@@ -13,7 +13,7 @@ use Rattle.clock.specs.declared.HostTime.{HostTime}
 use Rattle.clock.specs.Clock.{rateOf, nanosPerSecond, advanceClock}
 use Rattle.clock.specs.Sound.{soundRate}
 use Rattle.clock.specs.Fields.{withHost}
-use Rattle.controller.specs.Controller.{sourceSet, byteRead, byteWritten, outputOf}
+use Rattle.controller.specs.Controller.{sourceSet, controllerRead, controllerWritten, outputOf}
 use Rattle.board.specs.declared.Board.{Board}
 use Rattle.board.specs.declared.calls.EmptyAnswer.{EmptyAnswer}
 use Rattle.board.specs.declared.calls.AdvanceAnswer.{AdvanceAnswer}
@@ -236,13 +236,13 @@ sourceCall number level b =
 
 abbrev pub controllerReadCall : ℕ → Board → Call
 controllerReadCall address b =
-    record { refusal = 0; board = b; members = byteRead (b .controller) address ∷ [] }
+    record { refusal = 0; board = b; members = controllerRead (b .controller) address ∷ [] }
 
 abbrev pub controllerWriteCall : ℕ → ℕ → Board → Call
 controllerWriteCall address value b =
     record {
       refusal = 0;
-      board = withController (byteWritten (b .controller) address value) b;
+      board = withController (controllerWritten (b .controller) address value) b;
       members = [];
     }
 

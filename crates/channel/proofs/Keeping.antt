@@ -51,20 +51,22 @@ use Rattle.channel.specs.Registers.{
 
 -- a property of the channel after it, by the field that the register has
 pub written-cases : (P : HardwareTimer → Type 0) (register i v : ℕ) (h : HardwareTimer) →
-    (register ≡ controlAt → (w : ℕ) → P (controlWritten w h)) → ((n : ℕ) → P (withCounter n h)) →
-    ((n : ℕ) → P (compareWritten n h)) → ((n : ℕ) → P (withReload n h)) → ((n : ℕ) → P (prescalerWritten n h)) → P h →
-    P (byteWritten register i v h)
+    (register ≡ controlAt → (w : ℕ) → P (controlWritten w h)) →
+    ((k : ℕ) → k < 8 → P (withCounter (withByte k v (h .counter)) h)) →
+    ((k : ℕ) → k < 8 → P (compareWritten (withByte k v (h .compare)) h)) →
+    ((k : ℕ) → k < 8 → P (withReload (withByte k v (h .reload)) h)) →
+    ((k : ℕ) → k < 4 → P (prescalerWritten (withByte k v (h .prescaler)) h)) → P h → P (byteWritten register i v h)
 unfolding byteWritten
 written-cases P register i v h control counter compare reload prescaler none =
     choose P (eqb register controlAt)
     (λ e. control (eqb-true register controlAt e) (withByte (3 - i) v (h .control)))
-    (λ _. choose P (eqb register countLowAt) (λ _. counter (withByte (3 - i) v (h .counter)))
-    (λ _. choose P (eqb register countHighAt) (λ _. counter (withByte (7 - i) v (h .counter)))
-    (λ _. choose P (eqb register compareLowAt) (λ _. compare (withByte (3 - i) v (h .compare)))
-    (λ _. choose P (eqb register compareHighAt) (λ _. compare (withByte (7 - i) v (h .compare)))
-    (λ _. choose P (eqb register reloadLowAt) (λ _. reload (withByte (3 - i) v (h .reload)))
-    (λ _. choose P (eqb register reloadHighAt) (λ _. reload (withByte (7 - i) v (h .reload)))
-    (λ _. choose P (eqb register prescalerAt) (λ _. prescaler (withByte (3 - i) v (h .prescaler)))
+    (λ _. choose P (eqb register countLowAt) (λ _. counter (3 - i) (omega arith))
+    (λ _. choose P (eqb register countHighAt) (λ _. counter (7 - i) (omega arith))
+    (λ _. choose P (eqb register compareLowAt) (λ _. compare (3 - i) (omega arith))
+    (λ _. choose P (eqb register compareHighAt) (λ _. compare (7 - i) (omega arith))
+    (λ _. choose P (eqb register reloadLowAt) (λ _. reload (3 - i) (omega arith))
+    (λ _. choose P (eqb register reloadHighAt) (λ _. reload (7 - i) (omega arith))
+    (λ _. choose P (eqb register prescalerAt) (λ _. prescaler (3 - i) (omega arith))
     (λ _. none))))))))
 
 -- ---- ticks
@@ -103,7 +105,7 @@ module _ (h : HardwareTimer) (f : TimerFits h) where
         irq = refl;
         mode = refl;
         pending = λ e. e;
-        fits = record { counter = p; compare = f .compare };
+        fits = record { counter = p; compare = f .compare; reload = f .reload; prescaler = f .prescaler };
         small = λ e. e;
       }
 
@@ -116,7 +118,7 @@ module _ (h : HardwareTimer) (f : TimerFits h) where
         irq = irq-kept (h .control);
         mode = mode-kept (h .control);
         pending = λ e. refl;
-        fits = record { counter = p; compare = f .compare };
+        fits = record { counter = p; compare = f .compare; reload = f .reload; prescaler = f .prescaler };
         small = small-kept (h .control);
       }
 
@@ -130,7 +132,7 @@ module _ (h : HardwareTimer) (f : TimerFits h) where
         irq = refl;
         mode = refl;
         pending = λ e. refl;
-        fits = record { counter = p; compare = q };
+        fits = record { counter = p; compare = q; reload = f .reload; prescaler = f .prescaler };
         small = λ e. e;
       }
 

@@ -35,12 +35,13 @@ use Rattle.channel.proofs.Keeping.{Kept, written-cases}
 use Rattle.channel.proofs.Distances.{distance-positive, distance-after}
 use Rattle.channel.proofs.Prescaling.{due-in-cycles}
 use Rattle.channel.proofs.Sound.{
+  GoodTimer,
+  timer-good,
   start,
+  start-fits,
   advance-kept,
   advance-phase,
-  advanced-fits,
-  advanced-sound,
-  sound-phase,
+  advanced-good,
 }
 
 -- ---- ticks to go
@@ -232,7 +233,7 @@ module _ (selected : Bool) (c : ℕ) (h : HardwareTimer) (f : TimerFits h) where
           (λ p. due-asserted selected ran t (kept .irq ∙ e) (kept .pending p)
           ∙ sym (due-asserted selected h (c + t) e p))
           (λ p. waiting e p r
-          (is-ticked (ticksOf c h) (start selected c h f) (record { counter = f .counter; compare = f .compare }))
+          (is-ticked (ticksOf c h) (start selected c h f) (start-fits selected c h f))
           ∙ sym (due-waiting selected h (c + t) e p r f q)))
           (λ e. due-quiet selected ran t (kept .irq ∙ e) ∙ sym (due-quiet selected h (c + t) e))
 
@@ -260,16 +261,19 @@ module _ (selected : Bool) (c : ℕ) (h : HardwareTimer) (f : TimerFits h) (s : 
   abbrev after : HardwareTimer
   after = advanced selected c h
 
+  good : GoodTimer h
+  good = timer-good h f s
+
   -- without its part of the line, what is due is the deadline
   due-after : (t : ℕ) → channelDue selected after t ≡ due (deadlineOf selected h) (c + t)
   unfolding channelDue
   due-after t =
-      advance-due selected c h f (sound-phase h s) t ∙ ap (λ v. v || due (deadlineOf selected h) (c + t)) low
+      advance-due selected c h f (good .phase) t ∙ ap (λ v. v || due (deadlineOf selected h) (c + t)) low
 
   -- it comes into the line when its deadline has passed, and not before
   pub line-rises : lineOf after ≡ due (deadlineOf selected h) c
   line-rises =
-      line-due selected after (advanced-fits selected c h f) (sound-phase after (advanced-sound selected c h f s))
+      let g = advanced-good selected c h good in line-due selected after (g .fits) (g .phase)
       ∙ due-after 0
       ∙ rw add-zero
 
@@ -296,5 +300,5 @@ pub written-line : (register i v : ℕ) (h : HardwareTimer) → (register ≡ 0 
     lineOf (byteWritten register i v h) ≡ lineOf h
 unfolding lineOf
 written-line register i v h other =
-    written-cases (λ r. lineOf r ≡ lineOf h) register i v h (λ e. absurd (other e)) (λ _. refl) (λ _. refl) (λ _. refl)
-    (λ _. refl) refl
+    written-cases (λ r. lineOf r ≡ lineOf h) register i v h (λ e. absurd (other e)) (λ _ _. refl)
+    (λ _ _. refl) (λ _ _. refl) (λ _ _. refl) refl

@@ -66,7 +66,13 @@ use Rattle.channel.proofs.Counting.{
   still-matches,
 }
 use Rattle.channel.proofs.Law.{advanced-still}
-use Rattle.channel.proofs.Sound.{sound-phase, advance-kept, advanced-fits, advanced-sound}
+use Rattle.channel.proofs.Sound.{
+  timer-good,
+  timer-sound,
+  start-fits,
+  advance-kept,
+  advanced-good,
+}
 
 -- ---- the points k, k + r, k + 2 r, .. up to n, and up to m
 
@@ -335,7 +341,7 @@ module _ (selected : Bool) (c d : ℕ) (h : HardwareTimer) (f : TimerFits h) whe
       choose (λ (x : HardwareTimer). matchesOf selected c h + matchesOf selected d x ≡ matchesOf selected (c + d) h)
       (runs selected h)
       (λ r. rw (running-count selected c h r, running-count selected (c + d) h r, later)
-      (running r (is-parted (ticksOf c h) begun (record { counter = f .counter; compare = f .compare }))))
+      (running r (is-parted (ticksOf c h) begun (start-fits selected c h f))))
       (λ r. rw (still-matches selected c h r, still-matches selected d h r, still-matches selected (c + d) h r))
     where
       begun : HardwareTimer
@@ -358,22 +364,21 @@ module _ (selected : Bool) (c d : ℕ) (h : HardwareTimer) (f : TimerFits h) whe
           rw (running-count selected d ran (rw e r), kept .phase, kept .prescaler) (g (ticksOf d begun))
 
 -- no cycles meet no point
-module _ (selected : Bool) (h : HardwareTimer) (sound : soundTimer h ≡ true) where
-  no-cycles : matchesOf selected 0 h ≡ 0
-  no-cycles =
-      either (runs selected h)
-      (λ r. running-count selected 0 h r ∙ rw (add-zero (h .phase), div-eq-of-lt (sound-phase h sound)))
-      (still-matches selected 0 h)
+no-cycles : (selected : Bool) (h : HardwareTimer) → h .phase < divisor h → matchesOf selected 0 h ≡ 0
+no-cycles selected h p =
+    either (runs selected h)
+    (λ r. running-count selected 0 h r ∙ rw (add-zero (h .phase), div-eq-of-lt p))
+    (still-matches selected 0 h)
 
 -- 'how many compare points it met' in parts: of every sound channel, for every list of parts, none too
 pub matches-split : (selected : Bool) (cs : List ℕ) (h : HardwareTimer) → TimerFits h → soundTimer h ≡ true →
     matchesBy selected cs h ≡ matchesOf selected (total cs) h
 unfolding matchesBy
-matches-split selected [] h f sound = sym (no-cycles selected h sound)
-matches-split selected (c ∷ cs) h f sound =
+matches-split selected [] h f s = sym (no-cycles selected h (timer-good h f s .phase))
+matches-split selected (c ∷ cs) h f s =
+    let g = advanced-good selected c h (timer-good h f s) in
     ap (λ (n : ℕ). matchesOf selected c h + n)
-    (matches-split selected cs (advanced selected c h) (advanced-fits selected c h f)
-    (advanced-sound selected c h f sound))
+    (matches-split selected cs (advanced selected c h) (g .fits) (timer-sound (advanced selected c h) g))
     ∙ matches-add selected c (total cs) h f
 
 -- ---- the next compare point of a periodic channel

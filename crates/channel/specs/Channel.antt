@@ -6,10 +6,12 @@ use lib.Dec.{ltb}
 use Rattle.wide.specs.Bits.{bit}
 use Rattle.channel.specs.declared.HardwareTimer.{HardwareTimer}
 
--- what the types of a machine channel say of the words that its laws are about
+-- what the types of a machine channel say of its words; a sound one's control and phase follow
 pub record TimerFits (h : HardwareTimer) : Type 0 where
   pub counter : h .counter < 2 ^ 64
   pub compare : h .compare < 2 ^ 64
+  pub reload : h .reload < 2 ^ 64
+  pub prescaler : h .prescaler < 2 ^ 32
 
 -- 'A fresh board ..: everything zero'
 abbrev pub freshTimer : HardwareTimer

@@ -31,7 +31,7 @@ use Rattle.clock.specs.Clock.{
   polls,
   endAdvance,
 }
-use Rattle.clock.specs.Deadline.{awaited, clockDeadline}
+use Rattle.clock.specs.Deadline.{awaited, toAlarm, clockDeadline}
 use Rattle.clock.specs.Fields.{withTime, withOffset, withAlarm, withShadow, withPoll, withAlarmShadow}
 use Rattle.clock.specs.Registers.{
   signedDifference,
@@ -108,7 +108,7 @@ module _ (rate : ℕ) (k : Clock) where
   deadline-past n e h f = rw (e, le-leb (k .alarm .seconds) (k .seconds) h, f)
 
   pub deadline-ahead : (n : ℕ) → awaited k ≡ true → k .seconds < k .alarm .seconds →
-      n ≡ (k .alarm .seconds - k .seconds) * rate - k .subsecond → some n ≡ clockDeadline rate k
+      n ≡ toAlarm rate k → some n ≡ clockDeadline rate k
   unfolding clockDeadline
   deadline-ahead n e h f = rw (e, lt-leb (k .alarm .seconds) (k .seconds) h, f)
 

@@ -1,12 +1,12 @@
 -- What a rule's cases keep, the rule keeps: of the steps that change the time. Assumes nothing.
 use Prim.Native.Nat.{ℕ, _+_, _-_, _*_, _/_, _%_, _^_, _≤_, _<_}
 use mathlib.Core.Path.{_≡_}
-use mathlib.Core.Bool.{false, _&&_}
+use mathlib.Core.Bool.{false, not, _&&_}
 use native.Mathlib.Nat.{mod-lt}
 use native.Mathlib.Omega.{arith}
 use lib.Dec.{ltb}
-use borrow.Author.Tests.{ltb-true, ltb-false}
-use Rattle.wide.proofs.Choices.{choose}
+use borrow.Author.Tests.{ltb-true, ltb-false, not-true}
+use Rattle.wide.proofs.Choices.{choose, and-parts}
 use Rattle.wide.specs.Number.{largest}
 use Rattle.clock.specs.declared.Clock.{Clock}
 use Rattle.clock.specs.Clock.{nanosPerSecond, fromHost, ownTime, hostNanoseconds, timeOf, movedTime}
@@ -18,7 +18,6 @@ use Rattle.clock.specs.Registers.{
   takesHost,
   takesOwn,
   timeKept,
-  offsetFor,
 }
 use Rattle.clock.proofs.Durations.{cycles-below}
 
@@ -36,27 +35,23 @@ module _ (P : Clock → Type 0) (rate : ℕ) (k : Clock) where
       (λ e. on (ltb-false (largest - k .seconds) ((k .subsecond + c) / rate) e)))
       rests
 
-  module _ (offset : (a b : ℕ) → P (withOffset (signedDifference a b) k)) (same : P k) where
-    -- seconds committed: an offset, or none
-    pub offset-for-cases : (s : ℕ) → P (offsetFor s k)
-    unfolding offsetFor
-    offset-for-cases s =
-        choose P (fromHost (k .control)) (λ _. offset (s * nanosPerSecond) (hostNanoseconds (k .host))) (λ _. same)
+  module _ (pos : 0 < rate) (set : (s u : ℕ) → s < 2 ^ 64 → u < rate → P (ownTimeSet s u k)) where
+    set-cases : (n : ℕ) → P (setTime rate n k)
+    unfolding setTime
+    set-cases n =
+        choose P (ltb largest (n / nanosPerSecond)) (λ _. set largest 0 (omega arith) pos)
+        (λ e. set (n / nanosPerSecond) (n % nanosPerSecond * rate / nanosPerSecond) (word e)
+        (cycles-below rate (n % nanosPerSecond) (mod-lt n (omega arith)) pos))
+      where
+        word : ltb largest (n / nanosPerSecond) ≡ false → n / nanosPerSecond < 2 ^ 64
+        word e = let l = ltb-false largest (n / nanosPerSecond) e in omega arith
 
-    module _ (pos : 0 < rate) (set : (s u : ℕ) → s < 2 ^ 64 → u < rate → P (ownTimeSet s u k)) where
-      set-cases : (n : ℕ) → P (setTime rate n k)
-      unfolding setTime
-      set-cases n =
-          choose P (ltb largest (n / nanosPerSecond)) (λ _. set largest 0 (omega arith) pos)
-          (λ e. set (n / nanosPerSecond) (n % nanosPerSecond * rate / nanosPerSecond) (word e)
-          (cycles-below rate (n % nanosPerSecond) (mod-lt n (omega arith)) pos))
-        where
-          word : ltb largest (n / nanosPerSecond) ≡ false → n / nanosPerSecond < 2 ^ 64
-          word e = let l = ltb-false largest (n / nanosPerSecond) e in omega arith
-
-      -- control changed: an offset, the own time, or neither
-      pub kept-cases : (new : ℕ) → P (timeKept rate new k)
-      unfolding timeKept
-      kept-cases new =
-          choose P (takesHost new (k .control)) (λ _. offset (timeOf rate k) (hostNanoseconds (k .host)))
-          (λ _. choose P (takesOwn new (k .control)) (λ _. set-cases (timeOf rate k)) (λ _. same))
+    -- control changed: an offset, which a clock takes that did not run from host time, the own time, or neither
+    pub kept-cases : (fromHost (k .control) ≡ false →
+        P (withOffset (signedDifference (timeOf rate k) (hostNanoseconds (k .host))) k)) → P k → (new : ℕ) →
+        P (timeKept rate new k)
+    unfolding timeKept
+    kept-cases offset same new =
+        choose P (takesHost new (k .control))
+        (λ e. offset (not-true (fromHost (k .control)) (and-parts (fromHost new) (not (fromHost (k .control))) e .1)))
+        (λ _. choose P (takesOwn new (k .control)) (λ _. set-cases (timeOf rate k)) (λ _. same))

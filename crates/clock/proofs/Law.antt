@@ -34,7 +34,7 @@ use Rattle.clock.specs.Clock.{
   endAdvance,
   advanceClock,
 }
-use Rattle.clock.specs.Deadline.{clockLine, clockDeadline, clockDue}
+use Rattle.clock.specs.Deadline.{clockLine, toAlarm, alarmCycles, clockDeadline, clockDue}
 use Rattle.clock.specs.Fields.{withTime, withAlarm, withPoll, withHost}
 use Rattle.clock.proofs.Cases.{moved-cases}
 use Rattle.clock.proofs.Tests.{
@@ -49,33 +49,34 @@ use Rattle.clock.proofs.Tests.{
   reached,
   not-reached,
 }
-use Rattle.clock.proofs.Soundness.{Sound, own-time-seconds}
+use Rattle.clock.proofs.Soundness.{GoodClock, own-time-seconds}
 
 -- ---- numbers
 
 -- the deadline of an alarm ahead is reached when the clock's seconds have come to it
-alarm-due : (rate a s u t : ℕ) → s < a → u < rate →
-    leb (cond (leb a s) 1 ((a - s) * rate - u)) t ≡ leb a (s + (u + t) / rate)
-alarm-due rate a s u t h k =
-    rw (lt-leb a s h)
-    (leb-same ((a - s) * rate - u) t a (s + (u + t) / rate) (λ b. there (by .1 (up b))) (λ b. back (by .0 (down b))))
+alarm-due : (rate : ℕ) (k : Clock) (t : ℕ) → k .seconds < k .alarm .seconds → k .subsecond < rate →
+    leb (alarmCycles rate k) t ≡ leb (k .alarm .seconds) (k .seconds + (k .subsecond + t) / rate)
+alarm-due rate k t h l =
+    rw (lt-leb (k .alarm .seconds) (k .seconds) h)
+    (leb-same (toAlarm rate k) t (k .alarm .seconds) (k .seconds + (k .subsecond + t) / rate)
+    (λ b. there (by .1 (up b))) (λ b. back (by .0 (down b))))
   where
-    pos : 0 < rate
-    pos = omega arith
+    left : ℕ
+    left = k .alarm .seconds - k .seconds
 
-    by : (a - s ≤ (u + t) / rate) ↔ ((a - s) * rate ≤ u + t)
-    by = le-div-iff-mul-le pos
+    by : (left ≤ (k .subsecond + t) / rate) ↔ (left * rate ≤ k .subsecond + t)
+    by = le-div-iff-mul-le (omega arith)
 
-    up : (a - s) * rate - u ≤ t → (a - s) * rate ≤ u + t
+    up : toAlarm rate k ≤ t → left * rate ≤ k .subsecond + t
     up b = omega arith
 
-    down : a ≤ s + (u + t) / rate → a - s ≤ (u + t) / rate
+    down : k .alarm .seconds ≤ k .seconds + (k .subsecond + t) / rate → left ≤ (k .subsecond + t) / rate
     down b = omega arith
 
-    there : a - s ≤ (u + t) / rate → a ≤ s + (u + t) / rate
+    there : left ≤ (k .subsecond + t) / rate → k .alarm .seconds ≤ k .seconds + (k .subsecond + t) / rate
     there b = omega arith
 
-    back : (a - s) * rate ≤ u + t → (a - s) * rate - u ≤ t
+    back : left * rate ≤ k .subsecond + t → toAlarm rate k ≤ t
     back b = omega arith
 
 -- ---- what is due, by the tests that it asks
@@ -104,11 +105,11 @@ abbrev alarmOn : Clock → Bool
 alarmOn k = bit 0 (k .alarm .enable)
 
 module _ (rate : ℕ) (k : Clock) (t : ℕ) where
-  cycles : ℕ
-  cycles = cond (leb (k .alarm .seconds) (k .seconds)) 1 ((k .alarm .seconds - k .seconds) * rate - k .subsecond)
+  abbrev cycles : ℕ
+  cycles = alarmCycles rate k
 
   due-is : clockDue rate k t ≡ dueBy (ownTime (k .control)) (alarmOn k) (k .alarm .armed) (k .alarm .pending) cycles t
-  unfolding clockDue clockDeadline cycles
+  unfolding clockDue clockDeadline
   due-is = refl
 
   due-disabled : alarmOn k ≡ false → clockDue rate k t ≡ false
@@ -134,11 +135,10 @@ module _ (rate : ℕ) (k : Clock) (t : ℕ) where
   due-waiting : ownTime (k .control) ≡ true → alarmOn k ≡ true → k .alarm .armed ≡ true → k .alarm .pending ≡ false →
       k .seconds < k .alarm .seconds → k .subsecond < rate →
       clockDue rate k t ≡ leb (k .alarm .seconds) (k .seconds + (k .subsecond + t) / rate)
-  unfolding cycles
   due-waiting p q r s w u =
       due-is
       ∙ waiting (ownTime (k .control)) (alarmOn k) (k .alarm .armed) (k .alarm .pending) cycles t p q r s
-      ∙ alarm-due rate (k .alarm .seconds) (k .seconds) (k .subsecond) t w u
+      ∙ alarm-due rate k t w u
 
 -- ---- c cycles on a clock that they move: its time becomes s and u, and reaches each alarm when it would have
 
@@ -185,7 +185,7 @@ module _ (rate c : ℕ) (k : Clock) (u : k .subsecond < rate) (s : k .seconds < 
       none-passed : (b : Bool) → b ≡ true → (b && ltb 0 c) ≡ false → c ≡ 0
       none-passed b p q = let z = ltb-false 0 c (rw p at q) in omega arith
 
-module _ (rate c : ℕ) (k : Clock) (g : Sound rate k) where
+module _ (rate c : ℕ) (k : Clock) (g : GoodClock rate k) where
   -- the clock is not enabled: only poll changes
   at-rest : (P : Clock → Type 0) → fromHost (k .control) ≡ false → ownTime (k .control) ≡ false → P (withPoll 0 k) →
       P (advanceClock rate c k)
@@ -283,7 +283,7 @@ host-due rate h k t = refl
 -- ---- the line
 
 -- the line is what is due at 0
-pub line-due : (rate : ℕ) (k : Clock) → Sound rate k → clockLine k ≡ clockDue rate k 0
+pub line-due : (rate : ℕ) (k : Clock) → GoodClock rate k → clockLine k ≡ clockDue rate k 0
 line-due rate k g =
     either (ownTime (k .control))
     (λ o. either (alarmOn k)

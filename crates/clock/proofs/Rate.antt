@@ -1,54 +1,16 @@
--- A rate: what proofs use of it, that the rates of a sound board are such, and that no rule changes a clock's. Proofs
--- take what they need of the rate from here, and not from its value. Assumes nothing.
-use Prim.Native.Nat.{ℕ, _+_, _*_, _%_, _^_, _≤_, _<_}
-use mathlib.Core.Path.{_≡_, refl, _∙_, subst⁻¹}
-use mathlib.Core.Bool.{true, _&&_}
+-- A rate: what proofs use of it, and that the rates of a sound board are such. Proofs take what they need of the rate
+-- from here, and not from its value. Assumes nothing.
+use Prim.Native.Nat.{ℕ, _*_, _%_, _^_, _≤_, _<_}
+use mathlib.Core.Path.{_≡_, refl, subst⁻¹}
+use mathlib.Core.Bool.{true}
 use native.Mathlib.Omega.{arith}
-use lib.Dec.{leb, eqb}
+use lib.Dec.{eqb}
 use borrow.Author.Tests.{eqb-true}
-use Rattle.wide.specs.Bits.{bit}
-use Rattle.wide.proofs.Choices.{choose, either}
-use Rattle.clock.specs.declared.Clock.{Clock}
-use Rattle.clock.specs.Clock.{
-  rateOf,
-  pollLimit,
-  setEnabled,
-  alarmReached,
-  checkAlarm,
-  movedTime,
-  polls,
-  endAdvance,
-  advanceClock,
-}
+use Rattle.wide.proofs.Choices.{either}
+use Rattle.clock.specs.Clock.{pollLimit}
 use Rattle.clock.specs.Sound.{soundRate}
 use Rattle.clock.specs.CodeTime.{isPeriod}
-use Rattle.clock.specs.Fields.{
-  freshRate,
-  withControl,
-  withTime,
-  withAlarm,
-  withShadow,
-  withPoll,
-  withAlarmShadow,
-}
-use Rattle.clock.specs.Registers.{
-  mergeByte,
-  timeKept,
-  changeControl,
-  writeControl,
-  shadowByte,
-  complete,
-  unmarked,
-  offsetFor,
-  commitSeconds,
-  writeSeconds,
-  armedAt,
-  commitAlarm,
-  writeAlarm,
-  writeAlarmEnable,
-  acknowledge,
-}
-use Rattle.clock.proofs.Cases.{moved-cases, offset-for-cases, kept-cases}
+use Rattle.clock.specs.Fields.{freshRate}
 
 -- ---- a rate that the rules are for
 
@@ -120,87 +82,3 @@ module _ (p : ℕ) (e : isPeriod p ≡ true) where
       (n ≡ 12_000 → ⊥) → n ≡ 1_000)
       p e (λ h _ _ _ _. absurd (h refl)) (λ _ h _ _ _. absurd (h refl)) (λ _ _ h _ _. absurd (h refl))
       (λ _ _ _ h _. absurd (h refl)) (λ _ _ _ _ h. absurd (h refl)) (λ _ _ _ _ _. refl)
-
--- ---- no rule changes the rate
-
--- j has the rate of k
-pub record SameRate (k j : Clock) : Type 0 where
-  pub same : rateOf j ≡ rateOf k
-
--- what holds of j at the rate of k holds at its own
-pub at-rate : (P : ℕ → Clock → Type 0) (k j : Clock) → SameRate k j → P (rateOf k) j → P (rateOf j) j
-at-rate P k j e h = subst⁻¹ (λ (rate : ℕ). P rate j) (e .same) h
-
--- from k by j to l
-pub by-way : {k j l : Clock} → SameRate k j → SameRate j l → SameRate k l
-by-way p q = record { same = q .same ∙ p .same }
-
-module _ (rate : ℕ) (k : Clock) where
-  pub check-rate : SameRate k (checkAlarm rate k)
-  unfolding checkAlarm
-  check-rate = choose (SameRate k) (alarmReached rate k) (λ _. record { same = refl }) (λ _. record { same = refl })
-
-  pub moved-rate : (c : ℕ) → SameRate k (movedTime rate c k)
-  moved-rate c =
-      moved-cases (SameRate k) rate k c (λ _. record { same = refl }) (λ _. record { same = refl })
-      (λ _. record { same = refl })
-
-  pub offset-for-rate : (s : ℕ) → SameRate k (offsetFor s k)
-  offset-for-rate = offset-for-cases (SameRate k) rate k (λ a b. record { same = refl }) (record { same = refl })
-
-  pub kept-rate : 0 < rate → (new : ℕ) → SameRate k (timeKept rate new k)
-  kept-rate pos =
-      kept-cases (SameRate k) rate k (λ a b. record { same = refl }) (record { same = refl }) pos
-      (λ s u _ _. record { same = refl })
-
-end-rate : (rate c : ℕ) (k : Clock) → SameRate k (endAdvance rate c k)
-unfolding endAdvance
-end-rate rate c k =
-    choose (SameRate k) (polls c k)
-    (λ _. choose (SameRate k) (leb (pollLimit rate) (k .poll + c))
-    (λ _. by-way (record { same = refl }) (check-rate rate (withPoll ((k .poll + c) % pollLimit rate) k)))
-    (λ _. record { same = refl }))
-    (λ _. by-way (record { same = refl }) (check-rate rate (withPoll 0 k)))
-
-module _ (rate : ℕ) (k : Clock) where
-  pub advance-rate : (c : ℕ) → SameRate k (advanceClock rate c k)
-  unfolding advanceClock
-  advance-rate c = by-way (moved-rate rate k c) (end-rate rate c (movedTime rate c k))
-
-  pub control-rate : 0 < rate → (i v : ℕ) → SameRate k (writeControl rate i v k)
-  unfolding writeControl changeControl
-  control-rate pos i v =
-      let new = mergeByte i v (k .control) % 8 in
-      by-way (kept-rate rate k pos new)
-      (by-way (record { same = refl }) (check-rate rate (withControl new (timeKept rate new k))))
-
-  pub seconds-rate : (i v : ℕ) → SameRate k (writeSeconds rate i v k)
-  unfolding writeSeconds commitSeconds
-  seconds-rate i v =
-      let s = shadowByte i v (k .shadow) in
-      choose (SameRate k) (setEnabled (k .control))
-      (λ _. choose (SameRate k) (complete s)
-      (λ _. by-way (offset-for-rate rate k (s .value))
-      (by-way (record { same = refl })
-      (check-rate rate (withShadow (unmarked s) (withTime (s .value) 0 (offsetFor (s .value) k))))))
-      (λ _. record { same = refl }))
-      (λ _. record { same = refl })
-
-  pub alarm-rate : (i v : ℕ) → SameRate k (writeAlarm rate i v k)
-  unfolding writeAlarm commitAlarm
-  alarm-rate i v =
-      let s = shadowByte i v (k .«alarm_shadow») in
-      choose (SameRate k) (complete s)
-      (λ _. by-way (record { same = refl })
-      (check-rate rate (withAlarmShadow (unmarked s) (withAlarm (armedAt (s .value) (k .alarm)) k))))
-      (λ _. record { same = refl })
-
-module _ (i v : ℕ) (k : Clock) where
-  pub enable-rate : SameRate k (writeAlarmEnable i v k)
-  unfolding writeAlarmEnable
-  enable-rate = record { same = refl }
-
-  pub acknowledge-rate : SameRate k (acknowledge i v k)
-  unfolding acknowledge
-  acknowledge-rate =
-      choose (SameRate k) (eqb i 3 && bit 0 v) (λ _. record { same = refl }) (λ _. record { same = refl })

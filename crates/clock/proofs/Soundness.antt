@@ -1,5 +1,5 @@
--- A sound clock's clauses as facts, and that every operation keeps a clock sound, at any rate that is a multiple of
--- 1,000. Sound is document 01's term. Assumes nothing.
+-- A good clock, which has the given rate, is sound at it and of which each field is within its width, and that every
+-- operation keeps it good, at any rate that is a multiple of 1,000. Sound is document 01's term. Assumes nothing.
 use Prim.Native.Nat.{ℕ, _+_, _-_, _*_, _/_, _%_, _^_, _≤_, _<_, min}
 use mathlib.Core.Path.{_≡_, refl, sym, _∙_}
 use mathlib.Core.Bool.{Bool, true, false, not, _&&_, _||_, false≢true}
@@ -25,6 +25,7 @@ use Rattle.clock.specs.Clock.{
   fromHost,
   ownTime,
   inNanoseconds,
+  hostNanoseconds,
   ownNanoseconds,
   timeOf,
   timeSeconds,
@@ -76,13 +77,13 @@ use Rattle.clock.specs.Sound.{
   soundAlarm,
   soundShadow,
   soundHost,
-  soundParts,
+  soundFields,
   alarmAhead,
   soundClock,
   Timed,
 }
 use Rattle.clock.proofs.Durations.{nanos-below}
-use Rattle.clock.proofs.Cases.{moved-cases, offset-for-cases, kept-cases}
+use Rattle.clock.proofs.Cases.{moved-cases, kept-cases}
 use Rattle.clock.proofs.Tests.{own-enabled, own-host, polls-host, not-reached}
 use Rattle.clock.proofs.Marks.{marked-fits}
 use Rattle.clock.proofs.Ranges.{signed-small}
@@ -91,6 +92,7 @@ use Rattle.clock.proofs.Rate.{Rate, limit-positive}
 -- ---- the facts
 
 pub record OffsetSound (o : Offset) : Type 0 where
+  pub word : o .seconds < 2 ^ 64
   pub small : o .nanoseconds < nanosPerSecond
   pub signed : o .negative ≡ true → o .seconds ≡ 0 → o .nanoseconds ≡ 0 → ⊥
 
@@ -103,8 +105,13 @@ pub record ShadowSound (s : Shadow) : Type 0 where
   pub word : s .value < 2 ^ 64
   pub mask : s .mask < 255
 
--- all clauses but the last, and that words are words
+pub record HostSound (t : HostTime) : Type 0 where
+  pub word : t .seconds < 2 ^ 64
+  pub small : t .nanoseconds < nanosPerSecond
+
+-- the rate, all clauses but the last, and that words are words
 pub record Parts (rate : ℕ) (k : Clock) : Type 0 where
+  pub own : rateOf k ≡ rate
   pub control : k .control < 8
   pub seconds : k .seconds < 2 ^ 64
   pub subsecond : k .subsecond < rate
@@ -113,15 +120,11 @@ pub record Parts (rate : ℕ) (k : Clock) : Type 0 where
   pub shadow : ShadowSound (k .shadow)
   pub poll : k .poll < pollLimit rate
   pub alarmShadow : ShadowSound (k .«alarm_shadow»)
-  pub host : k .host .nanoseconds < nanosPerSecond
+  pub host : HostSound (k .host)
 
-pub record Sound (rate : ℕ) (k : Clock) : Type 0 where
+pub record GoodClock (rate : ℕ) (k : Clock) : Type 0 where
   pub parts : Parts rate k
   pub ahead : k .alarm .armed ≡ true → ownTime (k .control) ≡ true → k .seconds < k .alarm .seconds
-
--- at the clock's own rate
-abbrev pub OwnSound : Clock → Type 0
-OwnSound k = Sound (rateOf k) k
 
 -- ---- the facts and the rule say the same
 
@@ -129,11 +132,12 @@ OwnSound k = Sound (rateOf k) k
 zeroSign : Offset → Bool
 zeroSign o = o .negative && (eqb (o .seconds) 0 && eqb (o .nanoseconds) 0)
 
-offset-facts : (o : Offset) → soundOffset o ≡ true → OffsetSound o
+offset-facts : (o : Offset) → o .seconds < 2 ^ 64 → soundOffset o ≡ true → OffsetSound o
 unfolding soundOffset zeroSign
-offset-facts o e =
+offset-facts o w e =
     let s = and-parts (ltb (o .nanoseconds) nanosPerSecond) (not (zeroSign o)) e in
     record {
+      word = w;
       small = ltb-true (o .nanoseconds) nanosPerSecond (s .0);
       signed = λ n x y. false≢true (rw (n, eq-eqb (o .seconds) 0 x, eq-eqb (o .nanoseconds) 0 y) at (s .1));
     }
@@ -190,27 +194,28 @@ implies true false c h = refl
 implies false b c h = refl
 
 module _ (rate : ℕ) (k : Clock) where
-  parts-facts : ClockFits k → soundParts rate k ≡ true → Parts rate k
-  unfolding soundParts
-  parts-facts f t =
+  parts-facts : ClockFits k → rateOf k ≡ rate → soundFields rate k ≡ true → Parts rate k
+  unfolding soundFields
+  parts-facts f own t =
       let (a, (b, (c, (d, (e, (m, (n, h))))))) =
       eight (ltb (k .control) 8) (ltb (k .subsecond) rate) (soundOffset (k .offset)) (soundAlarm (k .alarm))
       (soundShadow (k .shadow)) (ltb (k .poll) (pollLimit rate)) (soundShadow (k .«alarm_shadow»))
       (soundHost (k .host)) t in
       record {
+        own = own;
         control = ltb-true (k .control) 8 a;
         seconds = f .seconds;
         subsecond = ltb-true (k .subsecond) rate b;
-        offset = offset-facts (k .offset) c;
+        offset = offset-facts (k .offset) (f .offset) c;
         alarm = alarm-facts (k .alarm) (f .alarm) d;
         shadow = record { word = f .shadow; mask = ltb-true (k .shadow .mask) 255 e };
         poll = ltb-true (k .poll) (pollLimit rate) m;
         alarmShadow = record { word = f .alarmShadow; mask = ltb-true (k .«alarm_shadow» .mask) 255 n };
-        host = ltb-true (k .host .nanoseconds) nanosPerSecond h;
+        host = record { word = f .host; small = ltb-true (k .host .nanoseconds) nanosPerSecond h };
       }
 
-  parts-sound : Parts rate k → soundParts rate k ≡ true
-  unfolding soundParts
+  parts-sound : Parts rate k → soundFields rate k ≡ true
+  unfolding soundFields
   parts-sound p =
       eight-join (ltb (k .control) 8) (ltb (k .subsecond) rate) (soundOffset (k .offset)) (soundAlarm (k .alarm))
       (soundShadow (k .shadow)) (ltb (k .poll) (pollLimit rate)) (soundShadow (k .«alarm_shadow»))
@@ -219,149 +224,105 @@ module _ (rate : ℕ) (k : Clock) where
       (offset-sound (k .offset) (p .offset)) (alarm-sound (k .alarm) (p .alarm))
       (lt-ltb (k .shadow .mask) 255 (p .shadow .mask)) (lt-ltb (k .poll) (pollLimit rate) (p .poll))
       (lt-ltb (k .«alarm_shadow» .mask) 255 (p .alarmShadow .mask))
-      (lt-ltb (k .host .nanoseconds) nanosPerSecond (p .host))
+      (lt-ltb (k .host .nanoseconds) nanosPerSecond (p .host .small))
 
-  pub sound-facts : ClockFits k → soundClock rate k ≡ true → Sound rate k
+  pub clock-good : ClockFits k → rateOf k ≡ rate → soundClock rate k ≡ true → GoodClock rate k
   unfolding soundClock alarmAhead
-  sound-facts f e =
-      let s = and-parts (soundParts rate k) (alarmAhead k) e in
+  clock-good f own e =
+      let s = and-parts (soundFields rate k) (alarmAhead k) e in
       let l = implied (k .alarm .armed) (ownTime (k .control)) (ltb (k .seconds) (k .alarm .seconds)) (s .1) in
-      record { parts = parts-facts f (s .0); ahead = λ x y. ltb-true (k .seconds) (k .alarm .seconds) (l x y) }
+      record { parts = parts-facts f own (s .0); ahead = λ x y. ltb-true (k .seconds) (k .alarm .seconds) (l x y) }
 
-  pub facts-sound : Sound rate k → soundClock rate k ≡ true
+  pub clock-sound : GoodClock rate k → soundClock rate k ≡ true
   unfolding soundClock alarmAhead
-  facts-sound s =
-      and-join (soundParts rate k) (alarmAhead k) (parts-sound (s .parts))
+  clock-sound s =
+      and-join (soundFields rate k) (alarmAhead k) (parts-sound (s .parts))
       (implies (k .alarm .armed) (ownTime (k .control)) (ltb (k .seconds) (k .alarm .seconds))
       (λ x y. lt-ltb (k .seconds) (k .alarm .seconds) (s .ahead x y)))
 
   -- what reading the time asks
-  pub sound-timed : soundRate rate ≡ true → Sound rate k → Timed rate k
-  sound-timed e s = record {
+  pub clock-timed : soundRate rate ≡ true → GoodClock rate k → Timed rate k
+  clock-timed e s = record {
+    own = s .parts .own;
     known = e;
     subsecond = s .parts .subsecond;
     offset = s .parts .offset .small;
-    host = s .parts .host;
+    host = s .parts .host .small;
   }
 
   -- and what the types say
-  pub sound-fits : Sound rate k → ClockFits k
-  sound-fits s =
+  pub clock-fits : GoodClock rate k → ClockFits k
+  clock-fits s =
       record {
         seconds = s .parts .seconds;
+        offset = s .parts .offset .word;
         alarm = s .parts .alarm .word;
         shadow = s .parts .shadow .word;
         alarmShadow = s .parts .alarmShadow .word;
+        host = s .parts .host .word;
       }
 
 -- ---- one part changed
 
+module _ {rate : ℕ} {k : Clock} where
+  -- the parts in their order
+  made : rateOf k ≡ rate → k .control < 8 → k .seconds < 2 ^ 64 → k .subsecond < rate → OffsetSound (k .offset) →
+      AlarmSound (k .alarm) → ShadowSound (k .shadow) → k .poll < pollLimit rate → ShadowSound (k .«alarm_shadow») →
+      HostSound (k .host) → Parts rate k
+  made r c s u o a x n y t =
+      record {
+        own = r;
+        control = c;
+        seconds = s;
+        subsecond = u;
+        offset = o;
+        alarm = a;
+        shadow = x;
+        poll = n;
+        alarmShadow = y;
+        host = t;
+      }
+
 module _ {rate : ℕ} {k : Clock} (p : Parts rate k) where
   control-parts : (n : ℕ) → n < 8 → Parts rate (withControl n k)
-  control-parts n h = record {
-    control = h;
-    seconds = p .seconds;
-    subsecond = p .subsecond;
-    offset = p .offset;
-    alarm = p .alarm;
-    shadow = p .shadow;
-    poll = p .poll;
-    alarmShadow = p .alarmShadow;
-    host = p .host;
-  }
+  control-parts n h =
+      made (p .own) h (p .seconds) (p .subsecond) (p .offset) (p .alarm) (p .shadow) (p .poll) (p .alarmShadow)
+      (p .host)
 
   time-parts : (s u : ℕ) → s < 2 ^ 64 → u < rate → Parts rate (withTime s u k)
-  time-parts s u h l = record {
-    control = p .control;
-    seconds = h;
-    subsecond = l;
-    offset = p .offset;
-    alarm = p .alarm;
-    shadow = p .shadow;
-    poll = p .poll;
-    alarmShadow = p .alarmShadow;
-    host = p .host;
-  }
+  time-parts s u h l =
+      made (p .own) (p .control) h l (p .offset) (p .alarm) (p .shadow) (p .poll) (p .alarmShadow) (p .host)
 
   offset-parts : (o : Offset) → OffsetSound o → Parts rate (withOffset o k)
-  offset-parts o h = record {
-    control = p .control;
-    seconds = p .seconds;
-    subsecond = p .subsecond;
-    offset = h;
-    alarm = p .alarm;
-    shadow = p .shadow;
-    poll = p .poll;
-    alarmShadow = p .alarmShadow;
-    host = p .host;
-  }
+  offset-parts o h =
+      made (p .own) (p .control) (p .seconds) (p .subsecond) h (p .alarm) (p .shadow) (p .poll) (p .alarmShadow)
+      (p .host)
 
   alarm-parts : (a : Alarm) → AlarmSound a → Parts rate (withAlarm a k)
-  alarm-parts a h = record {
-    control = p .control;
-    seconds = p .seconds;
-    subsecond = p .subsecond;
-    offset = p .offset;
-    alarm = h;
-    shadow = p .shadow;
-    poll = p .poll;
-    alarmShadow = p .alarmShadow;
-    host = p .host;
-  }
+  alarm-parts a h =
+      made (p .own) (p .control) (p .seconds) (p .subsecond) (p .offset) h (p .shadow) (p .poll) (p .alarmShadow)
+      (p .host)
 
   shadow-parts : (s : Shadow) → ShadowSound s → Parts rate (withShadow s k)
-  shadow-parts s h = record {
-    control = p .control;
-    seconds = p .seconds;
-    subsecond = p .subsecond;
-    offset = p .offset;
-    alarm = p .alarm;
-    shadow = h;
-    poll = p .poll;
-    alarmShadow = p .alarmShadow;
-    host = p .host;
-  }
+  shadow-parts s h =
+      made (p .own) (p .control) (p .seconds) (p .subsecond) (p .offset) (p .alarm) h (p .poll) (p .alarmShadow)
+      (p .host)
 
   poll-parts : (n : ℕ) → n < pollLimit rate → Parts rate (withPoll n k)
-  poll-parts n h = record {
-    control = p .control;
-    seconds = p .seconds;
-    subsecond = p .subsecond;
-    offset = p .offset;
-    alarm = p .alarm;
-    shadow = p .shadow;
-    poll = h;
-    alarmShadow = p .alarmShadow;
-    host = p .host;
-  }
+  poll-parts n h =
+      made (p .own) (p .control) (p .seconds) (p .subsecond) (p .offset) (p .alarm) (p .shadow) h (p .alarmShadow)
+      (p .host)
 
   alarm-shadow-parts : (s : Shadow) → ShadowSound s → Parts rate (withAlarmShadow s k)
-  alarm-shadow-parts s h = record {
-    control = p .control;
-    seconds = p .seconds;
-    subsecond = p .subsecond;
-    offset = p .offset;
-    alarm = p .alarm;
-    shadow = p .shadow;
-    poll = p .poll;
-    alarmShadow = h;
-    host = p .host;
-  }
+  alarm-shadow-parts s h =
+      made (p .own) (p .control) (p .seconds) (p .subsecond) (p .offset) (p .alarm) (p .shadow) (p .poll) h (p .host)
 
-  host-parts : (t : HostTime) → t .nanoseconds < nanosPerSecond → Parts rate (withHost t k)
-  host-parts t h = record {
-    control = p .control;
-    seconds = p .seconds;
-    subsecond = p .subsecond;
-    offset = p .offset;
-    alarm = p .alarm;
-    shadow = p .shadow;
-    poll = p .poll;
-    alarmShadow = p .alarmShadow;
-    host = h;
-  }
+  host-parts : (t : HostTime) → HostSound t → Parts rate (withHost t k)
+  host-parts t h =
+      made (p .own) (p .control) (p .seconds) (p .subsecond) (p .offset) (p .alarm) (p .shadow) (p .poll)
+      (p .alarmShadow) h
 
--- ---- the alarm check makes a clock sound whose other clauses hold
+-- ---- the alarm check makes a clock good whose other clauses hold
 
 -- the seconds of the own time are the clock's
 own-seconds : (rate s u : ℕ) → u < rate → s < 2 ^ 64 →
@@ -385,10 +346,10 @@ module _ (rate : ℕ) (k : Clock) (p : Parts rate k) where
   fired-sound : AlarmSound (fired (k .alarm))
   fired-sound = record { word = p .alarm .word; enable = p .alarm .enable; once = λ _. refl }
 
-  pub check-sound : Sound rate (checkAlarm rate k)
+  pub check-good : GoodClock rate (checkAlarm rate k)
   unfolding checkAlarm
-  check-sound =
-      choose (Sound rate) (alarmReached rate k)
+  check-good =
+      choose (GoodClock rate) (alarmReached rate k)
       (λ _. record { parts = alarm-parts p (fired (k .alarm)) fired-sound; ahead = λ a. absurd (false≢true a) })
       (λ e. record { parts = p; ahead = stays-ahead e })
 
@@ -405,11 +366,11 @@ module _ (rate : ℕ) (r : Rate rate) (c : ℕ) (k : Clock) where
       word : (k .subsecond + c) / rate ≤ largest - k .seconds → k .seconds + (k .subsecond + c) / rate < 2 ^ 64
       word h = let w = p .seconds in omega arith
 
-  end-sound : Parts rate k → Sound rate (endAdvance rate c k)
+  end-good : Parts rate k → GoodClock rate (endAdvance rate c k)
   unfolding endAdvance
-  end-sound p =
-      choose (Sound rate) (polls c k)
-      (λ e. choose (Sound rate) (leb (pollLimit rate) (k .poll + c))
+  end-good p =
+      choose (GoodClock rate) (polls c k)
+      (λ e. choose (GoodClock rate) (leb (pollLimit rate) (k .poll + c))
       (λ _. checked ((k .poll + c) % pollLimit rate) (mod-lt (k .poll + c) (limit-positive rate r)))
       (λ l. record {
         parts = poll-parts p (k .poll + c) (leb-false (pollLimit rate) (k .poll + c) l);
@@ -417,25 +378,27 @@ module _ (rate : ℕ) (r : Rate rate) (c : ℕ) (k : Clock) where
       }))
       (λ _. checked 0 (limit-positive rate r))
     where
-      checked : (n : ℕ) → n < pollLimit rate → Sound rate (checkAlarm rate (withPoll n k))
-      checked n h = check-sound rate (withPoll n k) (poll-parts p n h)
+      checked : (n : ℕ) → n < pollLimit rate → GoodClock rate (checkAlarm rate (withPoll n k))
+      checked n h = check-good rate (withPoll n k) (poll-parts p n h)
 
-pub advance-sound : (rate : ℕ) → Rate rate → (c : ℕ) (k : Clock) → Sound rate k → Sound rate (advanceClock rate c k)
+pub advance-good : (rate : ℕ) → Rate rate → (c : ℕ) (k : Clock) → GoodClock rate k →
+    GoodClock rate (advanceClock rate c k)
 unfolding advanceClock
-advance-sound rate r c k s = end-sound rate r c (movedTime rate c k) (moved-parts rate r c k (s .parts))
+advance-good rate r c k s = end-good rate r c (movedTime rate c k) (moved-parts rate r c k (s .parts))
 
 -- ---- host time
 
-pub host-sound : (rate : ℕ) (t : HostTime) (k : Clock) → t .nanoseconds < nanosPerSecond → Sound rate k →
-    Sound rate (withHost t k)
-host-sound rate t k h s = record { parts = host-parts (s .parts) t h; ahead = s .ahead }
+pub host-good : (rate : ℕ) (t : HostTime) (k : Clock) → HostSound t → GoodClock rate k → GoodClock rate (withHost t k)
+host-good rate t k h s = record { parts = host-parts (s .parts) t h; ahead = s .ahead }
 
 -- ---- control
 
--- a difference is no negative zero
-signed-sound : (a b : ℕ) → OffsetSound (signedDifference a b)
+-- the difference of two times below 2^64 seconds is so too, and no negative zero
+signed-sound : (a b : ℕ) → a < 2 ^ 64 * nanosPerSecond → b < 2 ^ 64 * nanosPerSecond →
+    OffsetSound (signedDifference a b)
 unfolding signedDifference
-signed-sound a b = record {
+signed-sound a b l m = record {
+  word = choose (λ (n : ℕ). n / nanosPerSecond < 2 ^ 64) (ltb a b) (λ _. omega arith) (λ _. omega arith);
   small = signed-small a b;
   signed = λ n x y. apart (ltb-true a b n) (rw n at x) (rw n at y);
 }
@@ -443,26 +406,43 @@ signed-sound a b = record {
     apart : a < b → (b - a) / nanosPerSecond ≡ 0 → (b - a) % nanosPerSecond ≡ 0 → ⊥
     apart h x y = omega arith
 
+time-below : (s n : ℕ) → s < 2 ^ 64 → n < nanosPerSecond → inNanoseconds s n < 2 ^ 64 * nanosPerSecond
+time-below s n p q = omega arith
+
 module _ (rate : ℕ) (r : Rate rate) (k : Clock) (p : Parts rate k) where
-  signed-parts : (a b : ℕ) → Parts rate (withOffset (signedDifference a b) k)
-  signed-parts a b = offset-parts p (signedDifference a b) (signed-sound a b)
+  -- an offset from host time
+  signed-parts : (a : ℕ) → a < 2 ^ 64 * nanosPerSecond →
+      Parts rate (withOffset (signedDifference a (hostNanoseconds (k .host))) k)
+  signed-parts a l =
+      offset-parts p (signedDifference a (hostNanoseconds (k .host)))
+      (signed-sound a (hostNanoseconds (k .host)) l
+      (time-below (k .host .seconds) (k .host .nanoseconds) (p .host .word) (p .host .small)))
+
+  own-below : fromHost (k .control) ≡ false → timeOf rate k < 2 ^ 64 * nanosPerSecond
+  unfolding timeOf ownNanoseconds
+  own-below e =
+      rw e
+      (time-below (k .seconds) (k .subsecond * nanosPerSecond / rate) (p .seconds)
+      (nanos-below rate (k .subsecond) (p .subsecond)))
 
   set-parts : (s u : ℕ) → s < 2 ^ 64 → u < rate → Parts rate (ownTimeSet s u k)
   set-parts s u h l =
       shadow-parts (time-parts p s u h l) (record { value = s; mask = k .shadow .mask })
       (record { word = h; mask = p .shadow .mask })
 
-  change-sound : (new : ℕ) → new < 8 → Sound rate (changeControl rate new k)
+  change-good : (new : ℕ) → new < 8 → GoodClock rate (changeControl rate new k)
   unfolding changeControl
-  change-sound new h =
-      check-sound rate (withControl new (timeKept rate new k))
-      (control-parts (kept-cases (Parts rate) rate k signed-parts p (r .positive) set-parts new) new h)
+  change-good new h =
+      check-good rate (withControl new (timeKept rate new k))
+      (control-parts
+      (kept-cases (Parts rate) rate k (r .positive) set-parts (λ e. signed-parts (timeOf rate k) (own-below e)) p new)
+      new h)
 
-pub control-sound : (rate : ℕ) → Rate rate → (i v : ℕ) (k : Clock) → Sound rate k →
-    Sound rate (writeControl rate i v k)
+pub control-good : (rate : ℕ) → Rate rate → (i v : ℕ) (k : Clock) → GoodClock rate k →
+    GoodClock rate (writeControl rate i v k)
 unfolding writeControl
-control-sound rate r i v k s =
-    change-sound rate r k (s .parts) (mergeByte i v (k .control) % 8)
+control-good rate r i v k s =
+    change-good rate r k (s .parts) (mergeByte i v (k .control) % 8)
     (mod-lt (mergeByte i v (k .control)) (omega arith))
 
 -- ---- seconds and alarm
@@ -490,16 +470,16 @@ module _ (i v : ℕ) (h : i < 8) (b : v < 256) (s : Shadow) (t : ShadowSound s) 
   unmarked-sound : ShadowSound (unmarked (shadowByte i v s))
   unmarked-sound = record { word = byte-word; mask = omega arith }
 
-module _ (rate : ℕ) (r : Rate rate) (i v : ℕ) (h : i < 8) (b : v < 256) (k : Clock) (s : Sound rate k) where
+module _ (rate : ℕ) (r : Rate rate) (i v : ℕ) (h : i < 8) (b : v < 256) (k : Clock) (s : GoodClock rate k) where
   p : Parts rate k
   p = s .parts
 
-  pub seconds-sound : Sound rate (writeSeconds rate i v k)
-  unfolding writeSeconds commitSeconds p
-  seconds-sound =
-      choose (Sound rate) (setEnabled (k .control))
-      (λ _. choose (Sound rate) (complete n)
-      (λ _. check-sound rate (withShadow (unmarked n) (withTime (n .value) 0 (offsetFor (n .value) k)))
+  pub seconds-good : GoodClock rate (writeSeconds rate i v k)
+  unfolding writeSeconds commitSeconds offsetFor p
+  seconds-good =
+      choose (GoodClock rate) (setEnabled (k .control))
+      (λ _. choose (GoodClock rate) (complete n)
+      (λ _. check-good rate (withShadow (unmarked n) (withTime (n .value) 0 (offsetFor (n .value) k)))
       (shadow-parts (time-parts kept (n .value) 0 word (r .positive)) (unmarked n)
       (unmarked-sound i v h b (k .shadow) (p .shadow))))
       (λ e. record { parts = shadow-parts p n (byte-sound i v h b (k .shadow) (p .shadow) e); ahead = s .ahead }))
@@ -512,13 +492,15 @@ module _ (rate : ℕ) (r : Rate rate) (i v : ℕ) (h : i < 8) (b : v < 256) (k :
       word = byte-word i v h b (k .shadow) (p .shadow)
 
       kept : Parts rate (offsetFor (n .value) k)
-      kept = offset-for-cases (Parts rate) rate k (signed-parts rate r k p) p (n .value)
+      kept =
+          choose (Parts rate) (fromHost (k .control))
+          (λ _. signed-parts rate r k p (n .value * nanosPerSecond) (let w = word in omega arith)) (λ _. p)
 
-  pub alarm-bytes-sound : Sound rate (writeAlarm rate i v k)
+  pub alarm-bytes-good : GoodClock rate (writeAlarm rate i v k)
   unfolding writeAlarm commitAlarm p
-  alarm-bytes-sound =
-      choose (Sound rate) (complete n)
-      (λ _. check-sound rate (withAlarmShadow (unmarked n) (withAlarm (armedAt (n .value) (k .alarm)) k))
+  alarm-bytes-good =
+      choose (GoodClock rate) (complete n)
+      (λ _. check-good rate (withAlarmShadow (unmarked n) (withAlarm (armedAt (n .value) (k .alarm)) k))
       (alarm-shadow-parts (alarm-parts p (armedAt (n .value) (k .alarm)) armed) (unmarked n)
       (unmarked-sound i v h b (k .«alarm_shadow») (p .alarmShadow))))
       (λ e. record {
@@ -538,7 +520,7 @@ module _ (rate : ℕ) (r : Rate rate) (i v : ℕ) (h : i < 8) (b : v < 256) (k :
 
 -- ---- the alarm's interrupt
 
-module _ (rate i v : ℕ) (k : Clock) (s : Sound rate k) where
+module _ (rate i v : ℕ) (k : Clock) (s : GoodClock rate k) where
   a : AlarmSound (k .alarm)
   a = s .parts .alarm
 
@@ -549,34 +531,35 @@ module _ (rate i v : ℕ) (k : Clock) (s : Sound rate k) where
     once = a .once;
   }
 
-  pub enable-sound : Sound rate (writeAlarmEnable i v k)
+  pub enable-good : GoodClock rate (writeAlarmEnable i v k)
   unfolding writeAlarmEnable
-  enable-sound = record { parts = alarm-parts (s .parts) _ enabled-sound; ahead = s .ahead }
+  enable-good = record { parts = alarm-parts (s .parts) _ enabled-sound; ahead = s .ahead }
 
   cleared-sound : AlarmSound (cleared (k .alarm))
   cleared-sound = record { word = a .word; enable = a .enable; once = λ e. absurd (false≢true e) }
 
-  pub acknowledge-sound : Sound rate (acknowledge i v k)
+  pub acknowledge-good : GoodClock rate (acknowledge i v k)
   unfolding acknowledge
-  acknowledge-sound =
-      choose (Sound rate) (eqb i 3 && bit 0 v)
+  acknowledge-good =
+      choose (GoodClock rate) (eqb i 3 && bit 0 v)
       (λ _. record { parts = alarm-parts (s .parts) (cleared (k .alarm)) cleared-sound; ahead = s .ahead })
       (λ _. s)
 
 -- ---- the fresh clock
 
-pub fresh-sound : (rate : ℕ) → Rate rate → Sound rate (freshClockAt rate)
-fresh-sound rate r = record {
+pub fresh-clock-good : (rate : ℕ) → Rate rate → GoodClock rate (freshClockAt rate)
+fresh-clock-good rate r = record {
   parts = record {
+    own = refl;
     control = omega arith;
     seconds = omega arith;
     subsecond = r .positive;
-    offset = record { small = omega arith; signed = λ e _ _. false≢true e };
+    offset = record { word = omega arith; small = omega arith; signed = λ e _ _. false≢true e };
     alarm = record { word = omega arith; enable = omega arith; once = λ _. refl };
     shadow = record { word = omega arith; mask = omega arith };
     poll = limit-positive rate r;
     alarmShadow = record { word = omega arith; mask = omega arith };
-    host = omega arith;
+    host = record { word = omega arith; small = omega arith };
   };
   ahead = λ e. absurd (false≢true e);
 }

@@ -17,12 +17,17 @@ abbrev pub awaited : Clock → Bool
 awaited k =
     ownTime (k .control) && (bit 0 (k .alarm .enable) && (k .alarm .armed && not (k .alarm .pending)))
 
--- 'has (alarm − seconds) × F − subsecond, or 1 where alarm ≤ seconds'
+-- '(alarm − seconds) × F − subsecond'
+abbrev pub toAlarm : ℕ → Clock → ℕ
+toAlarm rate k = (k .alarm .seconds - k .seconds) * rate - k .subsecond
+
+-- that, 'or 1 where alarm ≤ seconds'
+abbrev pub alarmCycles : ℕ → Clock → ℕ
+alarmCycles rate k = cond (leb (k .alarm .seconds) (k .seconds)) 1 (toAlarm rate k)
+
+-- the clock, so awaited, 'has' it
 unfoldable pub clockDeadline : ℕ → Clock → Option ℕ
-clockDeadline rate k =
-    cond (awaited k)
-    (some (cond (leb (k .alarm .seconds) (k .seconds)) 1 ((k .alarm .seconds - k .seconds) * rate - k .subsecond)))
-    none
+clockDeadline rate k = cond (awaited k) (some (alarmCycles rate k)) none
 
 -- the clock has its line high after t cycles, if nothing but advances and host times comes between
 unfoldable pub clockDue : ℕ → Clock → ℕ → Bool

@@ -9,7 +9,7 @@ use Rattle.clock.specs.declared.Shadow.{Shadow}
 use Rattle.clock.specs.declared.HostTime.{HostTime}
 use Rattle.clock.specs.declared.Clock.{Clock}
 use Rattle.clock.specs.Fields.{freshRate}
-use Rattle.clock.specs.Clock.{nanosPerSecond, pollLimit, ownTime}
+use Rattle.clock.specs.Clock.{rateOf, nanosPerSecond, pollLimit, ownTime}
 
 -- S-7: 'Two clients have boards at 1,000,000 and 12,000,000 cycles a second. A fresh board takes its rate, one of these
 -- or 48,000,000', and 'a record carrying a rate outside the three is 1'
@@ -33,8 +33,8 @@ abbrev pub soundHost : HostTime → Bool
 soundHost h = ltb (h .nanoseconds) nanosPerSecond
 
 -- 'clock control < 8; .. subsecond < F; .. poll < 48,000', and the parts above
-unfoldable pub soundParts : ℕ → Clock → Bool
-soundParts rate k =
+unfoldable pub soundFields : ℕ → Clock → Bool
+soundFields rate k =
     ltb (k .control) 8
     && (ltb (k .subsecond) rate
     && (soundOffset (k .offset)
@@ -47,17 +47,20 @@ unfoldable pub alarmAhead : Clock → Bool
 alarmAhead k = not (k .alarm .armed && ownTime (k .control)) || ltb (k .seconds) (k .alarm .seconds)
 
 unfoldable pub soundClock : ℕ → Clock → Bool
-soundClock rate k = soundParts rate k && alarmAhead k
+soundClock rate k = soundFields rate k && alarmAhead k
 
--- what the types of a machine clock say of the words that its laws are about
+-- what the types of a machine clock say of its words; a sound one's other fields follow
 pub record ClockFits (k : Clock) : Type 0 where
   pub seconds : k .seconds < 2 ^ 64
+  pub offset : k .offset .seconds < 2 ^ 64
   pub alarm : k .alarm .seconds < 2 ^ 64
   pub shadow : k .shadow .value < 2 ^ 64
   pub alarmShadow : k .«alarm_shadow» .value < 2 ^ 64
+  pub host : k .host .seconds < 2 ^ 64
 
--- what reading the time asks of a clock: four of these clauses
+-- what reading the time asks of a clock: that the rate is its own, and four of these clauses
 pub record Timed (rate : ℕ) (k : Clock) : Type 0 where
+  pub own : rateOf k ≡ rate
   pub known : soundRate rate ≡ true
   pub subsecond : k .subsecond < rate
   pub offset : k .offset .nanoseconds < nanosPerSecond

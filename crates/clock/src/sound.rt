@@ -1,7 +1,7 @@
 // The clock's clauses of a sound board. Sound is document 01's term.
 ghost use mathlib.Core.Path.{_≡_};
 ghost use Rattle.clock.specs.Clock.{rateOf};
-ghost use Rattle.clock.specs.Sound.{soundOffset, soundAlarm, soundParts, alarmAhead, soundClock};
+ghost use Rattle.clock.specs.Sound.{soundOffset, soundAlarm, soundFields, alarmAhead, soundClock};
 use crate::Alarm;
 use crate::Clock;
 use crate::Offset;
@@ -34,7 +34,7 @@ impl Alarm {
 
 impl Clock {
     fn sound_parts(self) -> bool
-        ensures { λ r. ⌜ r ≡ soundParts (rateOf self) self ⌝ }
+        ensures { λ r. ⌜ r ≡ soundFields (rateOf self) self ⌝ }
     {
         let control = self.control;
         let subsecond = self.subsecond as u64;

@@ -8,7 +8,7 @@ use native.Mathlib.Omega.{arith}
 use borrow.Author.Tests.{ne-eqb}
 use lib.Arith.{lt-one}
 use lib.Bits.{bitAnd, bitOr, bitXor, differ, and-step, xor-step, and-shr, xor-shr, and-block}
-use lib.Bits.{and-mask, and-zero-r, and-le-l, or-add-and}
+use lib.Bits.{and-mask, and-zero-r, and-le-l, or-add-and, or-lt}
 use lib.Dec.{eqb}
 use lib.Pow.{pow-pos, pow-lt, split, shl-exact}
 use Rattle.wide.specs.Bits.{bit}
@@ -62,6 +62,12 @@ unfolding withBit
 or-bit k n = omega (arith, or-add-and n (2 ^ k), and-bit k n, bit-le k n)
 
 -- ---- a word with one bit changed
+
+-- a bit within the width
+pub with-bit-lt : (w k : ℕ) (b : Bool) (n : ℕ) → k < w → n < 2 ^ w → withBit k b n < 2 ^ w
+unfolding withBit
+with-bit-lt w k true n h l = rw (← or-bit k n) (or-lt w n (2 ^ k) l (pow-lt h))
+with-bit-lt w k false n h l = omega arith
 
 with-bit-suc : (k : ℕ) (b : Bool) (n : ℕ) → withBit (suc k) b n ≡ withBit k b (n / 2) * 2 + n % 2
 unfolding withBit
@@ -147,6 +153,12 @@ and-not-bit w k n h i =
 cleared-lt : (n m : ℕ) → cond (eqb (m % 2) 1) 0 (n % 2) < 2
 cleared-lt n m =
     digits (λ (x y : ℕ). cond (eqb y 1) 0 x < 2) (omega arith) (omega arith) (omega arith) (omega arith) n m
+
+-- they are a word of that width
+pub without-lt : (w n m : ℕ) → without w n m < 2 ^ w
+unfolding without
+without-lt zero n m = omega arith
+without-lt (suc w) n m = omega (arith, pow-suc 2 w, without-lt w (n / 2) (m / 2), cleared-lt n m)
 
 -- a bit stays where the mask does not have it
 pub bit-without : (w j n m : ℕ) → j < w → bit j (without w n m) ≡ (bit j n && not (bit j m))

@@ -11,7 +11,7 @@ use Rattle.controller.specs.declared.IrqOutput.{IrqOutput}
 use Rattle.wide.specs.Bits.{bit}
 use Rattle.wide.proofs.Choices.{choose, either}
 use Rattle.controller.specs.Bits.{withBit}
-use Rattle.controller.specs.Controller.{sourceSet, pendingCleared, byteWritten, lowestFrom, outputOf}
+use Rattle.controller.specs.Controller.{sourceSet, pendingCleared, controllerWritten, lowestFrom, outputOf}
 use Rattle.controller.proofs.Bits.{bit-same, bit-other, bit-kept, bit-without}
 use Rattle.controller.proofs.Lowest.{none}
 
@@ -78,8 +78,8 @@ pub cleared-levels : (c : IrqController) (mask : ℕ) → pendingCleared c mask 
 unfolding pendingCleared
 cleared-levels c mask = refl
 
-pub written-levels : (c : IrqController) (address value : ℕ) → byteWritten c address value .levels ≡ c .levels
-unfolding byteWritten
+pub written-levels : (c : IrqController) (address value : ℕ) → controllerWritten c address value .levels ≡ c .levels
+unfolding controllerWritten
 written-levels c address value =
     choose same (eqb address 0) (λ _. cleared-levels c (value * 256))
     (λ _. choose same (eqb address 1) (λ _. cleared-levels c value)

@@ -10,3 +10,4 @@ pub mod Registers
 pub mod Settings
 pub mod Sources
 pub mod Walk
+pub mod Widths

@@ -7,29 +7,30 @@ use borrow.Author.Tests.{ne-eqb}
 use lib.Bits.{bitAnd, bitOr, and-mask, and-high, or-shifted, or-shifted-r}
 use lib.Dec.{eqb}
 use Rattle.controller.specs.declared.IrqController.{IrqController}
-use Rattle.controller.specs.Controller.{byteRead, byteWritten}
+use Rattle.controller.specs.Controller.{controllerRead, controllerWritten}
 
 -- ---- reads
 
 module _ (c : IrqController) where
-  pub read-pending : (a : ℕ) → a < 2 → cond (eqb (a % 2) 0) (c .pending / 256) (c .pending % 256) ≡ byteRead c a
-  unfolding byteRead
+  pub read-pending : (a : ℕ) → a < 2 → cond (eqb (a % 2) 0) (c .pending / 256) (c .pending % 256) ≡ controllerRead c a
+  unfolding controllerRead
   read-pending zero h = refl
   read-pending (suc zero) h = refl
   read-pending (suc (suc a)) h = absurd (omega arith)
 
   enable-byte : (d a : ℕ) → a ≡ 4 + d → d < 2
-      → cond (eqb (a % 2) 0) (c .enable / 256) (c .enable % 256) ≡ byteRead c a
-  unfolding byteRead
+      → cond (eqb (a % 2) 0) (c .enable / 256) (c .enable % 256) ≡ controllerRead c a
+  unfolding controllerRead
   enable-byte zero a e h = rw e
   enable-byte (suc zero) a e h = rw e
   enable-byte (suc (suc d)) a e h = absurd (omega arith)
 
-  pub read-enable : (a : ℕ) → 4 ≤ a → a < 6 → cond (eqb (a % 2) 0) (c .enable / 256) (c .enable % 256) ≡ byteRead c a
+  pub read-enable : (a : ℕ) → 4 ≤ a → a < 6
+      → cond (eqb (a % 2) 0) (c .enable / 256) (c .enable % 256) ≡ controllerRead c a
   read-enable a h i = enable-byte (a - 4) a (omega arith) (omega arith)
 
-  pub read-other : (a : ℕ) → (a ≡ 0 → ⊥) → (a ≡ 1 → ⊥) → (a ≡ 4 → ⊥) → (a ≡ 5 → ⊥) → 0 ≡ byteRead c a
-  unfolding byteRead
+  pub read-other : (a : ℕ) → (a ≡ 0 → ⊥) → (a ≡ 1 → ⊥) → (a ≡ 4 → ⊥) → (a ≡ 5 → ⊥) → 0 ≡ controllerRead c a
+  unfolding controllerRead
   read-other a h i j k = rw (ne-eqb a 0 h, ne-eqb a 1 i, ne-eqb a 4 j, ne-eqb a 5 k)
 
 -- ---- writes
@@ -49,6 +50,6 @@ low-byte word value h i =
     rw (and-high word 8 8, fits) (or-shifted (word / 256) 8 value i)
 
 pub write-other : (c : IrqController) (a value : ℕ) → (a ≡ 0 → ⊥) → (a ≡ 1 → ⊥) → (a ≡ 4 → ⊥) → (a ≡ 5 → ⊥)
-    → c ≡ byteWritten c a value
-unfolding byteWritten
+    → c ≡ controllerWritten c a value
+unfolding controllerWritten
 write-other c a value h i j k = rw (ne-eqb a 0 h, ne-eqb a 1 i, ne-eqb a 4 j, ne-eqb a 5 k)

@@ -4,8 +4,8 @@ use mathlib.Core.Bool.{true, false}
 use Prim.Native.Nat.{ℕ}
 use Rattle.controller.specs.declared.IrqController.{IrqController}
 use Rattle.controller.specs.Bits.{withBit, without}
-use Rattle.controller.specs.Controller.{outputOf, lowestFrom, sourceSet, byteRead, byteWritten, pendingCleared}
-use Rattle.controller.specs.Controller.{sourceLevelsSet, maskedSourcesSet, maskedSourceSet}
+use Rattle.controller.specs.Controller.{outputOf, lowestFrom, sourceSet, controllerRead, controllerWritten}
+use Rattle.controller.specs.Controller.{pendingCleared, sourceLevelsSet, maskedSourcesSet, maskedSourceSet}
 
 abbrev words : ℕ → ℕ → ℕ → IrqController
 words p e l = record { pending = p; enable = e; levels = l }
@@ -31,12 +31,12 @@ unfolding sourceLevelsSet maskedSourcesSet maskedSourceSet sourceSet withBit
 masked-sources = refl
 
 -- a byte of pending clears the bits that it has, and a byte of enable takes its place
-registers : (byteWritten (words 0x0220 0x1234 0) 0 0x02 ≡ words 0x0020 0x1234 0)
-    × (byteWritten (words 0x0220 0x1234 0) 1 0x02 ≡ words 0x0220 0x1234 0)
-    × (byteWritten (words 0x0220 0x1234 0) 4 0x56 ≡ words 0x0220 0x5634 0)
-    × (byteWritten (words 0x0220 0x1234 0) 5 0x56 ≡ words 0x0220 0x1256 0)
-    × (byteWritten (words 0x0220 0x1234 0) 2 0xff ≡ words 0x0220 0x1234 0)
-    × (byteRead (words 0x0220 0x1234 0) 0 ≡ 0x02)
-    × (byteRead (words 0x0220 0x1234 0) 5 ≡ 0x34)
-unfolding byteWritten byteRead pendingCleared without
+registers : (controllerWritten (words 0x0220 0x1234 0) 0 0x02 ≡ words 0x0020 0x1234 0)
+    × (controllerWritten (words 0x0220 0x1234 0) 1 0x02 ≡ words 0x0220 0x1234 0)
+    × (controllerWritten (words 0x0220 0x1234 0) 4 0x56 ≡ words 0x0220 0x5634 0)
+    × (controllerWritten (words 0x0220 0x1234 0) 5 0x56 ≡ words 0x0220 0x1256 0)
+    × (controllerWritten (words 0x0220 0x1234 0) 2 0xff ≡ words 0x0220 0x1234 0)
+    × (controllerRead (words 0x0220 0x1234 0) 0 ≡ 0x02)
+    × (controllerRead (words 0x0220 0x1234 0) 5 ≡ 0x34)
+unfolding controllerWritten controllerRead pendingCleared without
 registers = (refl, refl, refl, refl, refl, refl, refl)

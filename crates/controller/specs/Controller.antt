@@ -1,12 +1,18 @@
 -- The rules of document 01's section 'The controller alone': each operation of `IrqController` as a function on its
 -- three words.
-use Prim.Native.Nat.{ℕ, zero, suc, _+_, _*_, _/_, _%_}
+use Prim.Native.Nat.{ℕ, zero, suc, _+_, _*_, _/_, _%_, _^_, _<_}
 use mathlib.Core.Bool.{Bool, true, false, not, _&&_, cond}
 use lib.Dec.{ltb, eqb}
 use Rattle.controller.specs.declared.IrqController.{IrqController}
 use Rattle.controller.specs.declared.IrqOutput.{IrqOutput}
 use Rattle.wide.specs.Bits.{bit}
 use Rattle.controller.specs.Bits.{withBit, without}
+
+-- what the types of a machine controller say of its words
+pub record ControllerFits (c : IrqController) : Type 0 where
+  pub pending : c .pending < 2 ^ 16
+  pub enable : c .enable < 2 ^ 16
+  pub levels : c .levels < 2 ^ 16
 
 -- `new`: nothing pending, nothing enabled, every level low
 abbrev pub fresh : IrqController
@@ -71,8 +77,8 @@ unfoldable pub outputOf : IrqController → IrqOutput
 outputOf = lowestFrom 16 0
 
 -- `read` and `debug_read`: a register has two bytes, the most significant one first; any other address reads 0
-unfoldable pub byteRead : IrqController → ℕ → ℕ
-byteRead c address =
+unfoldable pub controllerRead : IrqController → ℕ → ℕ
+controllerRead c address =
     cond (eqb address 0) (c .pending / 256)
     (cond (eqb address 1) (c .pending % 256)
     (cond (eqb address 4) (c .enable / 256)
@@ -81,8 +87,8 @@ byteRead c address =
 
 -- `write`: "Software clears a pending source by writing its bit"; a byte of enable is replaced; any other address
 -- changes nothing
-unfoldable pub byteWritten : IrqController → ℕ → ℕ → IrqController
-byteWritten c address value =
+unfoldable pub controllerWritten : IrqController → ℕ → ℕ → IrqController
+controllerWritten c address value =
     cond (eqb address 0) (pendingCleared c (value * 256))
     (cond (eqb address 1) (pendingCleared c value)
     (cond (eqb address 4) (enableMaskSet c (value * 256 + c .enable % 256))

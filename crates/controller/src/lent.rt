@@ -3,8 +3,8 @@
 // or its answer, by that function's rule.
 ghost use mathlib.Core.Path.{_≡_};
 ghost use Rattle.controller.specs.Controller.{resetOf, pendingOf, enableMaskOf, enableMaskSet, sourceSet};
-ghost use Rattle.controller.specs.Controller.{sourceLevelsSet, pendingCleared, outputOf, byteRead};
-ghost use Rattle.controller.specs.Controller.{byteWritten, mmioSize};
+ghost use Rattle.controller.specs.Controller.{sourceLevelsSet, pendingCleared, outputOf, controllerRead};
+ghost use Rattle.controller.specs.Controller.{controllerWritten, mmioSize};
 use crate::IrqController;
 use crate::IrqOutput;
 use crate::SourceNumber;
@@ -72,19 +72,19 @@ impl IrqController {
 
     // `Device` has `&mut self` here and in `read`; the controller stays as it was. The Rust answers `Some` of the byte.
     pub fn debug_read(&mut self, address: u32) -> u8
-        ensures { λ r. ⌜ (r ≡ byteRead (now (self .entry)) address) × (now (self .exit) ≡ now (self .entry)) ⌝ }
+        ensures { λ r. ⌜ (r ≡ controllerRead (now (self .entry)) address) × (now (self .exit) ≡ now (self .entry)) ⌝ }
     {
         debug_read_of(*self, address)
     }
 
     pub fn read(&mut self, address: u32) -> u8
-        ensures { λ r. ⌜ (r ≡ byteRead (now (self .entry)) address) × (now (self .exit) ≡ now (self .entry)) ⌝ }
+        ensures { λ r. ⌜ (r ≡ controllerRead (now (self .entry)) address) × (now (self .exit) ≡ now (self .entry)) ⌝ }
     {
         read_of(*self, address)
     }
 
     pub fn write(&mut self, address: u32, value: u8)
-        ensures { λ _. ⌜ now (self .exit) ≡ byteWritten (now (self .entry)) address value ⌝ }
+        ensures { λ _. ⌜ now (self .exit) ≡ controllerWritten (now (self .entry)) address value ⌝ }
     {
         *self = written(*self, address, value);
     }

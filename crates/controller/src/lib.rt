@@ -10,7 +10,7 @@ ghost use Rattle.wide.specs.Bits.{bit};
 ghost use Rattle.controller.specs.Bits.{withBit, without};
 ghost use Rattle.controller.specs.Controller.{fresh, resetOf, pendingOf, enableMaskOf, enableMaskSet};
 ghost use Rattle.controller.specs.Controller.{sourceSet, maskedSourceSet, sourceLevelsSet, pendingCleared};
-ghost use Rattle.controller.specs.Controller.{outputOf, byteRead, byteWritten, mmioSize};
+ghost use Rattle.controller.specs.Controller.{outputOf, controllerRead, controllerWritten, mmioSize};
 
 mod lent;
 
@@ -237,7 +237,7 @@ fn byte_at(word: u16, address: u32) -> u8
 
 // `read`
 pub fn read_of(controller: IrqController, address: u32) -> u8
-    ensures { λ r. ⌜ r ≡ byteRead controller address ⌝ }
+    ensures { λ r. ⌜ r ≡ controllerRead controller address ⌝ }
 {
     let pending = controller.pending;
     let enable = controller.enable;
@@ -250,7 +250,7 @@ pub fn read_of(controller: IrqController, address: u32) -> u8
 
 // `debug_read`, which in the Rust answers `Some` of this byte at every address.
 pub fn debug_read_of(controller: IrqController, address: u32) -> u8
-    ensures { λ r. ⌜ r ≡ byteRead controller address ⌝ }
+    ensures { λ r. ⌜ r ≡ controllerRead controller address ⌝ }
 {
     read_of(controller, address)
 }
@@ -269,7 +269,7 @@ fn with_low_byte(word: u16, value: u8) -> u16
 
 // `write`: a byte written to pending clears the bits that it has, and one written to enable takes its place there.
 pub fn written(controller: IrqController, address: u32, value: u8) -> IrqController
-    ensures { λ r. ⌜ r ≡ byteWritten controller address value ⌝ }
+    ensures { λ r. ⌜ r ≡ controllerWritten controller address value ⌝ }
 {
     let enable = controller.enable;
     match address {

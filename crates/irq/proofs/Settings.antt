@@ -2,12 +2,19 @@
 use mathlib.Core.Path.{_≡_, refl}
 use mathlib.Core.Bool.{true, false}
 use Rattle.controller.specs.Bits.{withBit, without}
-use Rattle.controller.specs.Controller.{sourceSet, pendingCleared, byteRead, byteWritten, outputOf, lowestFrom}
+use Rattle.controller.specs.Controller.{
+  sourceSet,
+  pendingCleared,
+  controllerRead,
+  controllerWritten,
+  outputOf,
+  lowestFrom,
+}
 use Rattle.irq.specs.Presented.{presentedBy}
 
 lines : (presentedBy 9 5 0x0200 2 ≡ record { valid = true; number = record { 0 = 9 } })
     × (presentedBy 9 5 0x0220 2 ≡ record { valid = true; number = record { 0 = 5 } })
     × (presentedBy 9 5 0x0220 1 ≡ record { valid = true; number = record { 0 = 9 } })
     × (presentedBy 9 5 0x0020 1 ≡ record { valid = false; number = record { 0 = 0 } })
-unfolding sourceSet withBit pendingCleared without byteRead byteWritten outputOf lowestFrom
+unfolding sourceSet withBit pendingCleared without controllerRead controllerWritten outputOf lowestFrom
 lines = (refl, refl, refl, refl)

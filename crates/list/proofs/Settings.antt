@@ -27,7 +27,7 @@ use Rattle.channel.specs.Prescaler.{advanced}
 use Rattle.channel.specs.Matches.{pointsMet, matchesIn}
 use Rattle.channel.specs.Modes.{oneShot, reloaded, matched, periodic, distance, freeRunning, tickedIn, ticked}
 use Rattle.channel.specs.Deadline.{ticksToGo, deadlineOf}
-use Rattle.channel.specs.Registers.{wordOf, controlWritten, byteWritten as channelWritten}
+use Rattle.channel.specs.Registers.{wordOf, controlWritten, byteWritten}
 use Rattle.clock.specs.declared.Clock.{Clock}
 use Rattle.clock.specs.Fields.{freshClockAt, freshClock, withControl, withTime, withAlarm, withHost}
 use Rattle.clock.specs.Clock.{
@@ -41,7 +41,7 @@ use Rattle.clock.specs.Clock.{
   endAdvance,
   advanceClock,
 }
-use Rattle.clock.specs.Sound.{soundRate, soundOffset, soundAlarm, soundParts as clockParts, alarmAhead, soundClock}
+use Rattle.clock.specs.Sound.{soundRate, soundOffset, soundAlarm, soundFields, alarmAhead, soundClock}
 use Rattle.clock.specs.Deadline.{clockDeadline}
 use Rattle.clock.specs.Registers.{
   signedDifference,
@@ -58,7 +58,7 @@ use Rattle.clock.specs.Registers.{
 }
 use Rattle.controller.specs.declared.IrqOutput.{IrqOutput}
 use Rattle.controller.specs.Bits.{withBit, without}
-use Rattle.controller.specs.Controller.{sourceSet, outputOf, lowestFrom, byteWritten, pendingCleared}
+use Rattle.controller.specs.Controller.{sourceSet, outputOf, lowestFrom, controllerWritten, pendingCleared}
 use Rattle.board.specs.declared.Board.{Board}
 use Rattle.board.specs.Loops.{mapFrom, foldFrom}
 use Rattle.board.specs.Fields.{freshBoardAt, freshBoard, withTimers, withTimerEnable, withClock}
@@ -301,12 +301,12 @@ pub settings-hold : settings ≡ true
 unfolding
     skipped atRate seconds settingI settingJ lowCount steady worked gives same settings beAt be withByte enabledOf
     irqEnabledOf disabled soundTimer lineOf advanced pointsMet matchesIn oneShot reloaded matched periodic distance
-    freeRunning tickedIn ticked ticksToGo deadlineOf wordOf controlWritten channelWritten shifted ownNanoseconds
+    freeRunning tickedIn ticked ticksToGo deadlineOf wordOf controlWritten byteWritten shifted ownNanoseconds
     timeOf timeSeconds alarmReached checkAlarm movedTime endAdvance advanceClock soundRate soundOffset soundAlarm
-    clockParts alarmAhead soundClock clockDeadline signedDifference setTime timeKept changeControl writeControl marked shadowByte
-    offsetFor commitSeconds writeSeconds timeNanoseconds withBit without sourceSet outputOf lowestFrom byteWritten
-    pendingCleared mapFrom foldFrom line exactDeadline wired soundParts sound answerOf freshOf movedBoard advancedBoard
-    timerWord clockWord liveWord readLive readCountHigh readChannel secondsLatched readLow readHigh readAt
-    timerWritten clockWritten writtenAt addressRefusal membersAt frameRefusal membersBytes recordOf callOf refusalAt
-    turnOf stepped runOn runOf
+    soundFields alarmAhead soundClock clockDeadline signedDifference setTime timeKept changeControl writeControl
+    marked shadowByte offsetFor commitSeconds writeSeconds timeNanoseconds withBit without sourceSet outputOf
+    lowestFrom controllerWritten pendingCleared mapFrom foldFrom line exactDeadline wired soundParts sound answerOf
+    freshOf movedBoard advancedBoard timerWord clockWord liveWord readLive readCountHigh readChannel secondsLatched
+    readLow readHigh readAt timerWritten clockWritten writtenAt addressRefusal membersAt frameRefusal membersBytes
+    recordOf callOf refusalAt turnOf stepped runOn runOf
 settings-hold = refl

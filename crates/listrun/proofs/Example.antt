@@ -7,7 +7,7 @@ use Rattle.channel.specs.Channel.{enabledOf, soundTimer, lineOf}
 use Rattle.channel.specs.Prescaler.{advanced}
 use Rattle.channel.specs.Matches.{matchesIn}
 use Rattle.clock.specs.Clock.{alarmReached, checkAlarm, movedTime, endAdvance, advanceClock}
-use Rattle.clock.specs.Sound.{soundRate, soundOffset, soundAlarm, soundParts as clockParts, alarmAhead, soundClock}
+use Rattle.clock.specs.Sound.{soundRate, soundOffset, soundAlarm, soundFields, alarmAhead, soundClock}
 use Rattle.controller.specs.Bits.{withBit}
 use Rattle.controller.specs.Controller.{sourceSet, outputOf, lowestFrom}
 use Rattle.board.specs.Loops.{mapFrom, foldFrom}
@@ -40,7 +40,7 @@ pub example-printed :
     ≡ ascii "02 01\n04 00" ++ replicate 128 48 ++ ascii "\n0a 0000\nend 3 2 19\n"
 unfolding
     beAt be enabledOf soundTimer lineOf advanced matchesIn alarmReached checkAlarm movedTime endAdvance advanceClock
-    soundRate soundOffset soundAlarm clockParts alarmAhead soundClock withBit sourceSet outputOf lowestFrom mapFrom
+    soundRate soundOffset soundAlarm soundFields alarmAhead soundClock withBit sourceSet outputOf lowestFrom mapFrom
     foldFrom line exactDeadline wired soundParts sound movedBoard advancedBoard clockWord liveWord readLive
     readAt addressRefusal membersAt frameRefusal membersBytes recordOf callOf refusalAt turnOf stepped runOn
     runOf ascii placesOf decimalText bytesText valueText answerLine linesOn endLine listingOf listed printedOf

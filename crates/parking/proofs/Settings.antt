@@ -14,7 +14,7 @@ use Rattle.clock.specs.Sound.{
   soundRate,
   soundOffset,
   soundAlarm,
-  soundParts as clockParts,
+  soundFields,
   alarmAhead,
   soundClock,
 }
@@ -208,7 +208,7 @@ pub writings-refused :
     -- 1, then 16, then 11
     × (written Old rates ≡ 16 ∷ 16 ∷ 0 ∷ 1 ∷ 1 ∷ 1 ∷ 16 ∷ 16 ∷ 11 ∷ 1 ∷ 1 ∷ 1 ∷ [])
 unfolding
-    sound soundParts line foldFrom lineOf soundTimer soundRate soundOffset soundAlarm clockParts alarmAhead
+    sound soundParts line foldFrom lineOf soundTimer soundRate soundOffset soundAlarm soundFields alarmAhead
     soundClock
 writings-refused = (refl, refl)
 
@@ -240,7 +240,7 @@ pub readings :
     × (read (take 7 (freshIn New 48_000_000) ++ freshIn New 48_000_000) ≡ 0 ∷ 12 ∷ [])
     × (read (freshIn Old 48_000_000 ++ (0 ∷ [])) ≡ 0 ∷ 12 ∷ [])
 unfolding
-    sound soundParts line foldFrom lineOf soundTimer soundRate soundOffset soundAlarm clockParts alarmAhead
+    sound soundParts line foldFrom lineOf soundTimer soundRate soundOffset soundAlarm soundFields alarmAhead
     soundClock imageOf fieldsBytes fieldBytes recordOf membersBytes be beAt membersAt flagsHold fieldAt fieldsAt
     membersFrom boardFrom formRefusal formOf readingRefusal
 readings = (refl, refl, refl, refl, refl, refl, refl, refl, refl, refl, refl, refl, refl, refl)
@@ -260,7 +260,7 @@ pub moves :
     × (moveRefusal Old (freshIn Old 48_000_000) 268 ≡ 12)
     × (movedImage Old (freshIn New 48_000_000) ≡ freshIn Old 48_000_000)
 unfolding
-    sound soundParts line foldFrom lineOf soundTimer soundRate soundOffset soundAlarm clockParts alarmAhead
+    sound soundParts line foldFrom lineOf soundTimer soundRate soundOffset soundAlarm soundFields alarmAhead
     soundClock imageOf fieldsBytes fieldBytes recordOf membersBytes be beAt membersAt flagsHold fieldAt fieldsAt
     membersFrom boardFrom formRefusal moveRefusal
 moves = (refl, refl, refl, refl, refl, refl, refl, refl, refl, refl, refl)

@@ -2,7 +2,8 @@
 // enable from bit 16 on, levels from bit 0 on. And the turns of the dispatcher above it.
 ghost use mathlib.Core.Path.{_≡_};
 ghost use Rattle.controller.specs.Controller.{fresh, resetOf, pendingOf, enableMaskOf, enableMaskSet, sourceSet};
-ghost use Rattle.controller.specs.Controller.{sourceLevelsSet, pendingCleared, outputOf, byteRead, byteWritten};
+ghost use Rattle.controller.specs.Controller.{sourceLevelsSet, pendingCleared, outputOf, controllerRead};
+ghost use Rattle.controller.specs.Controller.{controllerWritten};
 ghost use Rattle.controller.specs.Controller.{mmioSize};
 ghost use Rattle.dispatcher.specs.Dispatcher.{freshNumber, dispatched};
 ghost use Rattle.pec.specs.Packed.{controllerOf, packed, packedOutput};
@@ -114,7 +115,7 @@ pub extern "C" fn pec_irqc_output(word: u64) -> u16
 // `read`
 #[no_mangle]
 pub extern "C" fn pec_irqc_read(word: u64, address: u32) -> u8
-    ensures { λ r. ⌜ r ≡ byteRead (controllerOf word) address ⌝ }
+    ensures { λ r. ⌜ r ≡ controllerRead (controllerOf word) address ⌝ }
 {
     controller::read_of(unpack(word), address)
 }
@@ -122,7 +123,7 @@ pub extern "C" fn pec_irqc_read(word: u64, address: u32) -> u8
 // `debug_read`, which in the Rust answers `Some` of this byte at every address.
 #[no_mangle]
 pub extern "C" fn pec_irqc_debug_read(word: u64, address: u32) -> u8
-    ensures { λ r. ⌜ r ≡ byteRead (controllerOf word) address ⌝ }
+    ensures { λ r. ⌜ r ≡ controllerRead (controllerOf word) address ⌝ }
 {
     controller::debug_read_of(unpack(word), address)
 }
@@ -130,7 +131,7 @@ pub extern "C" fn pec_irqc_debug_read(word: u64, address: u32) -> u8
 // `write`
 #[no_mangle]
 pub extern "C" fn pec_irqc_write(word: u64, address: u32, value: u8) -> u64
-    ensures { λ r. ⌜ r ≡ packed (byteWritten (controllerOf word) address value) ⌝ }
+    ensures { λ r. ⌜ r ≡ packed (controllerWritten (controllerOf word) address value) ⌝ }
 {
     pack(controller::written(unpack(word), address, value))
 }

@@ -31,7 +31,7 @@ use Rattle.clock.specs.Clock.{
   endAdvance,
   advanceClock,
 }
-use Rattle.clock.specs.Sound.{soundRate, soundOffset, soundAlarm, soundParts as clockParts, alarmAhead, soundClock}
+use Rattle.clock.specs.Sound.{soundRate, soundOffset, soundAlarm, soundFields, alarmAhead, soundClock}
 use Rattle.controller.specs.Bits.{withBit}
 use Rattle.controller.specs.Controller.{sourceSet}
 use Rattle.board.specs.declared.Board.{Board}
@@ -104,6 +104,6 @@ pub rows :
 unfolding
     enabledOf irqEnabledOf disabled soundTimer lineOf advanced oneShot distance freeRunning tickedIn ticked shifted
     ownNanoseconds timeOf timeSeconds alarmReached checkAlarm movedTime endAdvance advanceClock soundRate soundOffset
-    soundAlarm clockParts alarmAhead soundClock withBit sourceSet mapFrom foldFrom line wired soundParts sound movedBoard
-    advancedBoard previewRefusal previewOf previewedBuffer
+    soundAlarm soundFields alarmAhead soundClock withBit sourceSet mapFrom foldFrom line wired soundParts sound
+    movedBoard advancedBoard previewRefusal previewOf previewedBuffer
 rows = (refl, refl, refl, refl, refl, refl, refl, refl, refl, refl, refl, refl, refl, refl, refl, refl)

@@ -28,7 +28,7 @@ use Rattle.channel.specs.Registers.{
   reloadHighAt,
   prescalerAt,
   controlWritten,
-  byteWritten as channelByte,
+  byteWritten,
 }
 use Rattle.clock.specs.declared.Clock.{Clock}
 use Rattle.clock.specs.declared.Shadow.{Shadow}
@@ -69,7 +69,7 @@ use Rattle.clock.specs.Registers.{
 use Rattle.clock.proofs.Durations.{nanos-below}
 use Rattle.clock.proofs.Soundness.{Sound, OwnSound}
 use Rattle.controller.specs.declared.IrqController.{IrqController}
-use Rattle.controller.specs.Controller.{pendingCleared, byteWritten}
+use Rattle.controller.specs.Controller.{pendingCleared, controllerWritten}
 use Rattle.controller.proofs.Bits.{and-not}
 use Rattle.board.specs.declared.Latch.{Latch}
 use Rattle.board.specs.declared.Latch.the-variants.{Empty, Held}
@@ -298,8 +298,8 @@ module _ (i v : ℕ) (four : i < 4) (byte : v < 256) (h : HardwareTimer) (w : Ti
   reload-words k l =
       record { reload = with-byte-fits 8 k v (h .reload) l byte (w .reload); prescaler = w .prescaler }
 
-  channel-byte-words : (register : ℕ) → TimerWords (channelByte register i v h)
-  unfolding channelByte
+  channel-byte-words : (register : ℕ) → TimerWords (byteWritten register i v h)
+  unfolding byteWritten
   channel-byte-words register =
       choose TimerWords (eqb register controlAt) (λ _. control-words (withByte (3 - i) v (h .control)))
       (λ _. choose TimerWords (eqb register countLowAt) (λ _. same-words h w refl refl)
@@ -483,8 +483,8 @@ module _ (q : IrqController) (w : ControllerWords q) where
         levels = w .levels;
       }
 
-  controller-byte-words : (address v : ℕ) → v < 256 → ControllerWords (byteWritten q address v)
-  unfolding byteWritten
+  controller-byte-words : (address v : ℕ) → v < 256 → ControllerWords (controllerWritten q address v)
+  unfolding controllerWritten
   controller-byte-words address v byte =
       choose ControllerWords (eqb address 0) (λ _. cleared-pending (v * 256) (omega arith))
       (λ _. choose ControllerWords (eqb address 1) (λ _. cleared-pending v (omega arith))

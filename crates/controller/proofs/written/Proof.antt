@@ -4,7 +4,7 @@ use Prim.Native.Nat.{_*_, _%_}
 use mathlib.Core.Path.{_≡_, ap, _∙_}
 use borrow.Author.Needs.{needs}
 use native.Mathlib.Omega.{arith}
-use Rattle.controller.specs.Controller.{pendingCleared, enableMaskSet, byteWritten}
+use Rattle.controller.specs.Controller.{pendingCleared, enableMaskSet, controllerWritten}
 use Rattle.controller.proofs.Registers.{write-other}
 use Rattle.controller.proofs.written.Statement.{statement}
 use Rattle.controller.proofs.written.Tie as tie
@@ -28,25 +28,25 @@ with-enable-mask-requires-2 : tie.Need-with-enable-mask-requires-2
 with-enable-mask-requires-2 c κs = search needs
 
 returns : tie.Need-returns
-unfolding byteWritten
+unfolding controllerWritten
 returns c =
     let a = c .before .before .args in
     let fits : a .value * 256 % 65536 ≡ a .value * 256 = omega arith in
     c .without-pending .ensures ∙ rw (c .before .match .keys1) (ap (pendingCleared (a .controller)) fits)
 
 returns-2 : tie.Need-returns-2
-unfolding byteWritten
+unfolding controllerWritten
 returns-2 c = c .without-pending2 .ensures ∙ rw (c .before .match .keys2)
 
 returns-3 : tie.Need-returns-3
-unfolding byteWritten
+unfolding controllerWritten
 returns-3 c =
     let a = c .before .before .before .args in
     c .with-enable-mask .ensures
     ∙ rw (c .before .before .match .keys3) (ap (enableMaskSet (a .controller)) (c .before .with-high-byte .ensures))
 
 returns-4 : tie.Need-returns-4
-unfolding byteWritten
+unfolding controllerWritten
 returns-4 c =
     let a = c .before .before .before .args in
     c .with-enable-mask2 .ensures

@@ -31,7 +31,7 @@ use denote.Triple.Walked.{says, Stays, stay-none, walkOf, goes-none, ends-at, wa
 use Rattle.controller.specs.declared.IrqController.{IrqController}
 use Rattle.controller.specs.declared.IrqOutput.{IrqOutput}
 use Rattle.controller.specs.declared.SourceNumber.{SourceNumber}
-use Rattle.controller.specs.Controller.{fresh, sourceSet, enableMaskSet, byteRead, byteWritten, outputOf}
+use Rattle.controller.specs.Controller.{fresh, sourceSet, enableMaskSet, controllerRead, controllerWritten, outputOf}
 use Rattle.controller.proofs.Plain.{rowOf, valsOf, made, number, truth, empty, sourceNumber, output, controller}
 use Rattle.controller.proofs.ByValue.{Constructor, atₙ, askedₙ, toldₙ}
 use Rattle.controller.proofs.Walk.{calls-plain}
@@ -65,7 +65,7 @@ use Rattle.irq.proofs.presented.Code as code
 -- the calls' facts, composed
 composed : (first second m a : ℕ) (z₀ z₁ z₂ z₃ z₄ z₅ : IrqController) (byte : ℕ) (r : IrqOutput) → z₀ ≡ fresh
     → z₁ ≡ sourceSet z₀ first true → z₂ ≡ sourceSet z₁ second true → z₃ ≡ enableMaskSet z₂ m
-    → (byte ≡ byteRead z₃ a) × (z₄ ≡ z₃) → z₅ ≡ byteWritten z₄ a byte → r ≡ outputOf z₅
+    → (byte ≡ controllerRead z₃ a) × (z₄ ≡ z₃) → z₅ ≡ controllerWritten z₄ a byte → r ≡ outputOf z₅
     → r ≡ presentedBy first second m a
 composed first second m a z₀ z₁ z₂ z₃ z₄ z₅ byte r e₀ e₁ e₂ e₃ e₄ e₅ e₆ =
     rw (e₆, e₅, e₄ .0, e₄ .1, e₃, e₂, e₁, e₀)
@@ -118,8 +118,8 @@ module _ {M : Type 1} (𝓤 : URA M) (H : Heap 𝓤) (A : Atoms 𝓤) (W : Given
       → Triple 𝓤 (C new-def.name) (Constructor controller fresh 𝓤 H A)
       → Triple 𝓤 (C source-def.name) (Method₂ controller sourceNumber truth set 𝓤 H A)
       → Triple 𝓤 (C mask-def.name) (Method₁ controller (number w16) enableMaskSet 𝓤 H A)
-      → Triple 𝓤 (C read-def.name) (Methodₘ controller (number w32) (number w8) byteRead 𝓤 H A)
-      → Triple 𝓤 (C write-def.name) (Method₂ controller (number w32) (number w8) byteWritten 𝓤 H A)
+      → Triple 𝓤 (C read-def.name) (Methodₘ controller (number w32) (number w8) controllerRead 𝓤 H A)
+      → Triple 𝓤 (C write-def.name) (Method₂ controller (number w32) (number w8) controllerWritten 𝓤 H A)
       → Triple 𝓤 (C out-def.name) (Methodₛ controller output outputOf 𝓤 H A)
       → ent 𝓤 (onEntry 𝓤 H A f.signature tt tt args vals) (WpFn 𝓤 H C Λ code.function passed Post)
   walk C Λ fm known-new known-source known-mask known-read known-write known-out =
@@ -161,14 +161,14 @@ module _ {M : Type 1} (𝓤 : URA M) (H : Heap 𝓤) (A : Atoms 𝓤) (W : Given
       (λ i j. and-then ! (load ! (from ! (stop !)) (look ! 8 refl))
       (and-then ! (load ! (from ! (stop !)) (look ! 23 refl)) (no-more !))) (λ _ z₃ e₃ _ is-z₃.
       land ! (from ! (stop !)) (store ! 13 refl (tt, tt)) $
-      lends-mut controller (number w8) z₃ (callₘ controller (number w32) (number w8) byteRead 𝓤 H A W z₃ a is₄) ! 4 fm
-      known-read is-z₃ refl refl refl
+      lends-mut controller (number w8) z₃
+      (callₘ controller (number w32) (number w8) controllerRead 𝓤 H A W z₃ a is₄) ! 4 fm known-read is-z₃ refl refl refl
       (λ i j. and-then ! (load ! (from ! (stop !)) (look ! 6 refl))
       (and-then ! (load ! (from ! (stop !)) (look ! 21 refl)) (no-more !))) (λ byte z₄ e₄ is-byte is-z₄.
       land ! (from ! (stop !)) (init ! 17 refl (number w8 .typed 𝓤 H A W byte _ is-byte)) $
       lends-mut controller empty z₄
-      (call₂ controller (number w32) (number w8) byteWritten 𝓤 H A W z₄ a is₄ byte is-byte) ! 2 fm known-write is-z₄
-      refl refl refl
+      (call₂ controller (number w32) (number w8) controllerWritten 𝓤 H A W z₄ a is₄ byte is-byte) ! 2 fm known-write
+      is-z₄ refl refl refl
       (λ i j. and-then ! (load ! (from ! (stop !)) (look ! 4 refl))
       (and-then ! (load ! (from ! (stop !)) (look ! 21 refl))
       (and-then ! (load ! (from ! (stop !)) (look ! 18 refl)) (no-more !)))) (λ _ z₅ e₅ _ is-z₅.
@@ -192,8 +192,8 @@ meets : {M : Type 1} (𝓤 : URA M) (H : Heap 𝓤) (A : Atoms 𝓤) (W : Given 
     (run : Routine → Fun 𝓤) (𝓣 : Tables 𝓤 H) → Triple 𝓤 (𝓣 .C new-def.name) (Constructor controller fresh 𝓤 H A)
     → Triple 𝓤 (𝓣 .C source-def.name) (Method₂ controller sourceNumber truth set 𝓤 H A)
     → Triple 𝓤 (𝓣 .C mask-def.name) (Method₁ controller (number w16) enableMaskSet 𝓤 H A)
-    → Triple 𝓤 (𝓣 .C read-def.name) (Methodₘ controller (number w32) (number w8) byteRead 𝓤 H A)
-    → Triple 𝓤 (𝓣 .C write-def.name) (Method₂ controller (number w32) (number w8) byteWritten 𝓤 H A)
+    → Triple 𝓤 (𝓣 .C read-def.name) (Methodₘ controller (number w32) (number w8) controllerRead 𝓤 H A)
+    → Triple 𝓤 (𝓣 .C write-def.name) (Method₂ controller (number w32) (number w8) controllerWritten 𝓤 H A)
     → Triple 𝓤 (𝓣 .C out-def.name) (Methodₛ controller output outputOf 𝓤 H A)
     → Meets 𝓤 H A f.signature (WpFn 𝓤 H (𝓣 .C) (𝓣 .Λ) code.function) (f.spec 𝓤 H A mem run)
 meets 𝓤 H A W mem run 𝓣 known-new known-source known-mask known-read known-write known-out =

@@ -11,14 +11,14 @@ unfolding soundTimer
 returns c =
     let h = c .before .before .before .args .self in (
       rw (lt-ltb (h .control) 16 (c .before .if1 .taken)) (at-most-is (h .phase) (h .prescaler)),
-      record { counter = omega arith; compare = omega arith },
+      record { counter = omega arith; compare = omega arith; reload = omega arith; prescaler = omega arith },
     )
 
 returns-2 : tie.Need-returns-2
 unfolding soundTimer
 returns-2 c = (
   rw (le-ltb (c .before .before .args .self .control) 16 (c .if1 .left)),
-  record { counter = omega arith; compare = omega arith },
+  record { counter = omega arith; compare = omega arith; reload = omega arith; prescaler = omega arith },
 )
 
 pub sound-spec : {M : Type 1} → statement M

@@ -3,11 +3,10 @@ use Prim.Native.Nat.{ℕ}
 use mathlib.Core.Path.{ap, _∙_}
 use Rattle.clock.specs.declared.Clock.{Clock}
 use Rattle.clock.proofs.Ranges.{timed-same, offset-for-timed, time-timed, shadow-timed}
-use Rattle.clock.proofs.Rate.{three-rate, at-rate, offset-for-rate}
+use Rattle.clock.proofs.Rate.{three-rate}
 use Rattle.clock.specs.Fields.{withTime, withShadow}
 use Rattle.clock.specs.Clock.{rateOf, checkAlarm}
 use Rattle.clock.specs.Registers.{unmarked, offsetFor, commitSeconds}
-use Rattle.clock.specs.Sound.{Timed}
 use borrow.Author.Needs.{needs}
 use Rattle.clock.proofs.Clock.commit_seconds.Statement.{statement}
 use Rattle.clock.proofs.Clock.commit_seconds.Tie as tie
@@ -29,7 +28,7 @@ check-alarm-requires c κs =
     let k = a .self in
     let s = a .shadow .value in
     let t = offset-for-timed (rateOf k) k (c .before .before .before .pre) s in
-    let u = timed-same (x .ensures) (at-rate Timed k (offsetFor s k) (offset-for-rate (rateOf k) k s) t) in
+    let u = timed-same (x .ensures) t in
     timed-same (c .with-shadow .ensures)
     (shadow-timed (rateOf (y .result)) (y .result)
     (timed-same (y .ensures)
@@ -41,6 +40,7 @@ unfolding commitSeconds
 returns c =
     let a = c .before .before .before .before .args in
     let s = a .shadow .value in
+    let t = offset-for-timed (rateOf (a .self)) (a .self) (c .before .before .before .before .pre) s in
     c .check-alarm .ensures
     ∙ ap (λ (k : Clock). checkAlarm (rateOf k) k)
     (c .before .with-shadow .ensures
@@ -48,7 +48,7 @@ returns c =
     (c .before .before .with-time .ensures
     ∙ ap (λ (k : Clock). withTime s 0 k) (c .before .before .before .offset-for .ensures)))
     ∙ ap (λ (rate : ℕ). checkAlarm rate (withShadow (unmarked (a .shadow)) (withTime s 0 (offsetFor s (a .self)))))
-    (offset-for-rate (rateOf (a .self)) (a .self) s .same)
+    (t .own)
 
 pub commit-seconds-spec : {M : Type 1} → statement M
 commit-seconds-spec =

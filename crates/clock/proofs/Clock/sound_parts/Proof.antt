@@ -3,7 +3,7 @@ use Prim.Native.Nat.{ℕ}
 use mathlib.Core.Path.{ap}
 use lib.Dec.{ltb}
 use Rattle.clock.proofs.Tests.{and-is, and-after}
-use Rattle.clock.specs.Sound.{soundParts, soundShadow}
+use Rattle.clock.specs.Sound.{soundFields, soundShadow}
 use borrow.Author.Needs.{needs}
 use Rattle.clock.proofs.Clock.sound_parts.Statement.{statement}
 use Rattle.clock.proofs.Clock.sound_parts.Tie as tie
@@ -48,7 +48,7 @@ both-requires-7 : tie.Need-both-requires-7
 both-requires-7 c κs = search needs
 
 returns : tie.Need-returns
-unfolding soundParts
+unfolding soundFields
 returns c =
     let rate = c .before .before .before .before .before .before in
     let shadows = rate .before in
