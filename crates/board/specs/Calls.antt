@@ -1,7 +1,7 @@
--- The calls of document 01. A call is three things: its own refusal, the board after it, and the members of its
--- answer. One definition makes a direct call's answer of them, and a run of a call list uses the same three. Read and
--- write stand with the registers.
-use Prim.Native.Nat.{ℕ}
+-- Document 01, 'The call list' and 'The line, source 3 and the deadline': the calls. A call is a case of `Call`, with its
+-- members, and what it means goes by cases: its own refusal, the board after it, and the members of its answer. A direct
+-- call's answer is made of these three, and a run of a call list uses the same three.
+use Prim.Native.Nat.{ℕ, _+_, _^_, _<_}
 use mathlib.Core.Bool.{Bool, true, false, cond}
 use mathlib.Core.Option.{Option, none, some}
 use mathlib.Core.List.{List, [], _∷_}
@@ -9,12 +9,25 @@ use lib.ListN.{getD}
 use lib.Dec.{leb, ltb, eqb}
 use Rattle.wide.specs.Bits.{flagOf}
 use Rattle.wide.specs.Number.{wideOf, largest}
-use Rattle.clock.specs.declared.HostTime.{HostTime}
+use Rattle.clock.specs.declared.HostTime.{HostTime as HostTimeOf}
 use Rattle.clock.specs.Clock.{rateOf, nanosPerSecond, advanceClock}
 use Rattle.clock.specs.Sound.{soundRate}
 use Rattle.clock.specs.Fields.{withHost}
 use Rattle.controller.specs.Controller.{sourceSet, controllerRead, controllerWritten, outputOf}
 use Rattle.board.specs.declared.Board.{Board}
+use Rattle.board.specs.declared.calls.Call.{Call}
+use Rattle.board.specs.declared.calls.Call.the-variants.{
+  HostTime,
+  Read,
+  Write,
+  Advance,
+  Deadline,
+  Skip,
+  Source,
+  ControllerRead,
+  ControllerWrite,
+  Output,
+}
 use Rattle.board.specs.declared.calls.EmptyAnswer.{EmptyAnswer}
 use Rattle.board.specs.declared.calls.AdvanceAnswer.{AdvanceAnswer}
 use Rattle.board.specs.declared.calls.DeadlineAnswer.{DeadlineAnswer}
@@ -24,15 +37,195 @@ use Rattle.board.specs.declared.calls.OutputAnswer.{OutputAnswer}
 use Rattle.board.specs.Channels.{advancedAll, matchesAll}
 use Rattle.board.specs.Fields.{freshBoardAt, freshBoard, withTimers, withClock, withController}
 use Rattle.board.specs.Board.{line, exactDeadline, wordDeadline, wired, sound}
+use Rattle.board.specs.Registers.{base}
+use Rattle.board.specs.RegisterWrites.{writtenAt}
+use Rattle.board.specs.RegisterReads.{readAt}
 
--- ---- what a call is
+-- ---- the calls by their members as numbers
 
--- a call on a board: its own refusal, 0 for none; the board after it, before source 3 is set to the line; the members
+-- an advance of c cycles
+abbrev pub advanceBy : ℕ → Call
+advanceBy c = Advance (record { 0 = c })
+
+abbrev pub hostTimeTo : HostTimeOf → Call
+hostTimeTo h = HostTime (h .nanoseconds) (h .seconds)
+
+abbrev pub sourceTo : ℕ → ℕ → Call
+sourceTo number level = Source (record { 0 = number }) level
+
+-- ---- 01 host time
+
+abbrev pub nanosecondsTooLarge : ℕ
+nanosecondsTooLarge = 7
+
+-- 'Host time: 1; 7 nanoseconds ≥ 10^9.'
+unfoldable pub hostTimeRefusal : HostTimeOf → ℕ
+hostTimeRefusal h = cond (leb nanosPerSecond (h .nanoseconds)) nanosecondsTooLarge 0
+
+-- ---- 02 read, 03 write
+
+abbrev pub addressTooLarge : ℕ
+addressTooLarge = 6
+
+abbrev pub addressesEnd : ℕ
+addressesEnd = 0x380
+
+-- 'Read, write: 1; 6 address ≥ 0x380.'
+unfoldable pub addressRefusal : ℕ → ℕ
+addressRefusal address = cond (leb addressesEnd address) addressTooLarge 0
+
+-- ---- 04 advance
+
+-- c cycles arrive at the channels and the clock
+unfoldable pub movedBoard : ℕ → Board → Board
+movedBoard c b =
+    withClock (advanceClock (rateOf (b .clock)) c (b .clock))
+    (withTimers (advancedAll (b .«timer_enable») c (b .timers)) b)
+
+-- the same with source 3 set to the line: the board after an accepted advance
+unfoldable pub advancedBoard : ℕ → Board → Board
+advancedBoard c b = wired (movedBoard c b)
+
+-- ---- 05 deadline
+
+abbrev pub isPresent : Option ℕ → Bool
+isPresent none = false
+isPresent (some d) = true
+
+-- 'zeros if none'
+abbrev pub orZero : Option ℕ → ℕ
+orZero none = 0
+orZero (some d) = d
+
+-- ---- 06 skip. Skip is document 01's term
+
+-- 'with the line high or no D, it makes no advance, changes nothing and passes 0'; else it advances once by D and
+-- passes that: the cycles of its advance, or none
+abbrev pub skipLength : Board → Option ℕ
+skipLength b = cond (line b) none (exactDeadline b)
+
+abbrev pub deadlineTooLarge : ℕ
+deadlineTooLarge = 13
+
+-- the refusal of an advance by so many cycles: more than 2^64 − 1 do not go into one
+abbrev pub lengthRefusal : Option ℕ → ℕ
+lengthRefusal none = 0
+lengthRefusal (some d) = cond (ltb largest d) deadlineTooLarge 0
+
+-- S-2: 'A skip with the line low whose D is above 2^64 − 1 is now refused'; '13, D too large for one skip'. This
+-- refusal depends on the board
+abbrev pub skipRefusal : Board → ℕ
+skipRefusal b = lengthRefusal (skipLength b)
+
+abbrev pub movedBy : Option ℕ → Board → Board
+movedBy none b = b
+movedBy (some n) b = movedBoard n b
+
+-- ---- 07 source
+
+abbrev pub sourceTooLarge : ℕ
+sourceTooLarge = 8
+
+abbrev pub sourceOfLine : ℕ
+sourceOfLine = 9
+
+abbrev pub levelTooLarge : ℕ
+levelTooLarge = 10
+
+-- 'Source: 1; 8 number > 15; 9 number 3; 10 level above 1.'
+unfoldable pub sourceRefusal : ℕ → ℕ → ℕ
+sourceRefusal number level =
+    cond (ltb 15 number) sourceTooLarge (cond (eqb number 3) sourceOfLine (cond (ltb 1 level) levelTooLarge 0))
+
+-- ---- what a call means
+
+-- on a board: the call's own refusal, 0 for none; the board after it, before source 3 is set to the line; the members
 -- of its answer as numbers, in document 01's order
-pub record Call : Type 0 where
+pub record Effect : Type 0 where
   pub refusal : ℕ
   pub board : Board
   pub members : List ℕ
+
+abbrev pub effectOf : Call → Board → Effect
+-- '01 host time .. it sets the two host fields and makes no alarm check'
+effectOf (HostTime nanoseconds seconds) b =
+    record {
+      refusal = hostTimeRefusal (record { seconds = seconds; nanoseconds = nanoseconds });
+      board = withClock (withHost (record { seconds = seconds; nanoseconds = nanoseconds }) (b .clock)) b;
+      members = [];
+    }
+-- '02 read: address 2 → 1'
+effectOf (Read address) b =
+    record {
+      refusal = addressRefusal address;
+      board = readAt (address + base) b .board;
+      members = readAt (address + base) b .byte ∷ [];
+    }
+-- '03 write: address 2, byte → none'
+effectOf (Write byte address) b =
+    record { refusal = addressRefusal address; board = writtenAt (address + base) byte b; members = [] }
+-- '04 advance', and by S-4 'Call 04 answers the line and four 16-byte counts, channel 0 first'
+effectOf (Advance c) b =
+    record {
+      refusal = 0;
+      board = movedBoard (c .0) b;
+      members = flagOf (line (movedBoard (c .0) b)) ∷ matchesAll (b .«timer_enable») (c .0) (b .timers);
+    }
+-- '05 deadline: none → present 1, D 16, 64-bit deadline 8 (zeros if none)'
+effectOf Deadline b =
+    record {
+      refusal = 0;
+      board = b;
+      members =
+          flagOf (isPresent (exactDeadline b)) ∷ orZero (exactDeadline b) ∷ orZero (wordDeadline (exactDeadline b))
+          ∷ [];
+    }
+-- '06 skip: none → passed 8, line 1'
+effectOf Skip b =
+    record {
+      refusal = skipRefusal b;
+      board = movedBy (skipLength b) b;
+      members = orZero (skipLength b) ∷ flagOf (line (movedBy (skipLength b) b)) ∷ [];
+    }
+-- '07 source: number, level → none'
+effectOf (Source number level) b =
+    record {
+      refusal = sourceRefusal (number .0) level;
+      board = withController (sourceSet (b .controller) (number .0) (eqb level 1)) b;
+      members = [];
+    }
+-- '08 controller read: address 4 → 1'
+effectOf (ControllerRead address) b =
+    record { refusal = 0; board = b; members = controllerRead (b .controller) address ∷ [] }
+-- '09 controller write: address 4, byte → none'
+effectOf (ControllerWrite byte address) b =
+    record { refusal = 0; board = withController (controllerWritten (b .controller) address byte) b; members = [] }
+-- '0A output: none → valid, number'
+effectOf Output b =
+    record {
+      refusal = 0;
+      board = b;
+      members = flagOf (outputOf (b .controller) .valid) ∷ outputOf (b .controller) .number .0 ∷ [];
+    }
+
+-- 'After every accepted call the controller's source 3 is set to the line': the board that an accepted call leaves
+abbrev pub boardAfter : Call → Board → Board
+boardAfter call b = wired (effectOf call b .board)
+
+-- what the types of a machine's call say: each member is within its width
+abbrev pub CallFits : Call → Type 0
+CallFits (HostTime nanoseconds seconds) = (nanoseconds < 2 ^ 32) × (seconds < 2 ^ 64)
+CallFits (Read address) = address < 2 ^ 16
+CallFits (Write byte address) = (byte < 2 ^ 8) × (address < 2 ^ 16)
+CallFits (Advance c) = c .0 < 2 ^ 64
+CallFits Deadline = Unit {0}
+CallFits Skip = Unit {0}
+CallFits (Source number level) = (number .0 < 2 ^ 8) × (level < 2 ^ 8)
+CallFits (ControllerRead address) = address < 2 ^ 32
+CallFits (ControllerWrite byte address) = (byte < 2 ^ 8) × (address < 2 ^ 32)
+CallFits Output = Unit {0}
+
+-- ---- a direct call
 
 -- what a direct call answers: the board, the refusal, 0 for none, and the members
 pub record DirectAnswer : Type 0 where
@@ -47,16 +240,12 @@ notSound = 1
 abbrev pub refusalOf : Board → ℕ → ℕ
 refusalOf b own = cond (sound b) own notSound
 
--- 'After every accepted call the controller's source 3 is set to the line': the board that an accepted call leaves
-abbrev pub boardAfter : Call → Board
-boardAfter c = wired (c .board)
-
 -- 'Direct calls refuse alike and return the board given, every answer member 0.' A member that is not there is 0
-unfoldable pub answerOf : (Board → Call) → Board → DirectAnswer
+unfoldable pub answerOf : Call → Board → DirectAnswer
 answerOf call b =
-    cond (eqb (refusalOf b (call b .refusal)) 0)
-    (record { board = boardAfter (call b); refusal = 0; members = call b .members })
-    (record { board = b; refusal = refusalOf b (call b .refusal); members = [] })
+    cond (eqb (refusalOf b (effectOf call b .refusal)) 0)
+    (record { board = boardAfter call b; refusal = 0; members = effectOf call b .members })
+    (record { board = b; refusal = refusalOf b (effectOf call b .refusal); members = [] })
 
 -- ---- an answer as the struct that a direct call gives
 
@@ -118,139 +307,3 @@ unfoldable pub freshOf : ℕ → EmptyAnswer
 freshOf rate =
     cond (soundRate rate) (record { board = freshBoardAt rate; refusal = 0 })
     (record { board = freshBoard; refusal = anotherRate })
-
--- ---- 01 host time
-
-abbrev pub nanosecondsTooLarge : ℕ
-nanosecondsTooLarge = 7
-
--- 'Host time: 1; 7 nanoseconds ≥ 10^9.'
-unfoldable pub hostTimeRefusal : HostTime → ℕ
-hostTimeRefusal h = cond (leb nanosPerSecond (h .nanoseconds)) nanosecondsTooLarge 0
-
--- 'it sets the two host fields and makes no alarm check'
-abbrev pub hostTimeCall : HostTime → Board → Call
-hostTimeCall h b =
-    record { refusal = hostTimeRefusal h; board = withClock (withHost h (b .clock)) b; members = [] }
-
--- ---- 04 advance
-
--- c cycles arrive at the channels and the clock
-unfoldable pub movedBoard : ℕ → Board → Board
-movedBoard c b =
-    withClock (advanceClock (rateOf (b .clock)) c (b .clock))
-    (withTimers (advancedAll (b .«timer_enable») c (b .timers)) b)
-
--- the same with source 3 set to the line: the board after an accepted advance
-unfoldable pub advancedBoard : ℕ → Board → Board
-advancedBoard c b = wired (movedBoard c b)
-
--- S-4: 'Call 04 answers the line and four 16-byte counts, channel 0 first'
-abbrev pub advanceCall : ℕ → Board → Call
-advanceCall c b =
-    record {
-      refusal = 0;
-      board = movedBoard c b;
-      members = flagOf (line (movedBoard c b)) ∷ matchesAll (b .«timer_enable») c (b .timers);
-    }
-
--- ---- 05 deadline
-
-abbrev pub isPresent : Option ℕ → Bool
-isPresent none = false
-isPresent (some d) = true
-
--- 'zeros if none'
-abbrev pub orZero : Option ℕ → ℕ
-orZero none = 0
-orZero (some d) = d
-
--- 'present 1, D 16, 64-bit deadline 8 (zeros if none)'
-abbrev pub deadlineCall : Board → Call
-deadlineCall b =
-    record {
-      refusal = 0;
-      board = b;
-      members =
-          flagOf (isPresent (exactDeadline b)) ∷ orZero (exactDeadline b) ∷ orZero (wordDeadline (exactDeadline b))
-          ∷ [];
-    }
-
--- ---- 06 skip. Skip is document 01's term
-
--- 'with the line high or no D, it makes no advance, changes nothing and passes 0'; else it advances once by D and
--- passes that: the cycles of its advance, or none
-abbrev pub skipLength : Board → Option ℕ
-skipLength b = cond (line b) none (exactDeadline b)
-
-abbrev pub deadlineTooLarge : ℕ
-deadlineTooLarge = 13
-
--- the refusal of an advance by so many cycles: more than 2^64 − 1 do not go into one
-abbrev pub lengthRefusal : Option ℕ → ℕ
-lengthRefusal none = 0
-lengthRefusal (some d) = cond (ltb largest d) deadlineTooLarge 0
-
--- S-2: 'A skip with the line low whose D is above 2^64 − 1 is now refused'; '13, D too large for one skip'. This
--- refusal depends on the board
-abbrev pub skipRefusal : Board → ℕ
-skipRefusal b = lengthRefusal (skipLength b)
-
-abbrev pub movedBy : Option ℕ → Board → Board
-movedBy none b = b
-movedBy (some n) b = movedBoard n b
-
-abbrev pub skipCall : Board → Call
-skipCall b =
-    record {
-      refusal = skipRefusal b;
-      board = movedBy (skipLength b) b;
-      members = orZero (skipLength b) ∷ flagOf (line (movedBy (skipLength b) b)) ∷ [];
-    }
-
--- ---- 07 source
-
-abbrev pub sourceTooLarge : ℕ
-sourceTooLarge = 8
-
-abbrev pub sourceOfLine : ℕ
-sourceOfLine = 9
-
-abbrev pub levelTooLarge : ℕ
-levelTooLarge = 10
-
--- 'Source: 1; 8 number > 15; 9 number 3; 10 level above 1.'
-unfoldable pub sourceRefusal : ℕ → ℕ → ℕ
-sourceRefusal number level =
-    cond (ltb 15 number) sourceTooLarge (cond (eqb number 3) sourceOfLine (cond (ltb 1 level) levelTooLarge 0))
-
-abbrev pub sourceCall : ℕ → ℕ → Board → Call
-sourceCall number level b =
-    record {
-      refusal = sourceRefusal number level;
-      board = withController (sourceSet (b .controller) number (eqb level 1)) b;
-      members = [];
-    }
-
--- ---- 08 controller read, 09 controller write, 0A output
-
-abbrev pub controllerReadCall : ℕ → Board → Call
-controllerReadCall address b =
-    record { refusal = 0; board = b; members = controllerRead (b .controller) address ∷ [] }
-
-abbrev pub controllerWriteCall : ℕ → ℕ → Board → Call
-controllerWriteCall address value b =
-    record {
-      refusal = 0;
-      board = withController (controllerWritten (b .controller) address value) b;
-      members = [];
-    }
-
--- 'valid, number'
-abbrev pub outputCall : Board → Call
-outputCall b =
-    record {
-      refusal = 0;
-      board = b;
-      members = flagOf (outputOf (b .controller) .valid) ∷ outputOf (b .controller) .number .0 ∷ [];
-    }

@@ -1,7 +1,7 @@
 -- What is promised of the deadline: of a sound board with its line low and its clock not running from host time,
 -- after any list of advances and host-time calls, the line and source 3 by the deadline that the board gave. And what
 -- is promised of a skip.
-use Prim.Native.Nat.{ℕ, _+_, _≤_, min}
+use Prim.Native.Nat.{ℕ, _+_, _^_, _≤_, _<_, min}
 use mathlib.Core.Path.{_≡_}
 use mathlib.Core.Logic.{_↔_, _⊎_}
 use mathlib.Core.Bool.{Bool, true, false, cond}
@@ -10,37 +10,69 @@ use mathlib.Core.List.{List, [], _∷_}
 use lib.Dec.{eqb}
 use Rattle.wide.specs.Bits.{bit}
 use Rattle.wide.specs.Number.{largest}
-use Rattle.clock.specs.declared.HostTime.{HostTime}
 use Rattle.clock.specs.Clock.{fromHost}
 use Rattle.board.specs.declared.Board.{Board}
 use Rattle.board.specs.declared.calls.SkipAnswer.{SkipAnswer}
 use Rattle.board.specs.Board.{line, exactDeadline, sound}
-use Rattle.board.specs.Calls.{answerOf, advanceCall, hostTimeCall}
+use Rattle.board.specs.declared.calls.Call.{Call}
+use Rattle.board.specs.declared.calls.Call.the-variants.{
+  HostTime,
+  Read,
+  Write,
+  Advance,
+  Deadline,
+  Skip,
+  Source,
+  ControllerRead,
+  ControllerWrite,
+  Output,
+}
+use Rattle.board.specs.Loops.{All}
+use Rattle.board.specs.Calls.{answerOf}
 
--- a call of the promise's lists: an advance, or a host-time call
-pub data DemandCall : Type 0 where
-  advance : ℕ → DemandCall
-  hostTime : HostTime → DemandCall
+-- a call of the promise's lists: an advance, or a host-time call with seconds of eight bytes
+abbrev pub PassesTime : Call → Type 0
+PassesTime (HostTime nanoseconds seconds) = seconds < 2 ^ 64
+PassesTime (Read address) = ⊥
+PassesTime (Write byte address) = ⊥
+PassesTime (Advance c) = Unit {0}
+PassesTime Deadline = ⊥
+PassesTime Skip = ⊥
+PassesTime (Source number level) = ⊥
+PassesTime (ControllerRead address) = ⊥
+PassesTime (ControllerWrite byte address) = ⊥
+PassesTime Output = ⊥
 
 -- the board that a call returns
-unfoldable pub after : DemandCall → Board → Board
-after (advance c) b = answerOf (advanceCall c) b .board
-after (hostTime h) b = answerOf (hostTimeCall h) b .board
+unfoldable pub after : Call → Board → Board
+after call b = answerOf call b .board
 
--- the cycles that it adds to T: those of an accepted advance
-unfoldable pub adds : DemandCall → Board → ℕ
-adds (advance c) b = cond (eqb (answerOf (advanceCall c) b .refusal) 0) c 0
-adds (hostTime h) b = 0
+-- the cycles of an advance; another call has none
+abbrev pub cyclesOf : Call → ℕ
+cyclesOf (HostTime nanoseconds seconds) = 0
+cyclesOf (Read address) = 0
+cyclesOf (Write byte address) = 0
+cyclesOf (Advance c) = c .0
+cyclesOf Deadline = 0
+cyclesOf Skip = 0
+cyclesOf (Source number level) = 0
+cyclesOf (ControllerRead address) = 0
+cyclesOf (ControllerWrite byte address) = 0
+cyclesOf Output = 0
+
+-- the cycles that a call adds to T: those of an accepted advance
+unfoldable pub adds : Call → Board → ℕ
+adds call b = cond (eqb (answerOf call b .refusal) 0) (cyclesOf call) 0
 
 -- 'The first gets that board, each later one the board that the call before returned.'
-unfoldable pub afterAll : List DemandCall → Board → Board
+unfoldable pub afterAll : List Call → Board → Board
 afterAll [] b = b
-afterAll (a ∷ calls) b = afterAll calls (after a b)
+afterAll (call ∷ calls) b = afterAll calls (after call b)
 
 -- 'T be the cycles of the accepted advances added up'
-unfoldable pub total : List DemandCall → Board → ℕ
-total [] b = 0
-total (a ∷ calls) b = adds a b + total calls (after a b)
+unfoldable pub cyclesPassed : List Call → Board → ℕ
+cyclesPassed [] b = 0
+cyclesPassed (call ∷ calls) b = adds call b + cyclesPassed calls (after call b)
 
 -- 'source 3's pending bit'
 abbrev pub source3 : Board → Bool
@@ -67,7 +99,7 @@ PromiseAfter false d word b t end = StaysLow b end
 abbrev pub Promise : Board → Bool → ℕ → ℕ → Type 0
 Promise b present d word =
     sound b ≡ true → line b ≡ false → fromHost (b .clock .control) ≡ false →
-    (calls : List DemandCall) → PromiseAfter present d word b (total calls b) (afterAll calls b)
+    (calls : List Call) → All PassesTime calls → PromiseAfter present d word b (cyclesPassed calls b) (afterAll calls b)
 
 -- ---- skip
 

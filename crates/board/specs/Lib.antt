@@ -2,6 +2,10 @@ pub mod Loops
 pub mod Channels
 pub mod Fields
 pub mod Board
+pub mod Registers
+pub mod RegisterWords
+pub mod RegisterWrites
+pub mod RegisterReads
 pub mod Calls
 pub mod Splits
 pub mod CodeCalls

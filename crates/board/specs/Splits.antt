@@ -4,12 +4,12 @@ use Prim.Native.Nat.{ℕ, _+_}
 use mathlib.Core.List.{List, [], _∷_}
 use lib.ListN.{getD}
 use Rattle.board.specs.declared.Board.{Board}
-use Rattle.board.specs.Calls.{advancedBoard, advanceCall}
+use Rattle.board.specs.Calls.{effectOf, advanceBy, advancedBoard}
 
 -- 'Call 04 answers the line and four 16-byte counts, channel 0 first': the count of channel i that an accepted advance
 -- of c cycles answers
 abbrev pub countAt : ℕ → ℕ → Board → ℕ
-countAt i c b = getD (advanceCall c b .members) (i + 1) 0
+countAt i c b = getD (effectOf (advanceBy c) b .members) (i + 1) 0
 
 -- the board after all parts
 unfoldable pub boardBy : List ℕ → Board → Board

@@ -1,14 +1,12 @@
-// The direct calls but read and write. Each tests soundness first, then its own refusal, and a refused call returns the
-// board given.
+// The calls, and the direct calls but read and write. Each tests soundness first, then its own refusal, and a refused
+// call returns the board given.
 ghost use mathlib.Core.Path.{_≡_};
 ghost use mathlib.Core.Bool.{true};
 ghost use Rattle.wide.specs.Number.{valueOf};
 ghost use Rattle.board.specs.Board.{BoardFits, sound, exactDeadline};
 ghost use Rattle.board.specs.Calls.{refusalOf, answerOf, emptyAnswer, byteAnswer, advanceAnswer};
-ghost use Rattle.board.specs.Calls.{deadlineAnswer, skipAnswer, outputAnswer, hostTimeRefusal, hostTimeCall};
-ghost use Rattle.board.specs.Calls.{advancedBoard, advanceCall, deadlineCall, skipLength, skipCall};
-ghost use Rattle.board.specs.Calls.{sourceRefusal, sourceCall, controllerReadCall, controllerWriteCall};
-ghost use Rattle.board.specs.Calls.{outputCall};
+ghost use Rattle.board.specs.Calls.{deadlineAnswer, skipAnswer, outputAnswer, advanceBy, hostTimeTo, sourceTo};
+ghost use Rattle.board.specs.Calls.{hostTimeRefusal, addressRefusal, advancedBoard, skipLength, sourceRefusal};
 ghost use Rattle.board.specs.CodeCalls.{deadlineGiven, matchesGiven, passingNone, passingOf};
 ghost use Rattle.board.specs.Demand.{Promise, SkipPromise};
 use crate::Board;
@@ -19,6 +17,26 @@ use clock::HostTime;
 use controller::SourceNumber;
 use wide::deadline::Deadline;
 use wide::number::Wide;
+
+// A call, with its members; the smaller of two comes first, because that is faster to decode.
+pub enum Call {
+    // nanoseconds, seconds
+    HostTime(u32, u64),
+    // an address
+    Read(u16),
+    // a byte and an address
+    Write(u8, u16),
+    Advance(Cycles),
+    Deadline,
+    Skip,
+    // a source and its level
+    Source(SourceNumber, u8),
+    // an address of the controller
+    ControllerRead(u32),
+    // a byte and an address of the controller
+    ControllerWrite(u8, u32),
+    Output,
+}
 
 // The answer of a call without answer members, and a board that was made.
 pub struct EmptyAnswer {
@@ -85,8 +103,13 @@ pub struct Passing {
 }
 
 impl Board {
+    // Addresses of registers are below this.
+    pub const ADDRESSES: u16 = 0x380;
+
     // Refusals of direct calls, by document 01's numbers.
     pub const NOT_SOUND: u8 = 1;
+
+    pub const ADDRESS_TOO_LARGE: u8 = 6;
 
     pub const NANOSECONDS_TOO_LARGE: u8 = 7;
 
@@ -174,7 +197,7 @@ impl Board {
     }
 
     pub fn host_time(self, host: HostTime) -> EmptyAnswer
-        ensures { λ r. ⌜ r ≡ emptyAnswer (answerOf (hostTimeCall host) self) ⌝ }
+        ensures { λ r. ⌜ r ≡ emptyAnswer (answerOf (hostTimeTo host) self) ⌝ }
     {
         let refusal = self.refusal_of(host_time_refusal(host));
         if refusal != 0 {
@@ -189,7 +212,7 @@ impl Board {
     }
 
     pub fn advance(self, cycles: Cycles) -> AdvanceAnswer
-        ensures { λ r. ⌜ r ≡ advanceAnswer (answerOf (advanceCall (cycles .0)) self) ⌝ }
+        ensures { λ r. ⌜ r ≡ advanceAnswer (answerOf (advanceBy (cycles .0)) self) ⌝ }
     {
         let refusal = self.refusal_of(0);
         if refusal != 0 {
@@ -214,7 +237,7 @@ impl Board {
 
     // The deadline, with what is promised of it.
     pub fn deadline(self) -> DeadlineAnswer
-        ensures { λ r. ⌜ r ≡ deadlineAnswer (answerOf deadlineCall self) ⌝ }
+        ensures { λ r. ⌜ r ≡ deadlineAnswer (answerOf Call.Deadline self) ⌝ }
         ensures { λ r. ⌜ Promise self (r .present) (valueOf (r .exact)) (r .word .0) ⌝ }
     {
         let refusal = self.refusal_of(0);
@@ -241,7 +264,7 @@ impl Board {
 
     // A skip, with what is promised of it.
     pub fn skip(self) -> SkipAnswer
-        ensures { λ r. ⌜ r ≡ skipAnswer (answerOf skipCall self) ⌝ }
+        ensures { λ r. ⌜ r ≡ skipAnswer (answerOf Call.Skip self) ⌝ }
         ensures { λ r. ⌜ SkipPromise self r ⌝ }
     {
         if !self.sound() {
@@ -281,7 +304,7 @@ impl Board {
     }
 
     pub fn source(self, number: SourceNumber, level: u8) -> EmptyAnswer
-        ensures { λ r. ⌜ r ≡ emptyAnswer (answerOf (sourceCall (number .0) level) self) ⌝ }
+        ensures { λ r. ⌜ r ≡ emptyAnswer (answerOf (sourceTo (number .0) level) self) ⌝ }
     {
         let refusal = self.refusal_of(source_refusal(number, level));
         if refusal != 0 {
@@ -297,7 +320,7 @@ impl Board {
     }
 
     pub fn controller_read(self, address: u32) -> ByteAnswer
-        ensures { λ r. ⌜ r ≡ byteAnswer (answerOf (controllerReadCall address) self) ⌝ }
+        ensures { λ r. ⌜ r ≡ byteAnswer (answerOf (Call.ControllerRead address) self) ⌝ }
     {
         let refusal = self.refusal_of(0);
         if refusal != 0 {
@@ -316,7 +339,7 @@ impl Board {
     }
 
     pub fn controller_write(self, address: u32, value: u8) -> EmptyAnswer
-        ensures { λ r. ⌜ r ≡ emptyAnswer (answerOf (controllerWriteCall address value) self) ⌝ }
+        ensures { λ r. ⌜ r ≡ emptyAnswer (answerOf (Call.ControllerWrite value address) self) ⌝ }
     {
         let refusal = self.refusal_of(0);
         if refusal != 0 {
@@ -332,7 +355,7 @@ impl Board {
     }
 
     pub fn output(self) -> OutputAnswer
-        ensures { λ r. ⌜ r ≡ outputAnswer (answerOf outputCall self) ⌝ }
+        ensures { λ r. ⌜ r ≡ outputAnswer (answerOf Call.Output self) ⌝ }
     {
         let refusal = self.refusal_of(0);
         if refusal != 0 {
@@ -373,6 +396,16 @@ pub fn host_time_refusal(host: HostTime) -> u8
     let nanoseconds = host.nanoseconds;
     if Clock::NANOS_PER_SECOND <= nanoseconds {
         return Board::NANOSECONDS_TOO_LARGE;
+    }
+    0
+}
+
+// The refusal of a register's address itself, 0 for none.
+pub fn address_refusal(address: u16) -> u8
+    ensures { λ r. ⌜ r ≡ addressRefusal address ⌝ }
+{
+    if Board::ADDRESSES <= address {
+        return Board::ADDRESS_TOO_LARGE;
     }
     0
 }

@@ -26,7 +26,7 @@ use Rattle.board.specs.Channels.{matchesAll}
 use Rattle.board.specs.CodeCalls.{passingOf}
 use Rattle.board.proofs.Soundness.{facts-sound}
 use Rattle.board.proofs.Steps.{good}
-use Rattle.offsets.specs.Registers.{base, registerOf, byteOf, placeOf}
+use Rattle.board.specs.Registers.{base, registerOf, byteOf, placeOf}
 use Rattle.registers.specs.declared.reads.Reading.{Reading}
 use Rattle.registers.specs.declared.reads.PlainReading.{PlainReading}
 use Rattle.registers.specs.declared.writes.WritePart.{WritePart}

@@ -74,9 +74,9 @@ use Rattle.board.specs.Calls.{
   freshOf,
 }
 use Rattle.board.specs.Demand.{source3}
-use Rattle.offsets.specs.Words.{timerWord, clockWord, liveWord}
-use Rattle.registers.specs.Reads.{readLive, readCountHigh, readChannel, secondsLatched, readLow, readHigh, readAt}
-use Rattle.offsets.specs.Writes.{timerWritten, clockWritten, writtenAt}
+use Rattle.board.specs.RegisterWords.{timerWord, clockWord, liveWord}
+use Rattle.board.specs.RegisterReads.{readLive, readCountHigh, readChannel, secondsLatched, readLow, readHigh, readAt}
+use Rattle.board.specs.RegisterWrites.{timerWritten, clockWritten, writtenAt}
 use Rattle.registers.specs.Calls.{addressRefusal, readCall, writeCall}
 use Rattle.format.specs.Format.{membersAt, frameRefusal, membersBytes, recordOf}
 use Rattle.perform.specs.Calls.{callOf, refusalAt}

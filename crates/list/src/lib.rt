@@ -8,7 +8,7 @@ use board::Board;
 use channel::ChannelNumber;
 use channel::Cycles;
 use format::Answer;
-use offsets::writes::acknowledged;
+use regmap::writes::acknowledged;
 use registers::reads;
 use registers::writes;
 use registers::writes::WritePart;

@@ -13,8 +13,8 @@ use Rattle.controller.specs.Controller.{sourceSet, outputOf, lowestFrom}
 use Rattle.board.specs.Loops.{mapFrom, foldFrom}
 use Rattle.board.specs.Board.{line, exactDeadline, wired, soundParts, sound}
 use Rattle.board.specs.Calls.{movedBoard, advancedBoard}
-use Rattle.offsets.specs.Words.{clockWord, liveWord}
-use Rattle.registers.specs.Reads.{readLive, readAt}
+use Rattle.board.specs.RegisterWords.{clockWord, liveWord}
+use Rattle.board.specs.RegisterReads.{readLive, readAt}
 use Rattle.registers.specs.Calls.{addressRefusal}
 use Rattle.format.specs.Format.{membersAt, frameRefusal, membersBytes, recordOf}
 use Rattle.perform.specs.Calls.{callOf, refusalAt}

@@ -8,8 +8,8 @@ use Rattle.board.specs.declared.Latches.{Latches}
 use Rattle.board.specs.declared.Board.{Board}
 use Rattle.board.specs.Fields.{withLatches, countLatch}
 use Rattle.board.specs.Board.{heldOf}
-use Rattle.offsets.specs.Registers.{secondsLowAt, secondsHighAt, inRegister, inChannels, channelOf, placeOf}
-use Rattle.registers.specs.Reads.{
+use Rattle.board.specs.Registers.{secondsLowAt, secondsHighAt, inRegister, inChannels, channelOf, placeOf}
+use Rattle.board.specs.RegisterReads.{
   Read,
   checked,
   readLive,

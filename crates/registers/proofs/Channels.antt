@@ -28,7 +28,7 @@ use Rattle.channel.specs.Registers.{
 }
 use Rattle.channel.proofs.Sound.{flags-sound, byte-written-sound}
 use Rattle.board.specs.Loops.{All, foldFrom}
-use Rattle.offsets.specs.Writes.{clearedBy}
+use Rattle.board.specs.RegisterWrites.{clearedBy}
 
 -- ---- every element of a list
 

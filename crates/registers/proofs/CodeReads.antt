@@ -21,7 +21,7 @@ use Rattle.board.specs.declared.Latches.{Latches}
 use Rattle.board.specs.declared.Board.{Board}
 use Rattle.board.specs.Fields.{withClock, withLatches, countLatch}
 use Rattle.board.specs.Board.{heldOf, heldValue}
-use Rattle.offsets.specs.Registers.{
+use Rattle.board.specs.Registers.{
   base,
   secondsLowAt,
   secondsHighAt,
@@ -36,10 +36,10 @@ use Rattle.offsets.specs.Registers.{
   channelOf,
   placeOf,
 }
-use Rattle.offsets.specs.Words.{timerWord, liveWord}
-use Rattle.offsets.proofs.Ranges.{inside, below, bounds}
+use Rattle.board.specs.RegisterWords.{timerWord, liveWord}
+use Rattle.regmap.proofs.Ranges.{inside, below, bounds}
 use Rattle.registers.specs.declared.reads.Reading.{Reading}
-use Rattle.registers.specs.Reads.{
+use Rattle.board.specs.RegisterReads.{
   Read,
   readByte,
   checked,

@@ -8,7 +8,7 @@ use lib.Dec.{eqb}
 use borrow.Author.Tests.{eqb-true, ne-eqb, eqb-false}
 use Rattle.wide.proofs.Choices.{choose, either}
 use Rattle.board.specs.declared.Board.{Board}
-use Rattle.offsets.specs.Registers.{
+use Rattle.board.specs.Registers.{
   timerEnableAt,
   timerAckAt,
   Inside,
@@ -24,8 +24,8 @@ use Rattle.offsets.specs.Registers.{
   registerOf,
   channelOf,
 }
-use Rattle.offsets.specs.Writes.{timerWritten, writtenAt}
-use Rattle.offsets.proofs.Ranges.{inside, above, bounds}
+use Rattle.board.specs.RegisterWrites.{timerWritten, writtenAt}
+use Rattle.regmap.proofs.Ranges.{inside, above, bounds}
 use Rattle.registers.specs.declared.writes.WritePart.{WritePart}
 use Rattle.registers.specs.declared.writes.WritePart.the-variants.{Nothing, Enable, Acknowledge, Clock, Channel}
 use Rattle.registers.specs.CodeReads.{channelIndex}

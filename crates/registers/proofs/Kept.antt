@@ -35,7 +35,7 @@ use Rattle.board.proofs.Loops.{map-length, map-all}
 use Rattle.board.proofs.Soundness.{facts-sound, clock-facts}
 use Rattle.board.proofs.Steps.{Good, wired-level}
 use Rattle.board.proofs.Kept.{Keeps}
-use Rattle.offsets.specs.Registers.{
+use Rattle.board.specs.Registers.{
   base,
   timerEnableAt,
   timerAckAt,
@@ -54,8 +54,8 @@ use Rattle.offsets.specs.Registers.{
   channelOf,
   placeOf,
 }
-use Rattle.registers.specs.Reads.{checked, readAt}
-use Rattle.offsets.specs.Writes.{clearedBy, timerWritten, clockWritten, writtenAt}
+use Rattle.board.specs.RegisterReads.{checked, readAt}
+use Rattle.board.specs.RegisterWrites.{clearedBy, timerWritten, clockWritten, writtenAt}
 use Rattle.registers.specs.Calls.{readCall, writeCall}
 use Rattle.registers.proofs.Cases.{read-cases}
 use Rattle.registers.proofs.Rate.{written-rate}

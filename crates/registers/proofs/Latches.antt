@@ -19,7 +19,7 @@ use Rattle.board.specs.declared.Latches.{Latches}
 use Rattle.board.specs.declared.Board.{Board}
 use Rattle.board.specs.Fields.{channelAt}
 use Rattle.board.specs.Board.{heldOf}
-use Rattle.offsets.specs.Registers.{
+use Rattle.board.specs.Registers.{
   secondsLowAt,
   Inside,
   timerBlock,
@@ -31,8 +31,8 @@ use Rattle.offsets.specs.Registers.{
   placeOf,
   byteOfWord,
 }
-use Rattle.offsets.specs.Words.{timerWord}
-use Rattle.offsets.proofs.Ranges.{above, bounds, after-seconds}
+use Rattle.board.specs.RegisterWords.{timerWord}
+use Rattle.regmap.proofs.Ranges.{above, bounds, after-seconds}
 use Rattle.registers.specs.declared.reads.Reading.{Reading}
 use Rattle.registers.specs.CodeReads.{
   channelIndex,

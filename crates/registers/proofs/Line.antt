@@ -22,8 +22,8 @@ use Rattle.board.specs.Channels.{anyLine}
 use Rattle.board.specs.Fields.{channelAt}
 use Rattle.board.specs.Board.{heldOf, line, wired, sound}
 use Rattle.board.proofs.Soundness.{sound-facts}
-use Rattle.offsets.specs.Registers.{registerOf, byteOf, placeOf}
-use Rattle.offsets.specs.Words.{timerWord}
+use Rattle.board.specs.Registers.{registerOf, byteOf, placeOf}
+use Rattle.board.specs.RegisterWords.{timerWord}
 use Rattle.registers.specs.declared.reads.Reading.{Reading}
 use Rattle.registers.specs.declared.writes.WritePart.{WritePart}
 use Rattle.registers.specs.declared.writes.WritePart.the-variants.{

@@ -17,7 +17,7 @@ use Rattle.clock.proofs.Rate.{
   acknowledge-rate,
 }
 use Rattle.board.specs.declared.Board.{Board}
-use Rattle.offsets.specs.Registers.{
+use Rattle.board.specs.Registers.{
   timerEnableAt,
   timerAckAt,
   clockControlAt,
@@ -33,8 +33,8 @@ use Rattle.offsets.specs.Registers.{
   registerOf,
   byteOf,
 }
-use Rattle.offsets.specs.Writes.{timerWritten, clockWritten, writtenAt}
-use Rattle.registers.specs.Reads.{readAt}
+use Rattle.board.specs.RegisterWrites.{timerWritten, clockWritten, writtenAt}
+use Rattle.board.specs.RegisterReads.{readAt}
 use Rattle.registers.proofs.Cases.{read-cases}
 
 pub read-rate : (offset : ℕ) (b : Board) → SameRate (b .clock) (readAt offset b .board .clock)

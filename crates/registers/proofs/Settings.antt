@@ -30,8 +30,8 @@ use Rattle.board.specs.Fields.{freshBoard, withTimers, withClock, withChannel}
 use Rattle.board.specs.Board.{wired}
 use Rattle.board.specs.Calls.{boardAfter, answerOf}
 use Rattle.board.proofs.Kept.{fresh-sound}
-use Rattle.offsets.specs.Words.{timerWord, clockWord, liveWord}
-use Rattle.registers.specs.Reads.{
+use Rattle.board.specs.RegisterWords.{timerWord, clockWord, liveWord}
+use Rattle.board.specs.RegisterReads.{
   readLive,
   readCountHigh,
   readChannel,
@@ -40,7 +40,7 @@ use Rattle.registers.specs.Reads.{
   readHigh,
   readAt,
 }
-use Rattle.offsets.specs.Writes.{timerWritten, clockWritten, writtenAt}
+use Rattle.board.specs.RegisterWrites.{timerWritten, clockWritten, writtenAt}
 use Rattle.registers.specs.Calls.{addressRefusal, readCall, writeCall}
 
 -- ---- lists of accepted reads

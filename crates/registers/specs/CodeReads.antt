@@ -17,7 +17,7 @@ use Rattle.board.specs.declared.Latches.{Latches}
 use Rattle.board.specs.declared.Board.{Board}
 use Rattle.board.specs.Fields.{withClock, withLatches, channelAt}
 use Rattle.board.specs.Board.{heldOf, heldValue}
-use Rattle.offsets.specs.Registers.{
+use Rattle.board.specs.Registers.{
   secondsLowAt,
   secondsHighAt,
   inRegister,
@@ -30,7 +30,7 @@ use Rattle.offsets.specs.Registers.{
   placeOf,
   byteOfWord,
 }
-use Rattle.offsets.specs.Words.{timerWord, clockWord}
+use Rattle.board.specs.RegisterWords.{timerWord, clockWord}
 use Rattle.registers.specs.declared.reads.Reading.{Reading}
 use Rattle.registers.specs.declared.reads.PlainReading.{PlainReading}
 

@@ -8,7 +8,7 @@ use Rattle.channel.specs.Registers.{byteWritten}
 use Rattle.clock.specs.Registers.{mergeByte}
 use Rattle.board.specs.declared.Board.{Board}
 use Rattle.board.specs.Fields.{withTimers, withTimerEnable, withClock, channelAt, withChannel}
-use Rattle.offsets.specs.Registers.{
+use Rattle.board.specs.Registers.{
   timerEnableAt,
   timerAckAt,
   lastOf,
@@ -19,7 +19,7 @@ use Rattle.offsets.specs.Registers.{
   byteOf,
   placeOf,
 }
-use Rattle.offsets.specs.Writes.{acknowledged, clockWritten}
+use Rattle.board.specs.RegisterWrites.{acknowledged, clockWritten}
 use Rattle.registers.specs.declared.writes.WritePart.{WritePart}
 use Rattle.registers.specs.declared.writes.WritePart.the-variants.{Nothing, Enable, Acknowledge, Clock, Channel}
 use Rattle.registers.specs.CodeReads.{channelIndex}

@@ -1,4 +1,2 @@
-pub mod Reads
-pub mod Calls
 pub mod CodeReads
 pub mod CodeWrites

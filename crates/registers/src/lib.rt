@@ -2,7 +2,6 @@
 // refused call returns the board given.
 ghost use mathlib.Core.Path.{_≡_};
 ghost use Rattle.board.specs.Calls.{answerOf, emptyAnswer, byteAnswer};
-ghost use Rattle.registers.specs.Calls.{addressRefusal, readCall, writeCall};
 ghost use Rattle.registers.specs.CodeReads.{afterReading};
 use crate::reads::Reading;
 use crate::reads::channel_index;
@@ -10,21 +9,13 @@ use crate::reads::reading_at;
 use crate::writes::written_at;
 use board::Board;
 use board::calls::ByteAnswer;
+use board::calls::Call;
 use board::calls::EmptyAnswer;
-use offsets::Registers;
+use board::calls::address_refusal;
+use regmap::Registers;
 
 pub mod reads;
 pub mod writes;
-
-// The refusal of an address itself, 0 for none.
-pub fn address_refusal(address: u16) -> u8
-    ensures { λ r. ⌜ r ≡ addressRefusal address ⌝ }
-{
-    if Registers::SIZE <= address {
-        return Registers::ADDRESS_TOO_LARGE;
-    }
-    0
-}
 
 // The board with a reading's latches and flags.
 fn after_reading(board: Board, reading: Reading) -> Board
@@ -39,7 +30,7 @@ fn after_reading(board: Board, reading: Reading) -> Board
 
 // The byte at an address.
 pub fn read(board: Board, address: u16) -> ByteAnswer
-    ensures { λ r. ⌜ r ≡ byteAnswer (answerOf (readCall address) board) ⌝ }
+    ensures { λ r. ⌜ r ≡ byteAnswer (answerOf (Call.Read address) board) ⌝ }
 {
     let refusal = board.refusal_of(address_refusal(address));
     if refusal != 0 {
@@ -63,7 +54,7 @@ pub fn read(board: Board, address: u16) -> ByteAnswer
 
 // A byte written at an address.
 pub fn write(board: Board, address: u16, value: u8) -> EmptyAnswer
-    ensures { λ r. ⌜ r ≡ emptyAnswer (answerOf (writeCall address value) board) ⌝ }
+    ensures { λ r. ⌜ r ≡ emptyAnswer (answerOf (Call.Write value address) board) ⌝ }
 {
     let refusal = board.refusal_of(address_refusal(address));
     if refusal != 0 {

@@ -5,18 +5,18 @@ ghost use Rattle.channel.specs.Registers.{byteWritten};
 ghost use Rattle.clock.specs.Clock.{rateOf};
 ghost use Rattle.clock.specs.Registers.{mergeByte};
 ghost use Rattle.clock.specs.Sound.{Timed};
-ghost use Rattle.offsets.specs.Registers.{Inside, channelBlocks, registerOf, byteOf, placeOf};
-ghost use Rattle.offsets.specs.Writes.{clockWritten, writtenAt};
+ghost use Rattle.board.specs.Registers.{Inside, channelBlocks, registerOf, byteOf, placeOf};
+ghost use Rattle.board.specs.RegisterWrites.{clockWritten, writtenAt};
 ghost use Rattle.registers.specs.CodeWrites.{partOf, atControl};
 use board::Board;
 use channel::HardwareTimer;
 use clock::Clock;
-use offsets::Registers;
-use offsets::fields::channel_at;
-use offsets::fields::channel_of;
-use offsets::fields::place_of;
-use offsets::writes::acknowledged;
-use offsets::writes::clock_written;
+use regmap::Registers;
+use regmap::fields::channel_at;
+use regmap::fields::channel_of;
+use regmap::fields::place_of;
+use regmap::writes::acknowledged;
+use regmap::writes::clock_written;
 
 // The part of a board that a byte written at an offset changes.
 pub enum WritePart {

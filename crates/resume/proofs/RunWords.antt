@@ -91,7 +91,7 @@ use Rattle.board.specs.Calls.{Call, boardAfter, skipLength, movedBy}
 use Rattle.board.proofs.Loops.{map-all}
 use Rattle.board.proofs.Soundness.{facts-sound, clock-facts}
 use Rattle.board.proofs.Steps.{Good}
-use Rattle.offsets.specs.Registers.{
+use Rattle.board.specs.Registers.{
   base,
   timerEnableAt,
   timerAckAt,
@@ -111,8 +111,8 @@ use Rattle.offsets.specs.Registers.{
   channelOf,
   placeOf,
 }
-use Rattle.offsets.specs.Writes.{clearedBy, timerWritten, clockWritten, writtenAt}
-use Rattle.registers.specs.Reads.{
+use Rattle.board.specs.RegisterWrites.{clearedBy, timerWritten, clockWritten, writtenAt}
+use Rattle.board.specs.RegisterReads.{
   Read,
   readLive,
   freed,

@@ -86,7 +86,7 @@ use Rattle.perform.proofs.put_answer.Reads as put-answer-reads
 use Rattle.perform.proofs.put_met.Reads as put-met-reads
 use Rattle.perform.proofs.put_unmet.Reads as put-unmet-reads
 use Rattle.perform.proofs.front_of.Reads as front-of-reads
-use Rattle.offsets.proofs.writes.acknowledged.Reads as acknowledged-reads
+use Rattle.regmap.proofs.writes.acknowledged.Reads as acknowledged-reads
 use Rattle.perform.proofs.byte_at.Reads as byte-at-reads
 use Rattle.perform.proofs.deadline.Reads as deadline-reads
 use Rattle.perform.proofs.effect_of.Reads as effect-of-reads

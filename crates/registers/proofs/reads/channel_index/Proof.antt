@@ -1,8 +1,8 @@
 -- `reads::channel_index` meets its contract. Assumes nothing.
 use mathlib.Core.Path.{sym, _∙_}
 use Rattle.registers.specs.CodeReads.{channelIndex}
-use Rattle.offsets.specs.Registers.{channelBlocks}
-use Rattle.offsets.proofs.Ranges.{bounds}
+use Rattle.board.specs.Registers.{channelBlocks}
+use Rattle.regmap.proofs.Ranges.{bounds}
 use borrow.Author.Needs.{needs}
 use Rattle.registers.proofs.reads.channel_index.Statement.{statement}
 use Rattle.registers.proofs.reads.channel_index.Tie as tie

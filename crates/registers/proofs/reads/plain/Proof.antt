@@ -1,7 +1,7 @@
 -- `reads::plain` meets its contract. Assumes nothing.
 use mathlib.Core.Path.{sym, _∙_}
-use Rattle.offsets.specs.Registers.{channelBlocks}
-use Rattle.offsets.proofs.Ranges.{bounds}
+use Rattle.board.specs.Registers.{channelBlocks}
+use Rattle.regmap.proofs.Ranges.{bounds}
 use Rattle.registers.specs.CodeReads.{plainAt}
 use borrow.Author.Needs.{needs}
 use Rattle.registers.proofs.reads.plain.Statement.{statement}

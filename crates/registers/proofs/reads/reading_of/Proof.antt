@@ -1,7 +1,7 @@
 -- `reads::reading_of` meets its contract. Assumes nothing.
 use mathlib.Core.Path.{sym, _∙_}
 use borrow.Author.Tests.{ne-eqb}
-use Rattle.offsets.specs.Registers.{secondsLowAt}
+use Rattle.board.specs.Registers.{secondsLowAt}
 use Rattle.registers.proofs.Latches.{by-seconds, by-latch, by-register}
 use Rattle.registers.proofs.Timing.{check-timed}
 use borrow.Author.Needs.{needs}

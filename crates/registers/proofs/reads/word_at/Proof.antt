@@ -1,6 +1,6 @@
 -- `reads::word_at` meets its contract. Assumes nothing.
-use Rattle.offsets.specs.Registers.{timerBlock}
-use Rattle.offsets.proofs.Ranges.{
+use Rattle.board.specs.Registers.{timerBlock}
+use Rattle.regmap.proofs.Ranges.{
   inside,
   in-clock,
   in-channels,

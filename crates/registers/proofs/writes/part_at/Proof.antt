@@ -1,8 +1,8 @@
 -- `writes::part_at` meets its contract. Assumes nothing.
 use native.Mathlib.Omega.{arith}
 use mathlib.Core.Path.{sym}
-use Rattle.offsets.specs.Registers.{timerEnableAt, fourBytes, clockBlock, channelBlocks}
-use Rattle.offsets.proofs.Ranges.{inside, below, above}
+use Rattle.board.specs.Registers.{timerEnableAt, fourBytes, clockBlock, channelBlocks}
+use Rattle.regmap.proofs.Ranges.{inside, below, above}
 use Rattle.registers.proofs.CodeWrites.{enable-part, acknowledge-part, clock-part, channel-part, no-part}
 use Rattle.registers.proofs.writes.part_at.Statement.{statement}
 use Rattle.registers.proofs.writes.part_at.Tie as tie

@@ -1,5 +1,0 @@
-pub mod Kept
-pub mod Rate
-pub mod Calls
-pub mod Refusals
-pub mod Counts
