@@ -16,12 +16,15 @@ use Rattle.wide.proofs.Forms.{wide-value, flag-back}
 use Rattle.channel.specs.declared.HardwareTimer.{HardwareTimer}
 use Rattle.channel.specs.Matches.{matchesOf}
 use Rattle.board.specs.declared.Board.{Board}
+use Rattle.board.specs.declared.calls.Call.{Call}
+use Rattle.board.specs.declared.calls.Call.the-variants.{Deadline, Skip}
 use Rattle.board.specs.declared.calls.DeadlineAnswer.{DeadlineAnswer}
 use Rattle.board.specs.declared.calls.DeadlineMembers.{DeadlineMembers}
 use Rattle.board.specs.declared.calls.Passing.{Passing}
 use Rattle.board.specs.Board.{BoardFits, line, exactDeadline, sound}
 use Rattle.board.specs.Calls.{
-  Call,
+  advanceBy,
+  effectOf,
   refusalOf,
   boardAfter,
   answerOf,
@@ -30,20 +33,16 @@ use Rattle.board.specs.Calls.{
   skipAnswer,
   movedBoard,
   advancedBoard,
-  advanceCall,
-  deadlineCall,
   skipLength,
   deadlineTooLarge,
   lengthRefusal,
   skipRefusal,
-  skipCall,
 }
 use Rattle.board.specs.Loops.{mapFrom}
 use Rattle.board.specs.CodeCalls.{deadlineGiven, matchesGiven, passingNone, passingOf}
 use Rattle.board.specs.Demand.{Promise}
 use Rattle.board.proofs.Loops.{by-four}
-use Rattle.board.proofs.Soundness.{wired-sound}
-use Rattle.board.proofs.Steps.{wired-line}
+use Rattle.board.proofs.Soundness.{wired-line, wired-sound}
 use Rattle.board.proofs.Demand3.{demand-3}
 
 -- ---- refused or accepted
@@ -56,20 +55,20 @@ accepted-sound b own = accepted (sound b)
     accepted true e = refl
     accepted false e = absurd (omega arith)
 
-module _ (call : Board → Call) (b : Board) where
+module _ (call : Call) (b : Board) where
   -- n is the refusal that the code has
-  pub answer-refused : (n : ℕ) → n ≡ refusalOf b (call b .refusal) → eqb n 0 ≡ false →
+  pub answer-refused : (n : ℕ) → n ≡ refusalOf b (effectOf call b .refusal) → eqb n 0 ≡ false →
       answerOf call b ≡ record { board = b; refusal = n; members = [] }
   unfolding answerOf
   answer-refused n e f = rw (← e, f)
 
-  pub answered-refusal : answerOf call b .refusal ≡ refusalOf b (call b .refusal)
+  pub answered-refusal : answerOf call b .refusal ≡ refusalOf b (effectOf call b .refusal)
   unfolding answerOf
   answered-refusal =
-      either (eqb (refusalOf b (call b .refusal)) 0) (λ e. rw e (sym (eqb-true _ 0 e))) (λ e. rw e)
+      either (eqb (refusalOf b (effectOf call b .refusal)) 0) (λ e. rw e (sym (eqb-true _ 0 e))) (λ e. rw e)
 
-  pub answer-accepted : refusalOf b (call b .refusal) ≡ 0 →
-      answerOf call b ≡ record { board = boardAfter (call b); refusal = 0; members = call b .members }
+  pub answer-accepted : refusalOf b (effectOf call b .refusal) ≡ 0 →
+      answerOf call b ≡ record { board = boardAfter call b; refusal = 0; members = effectOf call b .members }
   unfolding answerOf
   answer-accepted e = rw e
 
@@ -78,8 +77,8 @@ module _ (call : Board → Call) (b : Board) where
 -- refused, all its members are 0
 pub advance-refused : (b : Board) (c n : ℕ) → n ≡ refusalOf b 0 → eqb n 0 ≡ false → (w : Wide) → w ≡ wideOf 0 →
     record { board = b; refusal = n; line = false; matches = w ∷ w ∷ w ∷ w ∷ [] }
-    ≡ advanceAnswer (answerOf (advanceCall c) b)
-advance-refused b c n e f w q = rw (answer-refused (advanceCall c) b n e f, q)
+    ≡ advanceAnswer (answerOf (advanceBy c) b)
+advance-refused b c n e f w q = rw (answer-refused (advanceBy c) b n e f, q)
 
 -- the counts of four channels, one by one
 four-given : (f : ℕ → HardwareTimer → ℕ) (ts : List HardwareTimer) → length ts ≡ 4 →
@@ -97,12 +96,12 @@ four-given f =
 module _ (b : Board) (z : refusalOf b 0 ≡ 0) where
   pub advance-answers : (c : ℕ) (y : Board) (v : Bool) (m : List Wide) → length (b .timers) ≡ 4 →
       y ≡ advancedBoard c b → m ≡ matchesGiven (b .«timer_enable») c (b .timers) → v ≡ line y →
-      record { board = y; refusal = 0; line = v; matches = m } ≡ advanceAnswer (answerOf (advanceCall c) b)
+      record { board = y; refusal = 0; line = v; matches = m } ≡ advanceAnswer (answerOf (advanceBy c) b)
   unfolding advancedBoard
   advance-answers c y v m n e k f =
       let g : v ≡ line (movedBoard c b) = f ∙ ap line e ∙ wired-line (movedBoard c b) in
       rw (
-        answer-accepted (advanceCall c) b z,
+        answer-accepted (advanceBy c) b z,
         flag-back,
         e,
         g,
@@ -113,22 +112,22 @@ module _ (b : Board) (z : refusalOf b 0 ≡ 0) where
 -- ---- the deadline
 
 -- what is promised, by the members of the answer
-pub answer-promises : (b : Board) → BoardFits b → (r : DeadlineAnswer) → r ≡ deadlineAnswer (answerOf deadlineCall b) →
+pub answer-promises : (b : Board) → BoardFits b → (r : DeadlineAnswer) → r ≡ deadlineAnswer (answerOf Deadline b) →
     Promise b (r .present) (valueOf (r .exact)) (r .word .0)
-answer-promises b f r e s low o calls =
+answer-promises b f r e s low o calls w =
     let z : refusalOf b 0 ≡ 0 = rw s in
-    rw (e, answer-accepted deadlineCall b z, flag-back, wide-value) (demand-3 b f s low o calls)
+    rw (e, answer-accepted Deadline b z, flag-back, wide-value) (demand-3 b f s low o calls w)
 
 pub deadline-refuses : (b : Board) (n : ℕ) (w : Wide) → n ≡ refusalOf b 0 → eqb n 0 ≡ false → w ≡ wideOf 0 →
     record { board = b; refusal = n; present = false; exact = w; word = record { 0 = 0 } }
-    ≡ deadlineAnswer (answerOf deadlineCall b)
-deadline-refuses b n w e f q = rw (answer-refused deadlineCall b n e f, q)
+    ≡ deadlineAnswer (answerOf Deadline b)
+deadline-refuses b n w e f q = rw (answer-refused Deadline b n e f, q)
 
 pub deadline-answers : (b : Board) → refusalOf b 0 ≡ 0 → (m : DeadlineMembers) → m ≡ deadlineGiven (exactDeadline b) →
     record { board = b; refusal = 0; present = m .present; exact = m .exact; word = m .word }
-    ≡ deadlineAnswer (answerOf deadlineCall b)
+    ≡ deadlineAnswer (answerOf Deadline b)
 deadline-answers b z m e =
-    rw (answer-accepted deadlineCall b z, flag-back, wired-sound b (accepted-sound b 0 z), e)
+    rw (answer-accepted Deadline b z, flag-back, wired-sound b (accepted-sound b 0 z), e)
 
 -- the members that the code finds
 pub given-none : (d : Option ℕ) (w : Wide) → d ≡ none → w ≡ wideOf 0 →
@@ -181,8 +180,8 @@ module _ (p : Passing) where
 
 -- a skip that is refused: on a board that is not sound, and by its own refusal
 pub skip-unsound : (b : Board) → sound b ≡ false →
-    record { board = b; refusal = 1; passed = record { 0 = 0 }; line = false } ≡ skipAnswer (answerOf skipCall b)
-skip-unsound b s = ap skipAnswer (sym (answer-refused skipCall b 1 (rw s) refl))
+    record { board = b; refusal = 1; passed = record { 0 = 0 }; line = false } ≡ skipAnswer (answerOf Skip b)
+skip-unsound b s = ap skipAnswer (sym (answer-refused Skip b 1 (rw s) refl))
 
 module _ (b : Board) (s : sound b ≡ true) (p : Passing) (e : p ≡ passingOf (skipLength b)) where
   own-is : p .refusal ≡ refusalOf b (skipRefusal b)
@@ -190,24 +189,24 @@ module _ (b : Board) (s : sound b ≡ true) (p : Passing) (e : p ≡ passingOf (
 
   pub skip-refuses : eqb (p .refusal) 0 ≡ false →
       record { board = b; refusal = p .refusal; passed = record { 0 = 0 }; line = false }
-      ≡ skipAnswer (answerOf skipCall b)
-  skip-refuses f = ap skipAnswer (sym (answer-refused skipCall b (p .refusal) own-is f))
+      ≡ skipAnswer (answerOf Skip b)
+  skip-refuses f = ap skipAnswer (sym (answer-refused Skip b (p .refusal) own-is f))
 
   module _ (z : p .refusal ≡ 0) where
-    accepted : refusalOf b (skipCall b .refusal) ≡ 0
+    accepted : refusalOf b (effectOf Skip b .refusal) ≡ 0
     accepted = sym own-is ∙ z
 
     pub skip-moves : p .made ≡ true → (y : Board) (v : Bool) → y ≡ advancedBoard (p .cycles .0) b → v ≡ line y →
-        record { board = y; refusal = 0; passed = p .cycles; line = v } ≡ skipAnswer (answerOf skipCall b)
+        record { board = y; refusal = 0; passed = p .cycles; line = v } ≡ skipAnswer (answerOf Skip b)
     unfolding advancedBoard
     skip-moves m y v f g =
         let n = p .cycles .0 in
         let k : skipLength b ≡ some n = passing-some p (skipLength b) e m in
         let h : v ≡ line (movedBoard n b) = g ∙ ap line f ∙ wired-line (movedBoard n b) in
-        rw (answer-accepted skipCall b accepted, k, flag-back, f, h)
+        rw (answer-accepted Skip b accepted, k, flag-back, f, h)
 
     pub skip-stays : p .made ≡ false → (v : Bool) → v ≡ line b →
-        record { board = b; refusal = 0; passed = p .cycles; line = v } ≡ skipAnswer (answerOf skipCall b)
+        record { board = b; refusal = 0; passed = p .cycles; line = v } ≡ skipAnswer (answerOf Skip b)
     skip-stays m v g =
         let k = passing-none p (skipLength b) e z m in
-        rw (answer-accepted skipCall b accepted, k .0, k .1, flag-back, wired-sound b s, g)
+        rw (answer-accepted Skip b accepted, k .0, k .1, flag-back, wired-sound b s, g)

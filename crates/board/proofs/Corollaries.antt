@@ -16,42 +16,46 @@ use Rattle.wide.proofs.Deadlines.{due-sooner, due-is}
 use Rattle.clock.specs.Clock.{rateOf, fromHost, ownTime}
 use Rattle.clock.specs.Deadline.{awaited, toAlarm, clockDeadline}
 use Rattle.board.specs.declared.Board.{Board}
+use Rattle.board.specs.declared.calls.Call.{Call}
+use Rattle.board.specs.Loops.{All}
 use Rattle.board.specs.Board.{BoardFits, line, exactDeadline, sound}
 use Rattle.board.specs.Channels.{soonestOf}
 use Rattle.board.specs.Calls.{isPresent, orZero, advancedBoard}
-use Rattle.board.specs.Demand.{DemandCall, afterAll, total, source3}
+use Rattle.board.specs.Demand.{PassesTime, afterAll, cyclesPassed, source3}
 use Rattle.board.proofs.Soundness.{clock-facts}
-use Rattle.board.proofs.Steps.{good, boardDue, line-due, advance-step}
+use Rattle.board.proofs.Good.{good}
+use Rattle.board.proofs.Steps.{boardDue, line-due, advance-step}
 use Rattle.board.proofs.Demand3.{line-after, source-after}
 
 module _ (b : Board) (f : BoardFits b) (s : sound b ≡ true) (low : line b ≡ false)
     (o : fromHost (b .clock .control) ≡ false)
     (d : ℕ) (given : exactDeadline b ≡ some d) where
-  -- the line after a list of calls, by its total
-  line-is : (calls : List DemandCall) → line (afterAll calls b) ≡ leb d (total calls b)
-  line-is calls = line-after b f s low o calls ∙ ap (λ (x : Option ℕ). due x (total calls b)) given
+  module _ (calls : List Call) (w : All PassesTime calls) where
+    abbrev passed : ℕ
+    passed = cyclesPassed calls b
 
-  pending-is : (calls : List DemandCall) → source3 (afterAll calls b) ≡ (source3 b || leb d (total calls b))
-  pending-is calls =
-      source-after b f s low o calls ∙ ap (λ (x : Option ℕ). source3 b || due x (total calls b)) given
+    -- the line after a list of calls, by the cycles that passed
+    line-is : line (afterAll calls b) ≡ leb d passed
+    line-is = line-after b f s low o calls w ∙ ap (λ (x : Option ℕ). due x passed) given
 
-  -- as long as the cycles add up to less than D, split in any way, the line is low
-  pub low-below-deadline : (calls : List DemandCall) → total calls b < d → line (afterAll calls b) ≡ false
-  low-below-deadline calls l = line-is calls ∙ lt-leb d (total calls b) l
+    pending-is : source3 (afterAll calls b) ≡ (source3 b || leb d passed)
+    pending-is = source-after b f s low o calls w ∙ ap (λ (x : Option ℕ). source3 b || due x passed) given
 
-  -- and source 3's pending bit is as it was
-  pub kept-below-deadline : (calls : List DemandCall) → total calls b < d → source3 (afterAll calls b) ≡ source3 b
-  kept-below-deadline calls l =
-      pending-is calls ∙ ap (λ v. source3 b || v) (lt-leb d (total calls b) l) ∙ or-false (source3 b)
+    -- as long as the cycles add up to less than D, split in any way, the line is low
+    pub low-below-deadline : cyclesPassed calls b < d → line (afterAll calls b) ≡ false
+    low-below-deadline l = line-is ∙ lt-leb d passed l
 
-  -- as soon as they add up to D or more it is high
-  pub high-from-deadline : (calls : List DemandCall) → d ≤ total calls b → line (afterAll calls b) ≡ true
-  high-from-deadline calls l = line-is calls ∙ le-leb d (total calls b) l
+    -- and source 3's pending bit is as it was
+    pub kept-below-deadline : cyclesPassed calls b < d → source3 (afterAll calls b) ≡ source3 b
+    kept-below-deadline l = pending-is ∙ ap (λ v. source3 b || v) (lt-leb d passed l) ∙ or-false (source3 b)
 
-  -- and source 3's pending bit is set
-  pub pending-from-deadline : (calls : List DemandCall) → d ≤ total calls b → source3 (afterAll calls b) ≡ true
-  pending-from-deadline calls l =
-      pending-is calls ∙ ap (λ v. source3 b || v) (le-leb d (total calls b) l) ∙ or-true (source3 b)
+    -- as soon as they add up to D or more it is high
+    pub high-from-deadline : d ≤ cyclesPassed calls b → line (afterAll calls b) ≡ true
+    high-from-deadline l = line-is ∙ le-leb d passed l
+
+    -- and source 3's pending bit is set
+    pub pending-from-deadline : d ≤ cyclesPassed calls b → source3 (afterAll calls b) ≡ true
+    pending-from-deadline l = pending-is ∙ ap (λ v. source3 b || v) (le-leb d passed l) ∙ or-true (source3 b)
 
   -- what is due after one advance
   due-after : (c t : ℕ) → boardDue (advancedBoard c b) t ≡ leb d (c + t)
@@ -77,16 +81,17 @@ module _ (b : Board) (f : BoardFits b) (s : sound b ≡ true) (low : line b ≡ 
 
 -- where it gives no deadline
 module _ (b : Board) (f : BoardFits b) (s : sound b ≡ true) (low : line b ≡ false)
-    (o : fromHost (b .clock .control) ≡ false) (none-given : exactDeadline b ≡ none) (calls : List DemandCall) where
+    (o : fromHost (b .clock .control) ≡ false) (none-given : exactDeadline b ≡ none)
+    (calls : List Call) (w : All PassesTime calls) where
   -- no number of cycles raises the line
   pub low-without-deadline : line (afterAll calls b) ≡ false
-  low-without-deadline = line-after b f s low o calls ∙ ap (λ (x : Option ℕ). due x (total calls b)) none-given
+  low-without-deadline = line-after b f s low o calls w ∙ ap (λ (x : Option ℕ). due x (cyclesPassed calls b)) none-given
 
   -- or changes source 3's pending bit
   pub kept-without-deadline : source3 (afterAll calls b) ≡ source3 b
   kept-without-deadline =
-      source-after b f s low o calls
-      ∙ ap (λ (x : Option ℕ). source3 b || due x (total calls b)) none-given
+      source-after b f s low o calls w
+      ∙ ap (λ (x : Option ℕ). source3 b || due x (cyclesPassed calls b)) none-given
       ∙ or-false (source3 b)
 
 -- where the clock has a deadline of its own, by the board's rate

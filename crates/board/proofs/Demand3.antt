@@ -9,23 +9,30 @@ use mathlib.Core.List.{List, [], _∷_}
 use lib.Dec.{leb}
 use borrow.Author.Tests.{leb-true, le-leb}
 use Rattle.wide.specs.Deadline.{due}
-use Rattle.clock.specs.Clock.{fromHost}
+use Rattle.clock.specs.Clock.{rateOf, fromHost}
 use Rattle.board.specs.declared.Board.{Board}
+use Rattle.board.specs.declared.calls.Call.{Call}
+use Rattle.board.specs.Loops.{All}
 use Rattle.board.specs.Board.{BoardFits, line, exactDeadline, wordDeadline, sound}
 use Rattle.board.specs.Calls.{isPresent, orZero}
-use Rattle.board.specs.Demand.{DemandCall, after, adds, afterAll, total, source3, PromiseAfter, Promise}
-use Rattle.board.proofs.Soundness.{facts-sound}
-use Rattle.board.proofs.Steps.{Good, good, boardDue, line-due, Step, call-step}
-
--- every call keeps a sound board sound
-pub call-sound : (a : DemandCall) (b : Board) → BoardFits b → sound b ≡ true → sound (after a b) ≡ true
-call-sound a b f s = facts-sound (after a b) (call-step a b (good b f s) .good .facts)
+use Rattle.board.specs.Demand.{
+  PassesTime,
+  after,
+  adds,
+  afterAll,
+  cyclesPassed,
+  source3,
+  PromiseAfter,
+  Promise,
+}
+use Rattle.board.proofs.Good.{Good, good}
+use Rattle.board.proofs.Steps.{boardDue, line-due, Step, call-step}
 
 -- ---- a list of calls
 
 -- y is x after c cycles in some number of calls; p is source 3's pending bit at the start
-record Ran (p : Bool) (c : ℕ) (x y : Board) : Type 0 where
-  good : Good y
+record Ran (rate : ℕ) (p : Bool) (c : ℕ) (x y : Board) : Type 0 where
+  good : Good rate y
   due : (t : ℕ) → boardDue y t ≡ boardDue x (c + t)
   source : source3 y ≡ (p || line y)
 
@@ -48,32 +55,34 @@ high-due : (b : Board) (t : ℕ) → line b ≡ true → boardDue b t ≡ true
 unfolding boardDue
 high-due b t e = rw e
 
-ran : (p : Bool) (calls : List DemandCall) (b : Board) → Good b → fromHost (b .clock .control) ≡ false →
-    source3 b ≡ (p || line b) → Ran p (total calls b) b (afterAll calls b)
-unfolding afterAll total
-ran p [] b g o h = record { good = g; due = λ t. ap (boardDue b) (sym (zero-add t)); source = h }
-ran p (a ∷ calls) b g o h =
+ran : {rate : ℕ} (p : Bool) (calls : List Call) → All PassesTime calls → (b : Board) → Good rate b →
+    fromHost (b .clock .control) ≡ false → source3 b ≡ (p || line b) →
+    Ran rate p (cyclesPassed calls b) b (afterAll calls b)
+unfolding afterAll cyclesPassed
+ran p [] w b g o h = record { good = g; due = λ t. ap (boardDue b) (sym (zero-add t)); source = h }
+ran {rate} p (a ∷ calls) w b g o h =
     onto
-    (ran p calls y (S .good) (S .own o)
+    (ran p calls (w .1) y (S .good) (S .own o)
     (S .source ∙ ap (λ v. (line y && not (line b)) || v) h ∙ latched p (line b) (line y) stays))
   where
     y : Board
     y = after a b
 
-    S : Step (adds a b) b y
-    S = call-step a b g
+    S : Step rate (adds a b) b y
+    S = call-step a (w .0) b g
 
     stays : line b ≡ true → line y ≡ true
     stays e = line-due y (S .good) ∙ S .due o 0 ∙ high-due b (adds a b + 0) e
 
-    onto : Ran p (total calls y) y (afterAll calls y) → Ran p (adds a b + total calls y) b (afterAll calls y)
+    onto : Ran rate p (cyclesPassed calls y) y (afterAll calls y) →
+        Ran rate p (adds a b + cyclesPassed calls y) b (afterAll calls y)
     onto R =
         record {
           good = R .good;
           due = λ t.
               R .due t
-              ∙ S .due o (total calls y + t)
-              ∙ ap (boardDue b) (sym (add-assoc (adds a b) (total calls y) t));
+              ∙ S .due o (cyclesPassed calls y + t)
+              ∙ ap (boardDue b) (sym (add-assoc (adds a b) (cyclesPassed calls y) t));
           source = R .source;
         }
 
@@ -88,26 +97,26 @@ or-iff v false a t e =
     (λ h. inr (leb-true a t (sym e ∙ h)), elim [ inl h ↦ absurd (false≢true h) | inr h ↦ e ∙ le-leb a t h ])
 
 module _ (b : Board) (f : BoardFits b) (s : sound b ≡ true) (low : line b ≡ false)
-    (o : fromHost (b .clock .control) ≡ false) (calls : List DemandCall) where
-  R : Ran (source3 b) (total calls b) b (afterAll calls b)
-  R = ran (source3 b) calls b (good b f s) o (sym (ap (λ v. source3 b || v) low ∙ or-false (source3 b)))
+    (o : fromHost (b .clock .control) ≡ false) (calls : List Call) (w : All PassesTime calls) where
+  R : Ran (rateOf (b .clock)) (source3 b) (cyclesPassed calls b) b (afterAll calls b)
+  R = ran (source3 b) calls w b (good b f s) o (sym (ap (λ v. source3 b || v) low ∙ or-false (source3 b)))
 
   -- the line after the list is what was due
-  pub line-after : line (afterAll calls b) ≡ due (exactDeadline b) (total calls b)
+  pub line-after : line (afterAll calls b) ≡ due (exactDeadline b) (cyclesPassed calls b)
   unfolding boardDue
   line-after = line-due (afterAll calls b) (R .good) ∙ R .due 0 ∙ rw (low, add-zero)
 
-  pub source-after : source3 (afterAll calls b) ≡ (source3 b || due (exactDeadline b) (total calls b))
+  pub source-after : source3 (afterAll calls b) ≡ (source3 b || due (exactDeadline b) (cyclesPassed calls b))
   source-after = R .source ∙ ap (λ v. source3 b || v) line-after
 
-  promised : (d : Option ℕ) → line (afterAll calls b) ≡ due d (total calls b) →
-      source3 (afterAll calls b) ≡ (source3 b || due d (total calls b)) →
-      PromiseAfter (isPresent d) (orZero d) (orZero (wordDeadline d)) b (total calls b) (afterAll calls b)
+  promised : (d : Option ℕ) → line (afterAll calls b) ≡ due d (cyclesPassed calls b) →
+      source3 (afterAll calls b) ≡ (source3 b || due d (cyclesPassed calls b)) →
+      PromiseAfter (isPresent d) (orZero d) (orZero (wordDeadline d)) b (cyclesPassed calls b) (afterAll calls b)
   promised none p q = record { line = p; source = q ∙ or-false (source3 b) }
   promised (some d) p q = (
     record {
-      line = true-iff (line (afterAll calls b)) d (total calls b) p;
-      source = or-iff (source3 (afterAll calls b)) (source3 b) d (total calls b) q;
+      line = true-iff (line (afterAll calls b)) d (cyclesPassed calls b) p;
+      source = or-iff (source3 (afterAll calls b)) (source3 b) d (cyclesPassed calls b) q;
     },
     refl,
   )
@@ -115,5 +124,5 @@ module _ (b : Board) (f : BoardFits b) (s : sound b ≡ true) (low : line b ≡ 
 -- the deadline that a sound board gives keeps what is promised of it
 pub demand-3 : (b : Board) → BoardFits b →
     Promise b (isPresent (exactDeadline b)) (orZero (exactDeadline b)) (orZero (wordDeadline (exactDeadline b)))
-demand-3 b f s low o calls =
-    promised b f s low o calls (exactDeadline b) (line-after b f s low o calls) (source-after b f s low o calls)
+demand-3 b f s low o calls w =
+    promised b f s low o calls w (exactDeadline b) (line-after b f s low o calls w) (source-after b f s low o calls w)

@@ -13,9 +13,10 @@ use Rattle.channel.specs.declared.HardwareTimer.{HardwareTimer}
 use Rattle.channel.specs.Channel.{TimerFits, lineOf, soundTimer}
 use Rattle.channel.specs.Prescaler.{advanced}
 use Rattle.channel.specs.Deadline.{deadlineOf}
-use Rattle.channel.proofs.Sound.{sound-phase, advanced-fits, advanced-sound}
+use Rattle.channel.proofs.Sound.{GoodTimer, timer-good, timer-sound, advanced-good}
 use Rattle.channel.proofs.Law.{channelDue, advance-due, line-due}
 use Rattle.board.specs.Loops.{All, mapFrom, foldFrom}
+use Rattle.board.proofs.Loops.{map-all}
 
 -- two parts of the line and of what is to come, taken by kind
 pub or-swap : (a b c d : Bool) → ((a || b) || (c || d)) ≡ ((a || c) || (b || d))
@@ -24,15 +25,32 @@ or-swap false b true d = or-true b
 or-swap false true false d = refl
 or-swap false false false d = refl
 
+-- ---- good channels are sound, and their words are words
+
+abbrev sounds : ℕ → List HardwareTimer → Bool
+sounds k ts = foldFrom (λ _ h. soundTimer h) _&&_ true k ts
+
+pub channels-good : (k : ℕ) (ts : List HardwareTimer) → All TimerFits ts → sounds k ts ≡ true → All GoodTimer ts
+unfolding foldFrom
+channels-good k [] f s = tt
+channels-good k (h ∷ ts) f s =
+    let p = and-parts (soundTimer h) (sounds (suc k) ts) s in
+    (timer-good h (f .0) (p .0), channels-good (suc k) ts (f .1) (p .1))
+
+pub channels-sound : (k : ℕ) (ts : List HardwareTimer) → All GoodTimer ts → sounds k ts ≡ true
+unfolding foldFrom
+channels-sound k [] g = refl
+channels-sound k (h ∷ ts) g =
+    and-join (soundTimer h) (sounds (suc k) ts) (timer-sound h (g .0)) (channels-sound (suc k) ts (g .1))
+
+-- ---- what is due
+
 module _ (enable : ℕ) where
   abbrev lines : ℕ → List HardwareTimer → Bool
   lines k ts = foldFrom (λ _ h. lineOf h) _||_ false k ts
 
   abbrev deadlines : ℕ → List HardwareTimer → Option ℕ
   deadlines k ts = foldFrom (λ i h. deadlineOf (bit i enable) h) sooner none k ts
-
-  abbrev sounds : ℕ → List HardwareTimer → Bool
-  sounds k ts = foldFrom (λ _ h. soundTimer h) _&&_ true k ts
 
   abbrev advances : ℕ → ℕ → List HardwareTimer → List HardwareTimer
   advances c k ts = mapFrom (λ i h. advanced (bit i enable) c h) k ts
@@ -48,36 +66,23 @@ module _ (enable : ℕ) where
       rw due-sooner
       (sym (or-swap (lineOf h) (due (deadlineOf (bit k enable) h) t) (lines (suc k) ts) (due (deadlines (suc k) ts) t)))
 
-  pub channels-advance-due : (c k : ℕ) (ts : List HardwareTimer) → All TimerFits ts → sounds k ts ≡ true → (t : ℕ) →
+  pub channels-advance-due : (c k : ℕ) (ts : List HardwareTimer) → All GoodTimer ts → (t : ℕ) →
       channelsDue k (advances c k ts) t ≡ channelsDue k ts (c + t)
   unfolding channelsDue foldFrom mapFrom
-  channels-advance-due c k [] f s t = refl
-  channels-advance-due c k (h ∷ ts) f s t =
-      let p = and-parts (soundTimer h) (sounds (suc k) ts) s in
+  channels-advance-due c k [] g t = refl
+  channels-advance-due c k (h ∷ ts) g t =
       due-cons k (advanced (bit k enable) c h) (advances c (suc k) ts) t
-      ∙ ap₂ _||_ (advance-due (bit k enable) c h (f .0) (sound-phase h (p .0)) t)
-      (channels-advance-due c (suc k) ts (f .1) (p .1) t)
+      ∙ ap₂ _||_ (advance-due (bit k enable) c h (g .0 .fits) (g .0 .phase) t)
+      (channels-advance-due c (suc k) ts (g .1) t)
       ∙ sym (due-cons k h ts (c + t))
 
-  pub channels-line-due : (k : ℕ) (ts : List HardwareTimer) → All TimerFits ts → sounds k ts ≡ true →
-      lines k ts ≡ channelsDue k ts 0
+  pub channels-line-due : (k : ℕ) (ts : List HardwareTimer) → All GoodTimer ts → lines k ts ≡ channelsDue k ts 0
   unfolding channelsDue foldFrom
-  channels-line-due k [] f s = refl
-  channels-line-due k (h ∷ ts) f s =
-      let p = and-parts (soundTimer h) (sounds (suc k) ts) s in
-      ap₂ _||_ (line-due (bit k enable) h (f .0) (sound-phase h (p .0))) (channels-line-due (suc k) ts (f .1) (p .1))
+  channels-line-due k [] g = refl
+  channels-line-due k (h ∷ ts) g =
+      ap₂ _||_ (line-due (bit k enable) h (g .0 .fits) (g .0 .phase)) (channels-line-due (suc k) ts (g .1))
       ∙ sym (due-cons k h ts 0)
 
-  pub channels-fits : (c k : ℕ) (ts : List HardwareTimer) → All TimerFits ts → All TimerFits (advances c k ts)
-  unfolding mapFrom
-  channels-fits c k [] f = tt
-  channels-fits c k (h ∷ ts) f = (advanced-fits (bit k enable) c h (f .0), channels-fits c (suc k) ts (f .1))
-
-  pub channels-sound : (c k : ℕ) (ts : List HardwareTimer) → All TimerFits ts → sounds k ts ≡ true →
-      sounds k (advances c k ts) ≡ true
-  unfolding mapFrom foldFrom
-  channels-sound c k [] f s = refl
-  channels-sound c k (h ∷ ts) f s =
-      let p = and-parts (soundTimer h) (sounds (suc k) ts) s in
-      and-join (soundTimer (advanced (bit k enable) c h)) (sounds (suc k) (advances c (suc k) ts))
-      (advanced-sound (bit k enable) c h (f .0) (p .0)) (channels-sound c (suc k) ts (f .1) (p .1))
+  -- an advance keeps them good
+  pub channels-kept : (c k : ℕ) (ts : List HardwareTimer) → All GoodTimer ts → All GoodTimer (advances c k ts)
+  channels-kept c = map-all GoodTimer (λ i h. advanced (bit i enable) c h) (λ i. advanced-good (bit i enable) c)

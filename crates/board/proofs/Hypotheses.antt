@@ -40,11 +40,12 @@ use Rattle.clock.specs.Deadline.{clockDeadline}
 use Rattle.controller.specs.Bits.{withBit}
 use Rattle.controller.specs.Controller.{sourceSet}
 use Rattle.board.specs.declared.Board.{Board}
+use Rattle.board.specs.declared.calls.Call.{Call}
 use Rattle.board.specs.Loops.{mapFrom, foldFrom}
 use Rattle.board.specs.Fields.{freshBoard, withTimers, withTimerEnable, withClock, withController}
 use Rattle.board.specs.Board.{line, exactDeadline, wired, soundParts, sound}
-use Rattle.board.specs.Calls.{answerOf, hostTimeRefusal, movedBoard, advancedBoard}
-use Rattle.board.specs.Demand.{DemandCall, advance, hostTime, after, afterAll, source3}
+use Rattle.board.specs.Calls.{advanceBy, hostTimeTo, hostTimeRefusal, movedBoard, advancedBoard, answerOf}
+use Rattle.board.specs.Demand.{after, afterAll, source3}
 
 -- channel 0 alone runs
 abbrev running : HardwareTimer → Board
@@ -82,16 +83,16 @@ early = running (withPhase 3 (withCompare 1 counting))
 abbrev hosted : Board
 hosted = withClock (alarmed 9 (withControl 5 freshClock)) freshBoard
 
-abbrev nine : DemandCall
-nine = hostTime (record { seconds = 9; nanoseconds = 0 })
+abbrev nine : Call
+nine = hostTimeTo (record { seconds = 9; nanoseconds = 0 })
 
 pub shut-out :
     (not (sound past) && gives (exactDeadline past) 1 && line (advancedBoard 0 past)
     && (not (sound steady) && line (advancedBoard 30 steady) && not (source3 (advancedBoard 30 steady)))
     && (not (sound early) && gives (exactDeadline early) 0 && not (line early))
     && (sound hosted && isNone (exactDeadline hosted))
-    && (line (afterAll (nine ∷ advance 48_000 ∷ []) hosted)
-    && not (line (afterAll (nine ∷ advance 47_999 ∷ []) hosted))))
+    && (line (afterAll (nine ∷ advanceBy 48_000 ∷ []) hosted)
+    && not (line (afterAll (nine ∷ advanceBy 47_999 ∷ []) hosted))))
     ≡ true
 unfolding
     enabledOf irqEnabledOf disabled soundTimer lineOf advanced ticked tickedIn oneShot ticksToGo deadlineOf shifted

@@ -1,97 +1,159 @@
--- 'Every call keeps a sound board sound', and its words words: of each call, then of a direct call's answer, refused or
--- accepted. Assumes nothing.
+-- 'Every call keeps a sound board sound', of its rate, and its words words: of each call, then of a direct call's
+-- answer, refused or accepted. Assumes nothing.
 use Prim.Native.Nat.{ℕ, _<_}
-use mathlib.Core.Path.{_≡_, refl}
+use mathlib.Core.Path.{_≡_, refl, _∙_}
 use mathlib.Core.Bool.{true}
 use mathlib.Core.Option.{Option, none, some}
 use native.Mathlib.Omega.{arith}
 use lib.Dec.{leb, eqb}
 use borrow.Author.Tests.{leb-false, eqb-true}
+use Rattle.wide.specs.Bits.{bit}
 use Rattle.wide.proofs.Choices.{choose, either}
-use Rattle.channel.specs.Channel.{lineOf}
-use Rattle.channel.proofs.Sound.{fresh-sound as timer-sound}
+use Rattle.channel.specs.Channel.{TimerFits, freshTimer, lineOf}
+use Rattle.channel.specs.Prescaler.{advanced}
+use Rattle.channel.proofs.Sound.{fresh-timer-good, timer-sound}
 use Rattle.clock.specs.declared.HostTime.{HostTime}
-use Rattle.clock.specs.Clock.{nanosPerSecond}
-use Rattle.clock.specs.Fields.{freshRate, freshClockAt}
+use Rattle.clock.specs.Clock.{rateOf, nanosPerSecond, advanceClock}
+use Rattle.clock.specs.Fields.{freshRate, freshClockAt, withHost}
 use Rattle.clock.specs.Sound.{soundRate}
 use Rattle.clock.proofs.Rate.{three-rate}
-use Rattle.clock.proofs.Soundness.{facts-sound as clock-sound, fresh-sound as clock-fresh}
+use Rattle.clock.proofs.Soundness.{HostSound, clock-sound, advance-good, host-good, fresh-clock-good}
 use Rattle.controller.specs.declared.IrqController.{IrqController}
-use Rattle.controller.specs.Controller.{sourceSet, controllerWritten}
+use Rattle.controller.specs.Controller.{ControllerFits, sourceSet, controllerWritten}
+use Rattle.controller.proofs.Widths.{fresh-controller-fits, source-fits, written-fits}
 use Rattle.board.specs.declared.Board.{Board}
+use Rattle.board.specs.declared.calls.Call.{Call}
+use Rattle.board.specs.declared.calls.Call.the-variants.{Deadline, Skip, ControllerRead, ControllerWrite, Output}
 use Rattle.board.specs.declared.calls.EmptyAnswer.{EmptyAnswer}
 use Rattle.board.specs.Loops.{foldFrom}
+use Rattle.board.specs.Channels.{advancedAll}
 use Rattle.board.specs.Fields.{freshBoardAt, freshBoard, withController}
 use Rattle.board.specs.Board.{BoardFits, line, wired, sound}
 use Rattle.board.specs.Calls.{
-  Call,
-  DirectAnswer,
-  refusalOf,
-  boardAfter,
-  answerOf,
+  advanceBy,
+  hostTimeTo,
+  sourceTo,
   hostTimeRefusal,
-  hostTimeCall,
+  movedBoard,
   advancedBoard,
-  advanceCall,
-  deadlineCall,
   skipLength,
   movedBy,
-  skipCall,
-  sourceCall,
-  controllerReadCall,
-  controllerWriteCall,
-  outputCall,
+  effectOf,
+  boardAfter,
+  CallFits,
+  DirectAnswer,
+  refusalOf,
+  answerOf,
   freshOf,
 }
-use Rattle.board.proofs.Soundness.{facts-sound, wired-sound}
-use Rattle.board.proofs.Steps.{Good, good, wired-level, advance-step, host-step}
+use Rattle.board.proofs.Loops.{map-length}
+use Rattle.board.proofs.FourChannels.{channels-kept}
+use Rattle.board.proofs.Soundness.{wired-sound}
+use Rattle.board.proofs.Good.{
+  Good,
+  good,
+  good-sound,
+  good-parts,
+  parts-good,
+  own-parts,
+  at-rate,
+  timers-parts,
+  clock-parts,
+  controller-parts,
+}
 
-pub fresh-at-sound : (rate : ℕ) → soundRate rate ≡ true → sound (freshBoardAt rate) ≡ true
+-- ---- fresh boards
+
+-- of any rate: all else is zero, or one
+pub fresh-fits : (rate : ℕ) → BoardFits (freshBoardAt rate)
+fresh-fits rate =
+    record {
+      four = refl;
+      timers = (fits, (fits, (fits, (fits, tt))));
+      clock =
+          record {
+            seconds = omega arith;
+            offset = omega arith;
+            alarm = omega arith;
+            shadow = omega arith;
+            alarmShadow = omega arith;
+            host = omega arith;
+          };
+      latches = record {
+        four = refl;
+        counts = (omega arith, (omega arith, (omega arith, (omega arith, tt))));
+        low = omega arith;
+        high = omega arith;
+      };
+      controller = fresh-controller-fits;
+    }
+  where
+    fits : TimerFits freshTimer
+    fits = fresh-timer-good .fits
+
+pub fresh-good : (rate : ℕ) → soundRate rate ≡ true → Good rate (freshBoardAt rate)
 unfolding line foldFrom lineOf
-fresh-at-sound rate e =
-    facts-sound (freshBoardAt rate)
-    (record {
-      timers = rw timer-sound;
-      enable = omega arith;
-      rate = e;
-      clock = clock-sound rate (freshClockAt rate) (clock-fresh rate (three-rate rate e));
-      level = refl;
-    })
+fresh-good rate e =
+    record {
+      fits = fresh-fits rate;
+      facts = record {
+        timers = rw (timer-sound freshTimer fresh-timer-good);
+        enable = omega arith;
+        rate = e;
+        clock = clock-sound rate (freshClockAt rate) (fresh-clock-good rate (three-rate rate e));
+        level = refl;
+      };
+      own = refl;
+    }
 
 pub fresh-sound : sound freshBoard ≡ true
 unfolding soundRate
-fresh-sound = fresh-at-sound freshRate refl
+fresh-sound = good-sound (fresh-good freshRate refl)
 
 -- a board that is made is sound, refused or not
 pub made-sound : (rate : ℕ) → sound (freshOf rate .board) ≡ true
 unfolding freshOf
 made-sound rate =
-    choose (λ (a : EmptyAnswer). sound (a .board) ≡ true) (soundRate rate) (fresh-at-sound rate) (λ _. fresh-sound)
-
--- an accepted call leaves a sound machine board
-abbrev pub Keeps : (Board → Call) → Type 0
-Keeps call = (b : Board) → Good b → call b .refusal ≡ 0 → Good (boardAfter (call b))
+    choose (λ (a : EmptyAnswer). sound (a .board) ≡ true) (soundRate rate) (λ e. good-sound (fresh-good rate e))
+    (λ _. fresh-sound)
 
 -- ---- each call
 
--- one that changes nothing
-pub wired-good : (b : Board) → Good b → Good (wired b)
-wired-good b g = rw (wired-sound b (facts-sound b (g .facts))) g
+-- an accepted call leaves a good board of the same rate
+abbrev pub Keeps : Call → Type 0
+Keeps call =
+    (rate : ℕ) (b : Board) → CallFits call → Good rate b → effectOf call b .refusal ≡ 0 →
+    Good rate (boardAfter call b)
 
--- one that changes the controller alone
-controller-good : (b : Board) → Good b → (q : IrqController) → Good (wired (withController q b))
-unfolding wired
-controller-good b g q =
-    record {
-      fits = record { four = g .fits .four; timers = g .fits .timers; clock = g .fits .clock };
-      facts = record {
-        timers = g .facts .timers;
-        enable = g .facts .enable;
-        rate = g .facts .rate;
-        clock = g .facts .clock;
-        level = wired-level (withController q b);
-      };
-    }
+module _ {rate : ℕ} {b : Board} (g : Good rate b) where
+  -- one that changes nothing
+  wired-good : Good rate (wired b)
+  wired-good = rw (wired-sound b (good-sound g)) g
+
+  -- one that changes the controller alone
+  controller-good : (q : IrqController) → ControllerFits q → Good rate (wired (withController q b))
+  controller-good q f = parts-good (controller-parts (good-parts g) q f)
+
+  -- an advance
+  pub advanced-good : (c : ℕ) → Good rate (advancedBoard c b)
+  unfolding advancedBoard movedBoard
+  advanced-good c =
+      let p = own-parts g in
+      let ts = b .timers in
+      let e = b .«timer_enable» in
+      at-rate g
+      (parts-good
+      (clock-parts
+      (timers-parts p (advancedAll e c ts) (map-length (λ k h. advanced (bit k e) c h) 0 ts ∙ p .four)
+      (channels-kept e c 0 ts (p .timers)))
+      (advanceClock (rateOf (b .clock)) c (b .clock))
+      (advance-good (rateOf (b .clock)) (three-rate (rateOf (b .clock)) (p .known)) c (b .clock) (p .clock))))
+
+  -- a host time
+  pub hosted-good : (h : HostTime) → HostSound h → Good rate (boardAfter (hostTimeTo h) b)
+  hosted-good h s =
+      let p = good-parts g in
+      parts-good (clock-parts p (withHost h (b .clock)) (host-good rate h (b .clock) s (p .clock)))
 
 -- a host time that is not refused
 host-small : (h : HostTime) → hostTimeRefusal h ≡ 0 → h .nanoseconds < nanosPerSecond
@@ -101,46 +163,50 @@ host-small h z =
     (λ e. let seven : _≡_ {A = ℕ} 7 0 = rw e at z in absurd (omega arith))
     (λ e. leb-false nanosPerSecond (h .nanoseconds) e)
 
-pub host-time-keeps : (h : HostTime) → Keeps (hostTimeCall h)
-host-time-keeps h b g z = host-step h b (host-small h z) g .good
+pub host-time-keeps : (h : HostTime) → Keeps (hostTimeTo h)
+host-time-keeps h rate b f g z = hosted-good g h (record { word = f .1; small = host-small h z })
 
-pub advance-keeps : (c : ℕ) → Keeps (advanceCall c)
+pub advance-keeps : (c : ℕ) → Keeps (advanceBy c)
 unfolding advancedBoard
-advance-keeps c b g z = advance-step c b g .good
+advance-keeps c rate b f g z = advanced-good g c
 
-pub deadline-keeps : Keeps deadlineCall
-deadline-keeps b g z = wired-good b g
+pub deadline-keeps : Keeps Deadline
+deadline-keeps rate b f g z = wired-good g
 
-moved-good : (o : Option ℕ) (b : Board) → Good b → Good (wired (movedBy o b))
+moved-good : {rate : ℕ} (o : Option ℕ) (b : Board) → Good rate b → Good rate (wired (movedBy o b))
 unfolding advancedBoard
-moved-good none b g = wired-good b g
-moved-good (some n) b g = advance-step n b g .good
+moved-good none b g = wired-good g
+moved-good (some n) b g = advanced-good g n
 
-pub skip-keeps : Keeps skipCall
-skip-keeps b g z = moved-good (skipLength b) b g
+pub skip-keeps : Keeps Skip
+skip-keeps rate b f g z = moved-good (skipLength b) b g
 
-pub source-keeps : (number level : ℕ) → Keeps (sourceCall number level)
-source-keeps number level b g z = controller-good b g (sourceSet (b .controller) number (eqb level 1))
+pub source-keeps : (number level : ℕ) → Keeps (sourceTo number level)
+source-keeps number level rate b f g z =
+    controller-good g (sourceSet (b .controller) number (eqb level 1))
+    (source-fits (b .controller) (g .fits .controller) number (eqb level 1))
 
-pub controller-read-keeps : (address : ℕ) → Keeps (controllerReadCall address)
-controller-read-keeps address b g z = wired-good b g
+pub controller-read-keeps : (address : ℕ) → Keeps (ControllerRead address)
+controller-read-keeps address rate b f g z = wired-good g
 
-pub controller-write-keeps : (address value : ℕ) → Keeps (controllerWriteCall address value)
-controller-write-keeps address value b g z = controller-good b g (controllerWritten (b .controller) address value)
+pub controller-write-keeps : (byte address : ℕ) → Keeps (ControllerWrite byte address)
+controller-write-keeps byte address rate b f g z =
+    controller-good g (controllerWritten (b .controller) address byte)
+    (written-fits (b .controller) (g .fits .controller) address byte (f .0))
 
-pub output-keeps : Keeps outputCall
-output-keeps b g z = wired-good b g
+pub output-keeps : Keeps Output
+output-keeps rate b f g z = wired-good g
 
 -- ---- the answer of a direct call, refused or accepted
 
-module _ (call : Board → Call) (k : Keeps call) (b : Board) where
-  answer-good : Good b → Good (answerOf call b .board)
+module _ (call : Call) (k : Keeps call) where
+  pub answer-good : (rate : ℕ) (b : Board) → CallFits call → Good rate b → Good rate (answerOf call b .board)
   unfolding answerOf
-  answer-good g =
-      let s = facts-sound b (g .facts) in
-      choose (λ (a : DirectAnswer). Good (a .board)) (eqb (refusalOf b (call b .refusal)) 0)
-      (λ e. k b g (rw s at (eqb-true (refusalOf b (call b .refusal)) 0 e)))
+  answer-good rate b f g =
+      let s = good-sound g in
+      choose (λ (a : DirectAnswer). Good rate (a .board)) (eqb (refusalOf b (effectOf call b .refusal)) 0)
+      (λ e. k rate b f g (rw s at (eqb-true (refusalOf b (effectOf call b .refusal)) 0 e)))
       (λ _. g)
 
-  pub answer-kept : BoardFits b → sound b ≡ true → sound (answerOf call b .board) ≡ true
-  answer-kept f s = facts-sound (answerOf call b .board) (answer-good (good b f s) .facts)
+  pub answer-kept : (b : Board) → CallFits call → BoardFits b → sound b ≡ true → sound (answerOf call b .board) ≡ true
+  answer-kept b c f s = good-sound (answer-good (rateOf (b .clock)) b c (good b f s))

@@ -1,11 +1,13 @@
 pub mod Loops
+pub mod Widths
 pub mod Phases
 pub mod FourChannels
 pub mod Soundness
+pub mod Good
+pub mod Kept
 pub mod Steps
 pub mod Demand3
 pub mod Answers
-pub mod Kept
 pub mod Corollaries
 pub mod Matches
 pub mod Skips

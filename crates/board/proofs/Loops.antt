@@ -151,6 +151,11 @@ unfolding mapFrom
 map-all P f keeps k [] h = h
 map-all P f keeps k (x ∷ xs) h = (keeps k x (h .0), map-all P f keeps (suc k) xs (h .1))
 
+-- and where what it is follows from another
+pub all-so : {A : Type 0} (P Q : A → Type 0) → ((x : A) → P x → Q x) → (xs : List A) → All P xs → All Q xs
+all-so P Q so [] h = h
+all-so P Q so (x ∷ xs) h = (so x (h .0), all-so P Q so xs (h .1))
+
 -- and it holds of each
 pub each-at : {A : Type 0} (P : A → Type 0) (d : A) (xs : List A) (i : ℕ) → i < length xs → All P xs → P (getD xs i d)
 each-at P d [] i h e = absurd (omega arith)
@@ -167,14 +172,3 @@ all-at p d [] i k h e = absurd (omega arith)
 all-at p d (x ∷ xs) zero k h e = and-parts (p x) (foldFrom (λ _ y. p y) _&&_ true (suc k) xs) e .0
 all-at p d (x ∷ xs) (suc i) k h e =
     all-at p d xs i (suc k) (omega arith) (and-parts (p x) (foldFrom (λ _ y. p y) _&&_ true (suc k) xs) e .1)
-
--- ---- a property found of each element, from the last back
-
-module _ {A : Type 0} (P : A → Type 0) where
-  pub all-starts : (xs : List A) (n : ℕ) → length xs ≡ n → All P (drop n xs)
-  all-starts xs n e = rw (drop-of-length-le xs {i = n} (omega arith)) tt
-
-  pub all-goes : (xs : List A) (d : A) (i : ℕ) → 0 < i → i ≤ length xs → P (getD xs (i - 1) d) → All P (drop i xs) →
-      All P (drop (i - 1) xs)
-  all-goes xs d zero p l x h = absurd (omega arith)
-  all-goes xs d (suc i) p l x h = rw (sub-one, drop-cons xs i d l) (rw sub-one at x, h)

@@ -9,6 +9,7 @@ use Rattle.wide.specs.Deadline.{due}
 use Rattle.wide.proofs.Choices.{either}
 use Rattle.wide.proofs.Forms.{flag-back}
 use Rattle.board.specs.declared.Board.{Board}
+use Rattle.board.specs.declared.calls.Call.the-variants.{Skip}
 use Rattle.board.specs.declared.calls.SkipAnswer.{SkipAnswer}
 use Rattle.board.specs.Board.{BoardFits, line, exactDeadline}
 use Rattle.board.specs.Calls.{
@@ -20,10 +21,11 @@ use Rattle.board.specs.Calls.{
   movedBy,
   skipLength,
   skipRefusal,
-  skipCall,
 }
 use Rattle.board.specs.Demand.{SkipPromise}
-use Rattle.board.proofs.Steps.{Good, good, wired-line, advance-rises}
+use Rattle.board.proofs.Soundness.{wired-line}
+use Rattle.board.proofs.Good.{Good, good}
+use Rattle.board.proofs.Steps.{advance-rises}
 use Rattle.board.proofs.Answers.{accepted-sound, answer-accepted, answered-refusal}
 
 module _ (b : Board) (d : ℕ) (given : exactDeadline b ≡ some d) where
@@ -32,7 +34,7 @@ module _ (b : Board) (d : ℕ) (given : exactDeadline b ≡ some d) where
   skip-by low = rw (low, given)
 
   -- and the line is high behind it
-  pub skip-high : Good b → line (movedBy (skipLength b) b) ≡ true
+  pub skip-high : {rate : ℕ} → Good rate b → line (movedBy (skipLength b) b) ≡ true
   unfolding advancedBoard
   skip-high g =
       either (line b) (λ h. rw h h)
@@ -41,12 +43,12 @@ module _ (b : Board) (d : ℕ) (given : exactDeadline b ≡ some d) where
       ∙ advance-rises d b g low (ap (λ (o : Option ℕ). due o d) given ∙ le-leb d d (omega arith)))
 
 -- what is promised, by the answer
-pub skip-reaches : (b : Board) → BoardFits b → (r : SkipAnswer) → r ≡ skipAnswer (answerOf skipCall b) →
+pub skip-reaches : (b : Board) → BoardFits b → (r : SkipAnswer) → r ≡ skipAnswer (answerOf Skip b) →
     SkipPromise b r
 skip-reaches b f r e z d given =
     let n : refusalOf b (skipRefusal b) ≡ 0 =
-    sym (answered-refusal skipCall b) ∙ ap (λ (a : SkipAnswer). a .refusal) (sym e) ∙ z in
-    let a = answer-accepted skipCall b n in
+    sym (answered-refusal Skip b) ∙ ap (λ (a : SkipAnswer). a .refusal) (sym e) ∙ z in
+    let a = answer-accepted Skip b n in
     let high = skip-high b d given (good b f (accepted-sound b (skipRefusal b) n)) in (
       rw (e, a, flag-back) high,
       rw (e, a) (wired-line (movedBy (skipLength b) b) ∙ high),

@@ -1,6 +1,7 @@
 -- What soundness says of a board, clause by clause, and back. Assumes nothing.
 use Prim.Native.Nat.{ℕ, suc, _<_}
-use mathlib.Core.Path.{_≡_, refl}
+use native.Mathlib.Omega.{arith}
+use mathlib.Core.Path.{_≡_, refl, sym, _∙_}
 use mathlib.Core.Bool.{Bool, true, false, _&&_, Bool·beq, false≢true}
 use mathlib.Core.List.{List, [], _∷_}
 use lib.Dec.{ltb}
@@ -9,8 +10,8 @@ use Rattle.wide.specs.Bits.{bit}
 use Rattle.wide.proofs.Choices.{and-parts, and-join}
 use Rattle.clock.specs.Clock.{rateOf}
 use Rattle.clock.specs.Sound.{ClockFits, soundRate, soundClock}
-use Rattle.clock.proofs.Soundness.{OwnSound, sound-facts as clock-sound-facts}
-use Rattle.controller.proofs.Laws.{steady}
+use Rattle.clock.proofs.Soundness.{GoodClock, clock-good}
+use Rattle.controller.proofs.Laws.{level-set, steady}
 use Rattle.board.specs.declared.Latch.{Latch}
 use Rattle.board.specs.declared.Latch.the-variants.{Empty, Held}
 use Rattle.board.specs.declared.CountLatch.{CountLatch}
@@ -97,8 +98,20 @@ module _ (b : Board) where
       (rw (f .level) (beq-refl (line b)))
 
   -- the facts of its clock
-  pub clock-facts : ClockFits (b .clock) → sound b ≡ true → OwnSound (b .clock)
-  clock-facts f e = clock-sound-facts (rateOf (b .clock)) (b .clock) f (sound-facts e .clock)
+  pub clock-facts : ClockFits (b .clock) → sound b ≡ true → GoodClock (rateOf (b .clock)) (b .clock)
+  clock-facts f e = clock-good (rateOf (b .clock)) (b .clock) f refl (sound-facts e .clock)
+
+  -- ---- source 3 is set to the line
+
+  -- which stays
+  pub wired-line : line (wired b) ≡ line b
+  unfolding line wired
+  wired-line = refl
+
+  -- and is the level of source 3 then
+  pub wired-level : bit 3 (wired b .controller .levels) ≡ line (wired b)
+  unfolding wired
+  wired-level = level-set (b .controller) 3 (line b) (omega arith) ∙ sym wired-line
 
   -- source 3 of a sound board is at the line already
   pub wired-sound : sound b ≡ true → wired b ≡ b

@@ -1,30 +1,20 @@
--- One call on a sound board: it stays sound, what is due moves by the cycles that the call adds, and source 3 is
+-- One call on a good board: it stays good, what is due moves by the cycles that the call adds, and source 3 is
 -- latched by a rise of the line. Assumes nothing.
-use Prim.Native.Nat.{ℕ, _+_, _<_}
+use Prim.Native.Nat.{ℕ, _+_, _^_, _<_}
 use native.Mathlib.Nat.{zero-add, add-zero}
 use native.Mathlib.Omega.{arith}
 use mathlib.Core.Path.{_≡_, refl, sym, ap, ap₂, _∙_}
 use mathlib.Core.Bool.{Bool, true, false, not, _&&_, _||_, and-not-self, or-true, false≢true}
-use lib.Dec.{leb}
+use lib.Dec.{leb, eqb}
 use borrow.Author.Tests.{leb-false}
 use Rattle.wide.specs.Bits.{bit}
 use Rattle.wide.specs.Deadline.{due}
 use Rattle.wide.proofs.Choices.{either}
 use Rattle.wide.proofs.Deadlines.{due-sooner}
-use Rattle.clock.specs.declared.HostTime.{HostTime}
-use Rattle.clock.specs.Clock.{rateOf, nanosPerSecond, fromHost, advanceClock}
+use Rattle.clock.specs.declared.HostTime.{HostTime as HostTimeOf}
+use Rattle.clock.specs.Clock.{rateOf, nanosPerSecond, fromHost}
 use Rattle.clock.specs.Fields.{withHost}
 use Rattle.clock.specs.Deadline.{clockLine, clockDeadline, clockDue}
-use Rattle.clock.specs.Sound.{soundRate}
-use Rattle.clock.proofs.Rate.{three-rate, SameRate, at-rate, advance-rate}
-use Rattle.clock.proofs.Soundness.{
-  Sound,
-  OwnSound,
-  facts-sound as clock-sound,
-  sound-fits,
-  advance-sound,
-  host-sound,
-}
 use Rattle.clock.proofs.Law.{
   advance-due as clock-advance-due,
   advance-own,
@@ -32,42 +22,44 @@ use Rattle.clock.proofs.Law.{
   due-host,
   line-due as clock-line-due,
 }
-use Rattle.controller.proofs.Laws.{level-set, pending-set}
-use Rattle.channel.specs.Prescaler.{advanced}
+use Rattle.controller.proofs.Laws.{pending-set}
 use Rattle.board.specs.declared.Board.{Board}
-use Rattle.board.specs.Channels.{anyLine, soonestOf, advancedAll}
-use Rattle.board.specs.Fields.{withTimers, withClock}
-use Rattle.board.specs.Board.{BoardFits, line, exactDeadline, wired, sound}
+use Rattle.board.specs.declared.calls.Call.{Call}
+use Rattle.board.specs.declared.calls.Call.the-variants.{
+  HostTime,
+  Read,
+  Write,
+  Advance,
+  Deadline,
+  Skip,
+  Source,
+  ControllerRead,
+  ControllerWrite,
+  Output,
+}
+use Rattle.board.specs.Channels.{anyLine, soonestOf}
+use Rattle.board.specs.Fields.{withClock}
+use Rattle.board.specs.Board.{line, exactDeadline, wired, sound}
 use Rattle.board.specs.Calls.{
-  boardAfter,
-  answerOf,
+  advanceBy,
+  hostTimeTo,
   hostTimeRefusal,
-  hostTimeCall,
   movedBoard,
   advancedBoard,
+  boardAfter,
+  answerOf,
 }
-use Rattle.board.specs.Demand.{DemandCall, advance, hostTime, after, adds, source3}
-use Rattle.board.proofs.Loops.{map-length}
+use Rattle.board.specs.Demand.{PassesTime, after, adds, source3}
 use Rattle.board.proofs.FourChannels.{
   or-swap,
   channelsDue,
   channels-advance-due,
   channels-line-due,
-  channels-fits,
-  channels-sound,
+  channels-kept,
 }
-use Rattle.board.proofs.Soundness.{SoundFacts, sound-facts, facts-sound, clock-facts}
-
--- a sound machine board
-pub record Good (b : Board) : Type 0 where
-  pub fits : BoardFits b
-  pub facts : SoundFacts b
-
-pub good : (b : Board) → BoardFits b → sound b ≡ true → Good b
-good b f s = record { fits = f; facts = sound-facts b s }
-
-clock-good : (b : Board) → Good b → OwnSound (b .clock)
-clock-good b g = clock-facts b (g .fits .clock) (facts-sound b (g .facts))
+use Rattle.board.proofs.Soundness.{wired-line}
+use Rattle.board.proofs.Good.{Good, good-sound, own-parts}
+use Rattle.board.proofs.Kept.{advanced-good, hosted-good}
 
 -- ---- what is due
 
@@ -84,89 +76,61 @@ due-parts b t =
     (due (clockDeadline (rateOf (b .clock)) (b .clock)) t))
 
 -- the line is what is due at once
-pub line-due : (b : Board) → Good b → line b ≡ boardDue b 0
+pub line-due : {rate : ℕ} (b : Board) → Good rate b → line b ≡ boardDue b 0
 unfolding line
 line-due b g =
-    ap₂ _||_ (channels-line-due (b .«timer_enable») 0 (b .timers) (g .fits .timers) (g .facts .timers))
-    (clock-line-due (rateOf (b .clock)) (b .clock) (clock-good b g))
+    let p = own-parts g in
+    ap₂ _||_ (channels-line-due (b .«timer_enable») 0 (b .timers) (p .timers))
+    (clock-line-due (rateOf (b .clock)) (b .clock) (p .clock))
     ∙ sym (due-parts b 0)
 
 -- ---- source 3 is set to the line
 
 module _ (b : Board) where
-  pub wired-line : line (wired b) ≡ line b
-  unfolding line wired
-  wired-line = refl
-
   wired-due : (t : ℕ) → boardDue (wired b) t ≡ boardDue b t
   unfolding boardDue line exactDeadline wired
   wired-due t = refl
 
-  pub wired-level : bit 3 (wired b .controller .levels) ≡ line (wired b)
+  -- where it was at the line x, it is latched by a rise of the line
+  wired-source : (x : Bool) → bit 3 (b .controller .levels) ≡ x →
+      source3 (wired b) ≡ ((line (wired b) && not x) || source3 b)
   unfolding wired
-  wired-level = level-set (b .controller) 3 (line b) (omega arith) ∙ sym wired-line
-
-  wired-source : source3 (wired b) ≡ ((line b && not (bit 3 (b .controller .levels))) || source3 b)
-  unfolding wired
-  wired-source = pending-set (b .controller) 3 (line b) (omega arith)
+  wired-source x e =
+      pending-set (b .controller) 3 (line b) (omega arith)
+      ∙ ap (λ v. (line b && not v) || source3 b) e
+      ∙ ap (λ v. (v && not x) || source3 b) (sym (wired-line b))
 
 -- ---- steps
 
--- y is x after c cycles: it is sound, and where the clock does not run from host time, what is due and latched is said
-pub record Step (c : ℕ) (x y : Board) : Type 0 where
-  pub good : Good y
+-- y is x after c cycles: it is good, and where the clock does not run from host time, what is due and latched is said
+pub record Step (rate c : ℕ) (x y : Board) : Type 0 where
+  pub good : Good rate y
   pub own : fromHost (x .clock .control) ≡ false → fromHost (y .clock .control) ≡ false
   pub due : fromHost (x .clock .control) ≡ false → (t : ℕ) → boardDue y t ≡ boardDue x (c + t)
   pub source : source3 y ≡ ((line y && not (line x)) || source3 x)
 
-module _ (c : ℕ) (b : Board) (g : Good b) where
+module _ (c : ℕ) (b : Board) {rate : ℕ} (g : Good rate b) where
   -- before source 3 is set
   abbrev moved : Board
-  moved =
-      withClock (advanceClock (rateOf (b .clock)) c (b .clock))
-      (withTimers (advancedAll (b .«timer_enable») c (b .timers)) b)
+  moved = movedBoard c b
 
-  -- an advance leaves the rate
-  rate-kept : SameRate (b .clock) (moved .clock)
-  rate-kept = advance-rate (rateOf (b .clock)) (b .clock) c
-
-  moved-clock : OwnSound (moved .clock)
-  moved-clock =
-      at-rate Sound (b .clock) (moved .clock) rate-kept
-      (advance-sound (rateOf (b .clock)) (three-rate (rateOf (b .clock)) (g .facts .rate)) c (b .clock)
-      (clock-good b g))
-
-  pub advance-step : Step c b (advancedBoard c b)
+  pub advance-step : Step rate c b (advancedBoard c b)
   unfolding advancedBoard movedBoard wired
   advance-step =
+      let p = own-parts g in
+      let r = rateOf (b .clock) in
+      let y = advanced-good g c in
       record {
-        good = record {
-          fits = record {
-            four = map-length (λ k h. advanced (bit k (b .«timer_enable»)) c h) 0 (b .timers) ∙ g .fits .four;
-            timers = channels-fits (b .«timer_enable») c 0 (b .timers) (g .fits .timers);
-            clock = sound-fits (rateOf (moved .clock)) (moved .clock) moved-clock;
-          };
-          facts = record {
-            timers = channels-sound (b .«timer_enable») c 0 (b .timers) (g .fits .timers) (g .facts .timers);
-            enable = g .facts .enable;
-            rate = at-rate (λ rate _. soundRate rate ≡ true) (b .clock) (moved .clock) rate-kept (g .facts .rate);
-            clock = clock-sound (rateOf (moved .clock)) (moved .clock) moved-clock;
-            level = wired-level moved;
-          };
-        };
-        own = advance-own (rateOf (b .clock)) c (b .clock) (clock-good b g);
+        good = y;
+        own = advance-own r c (b .clock) (p .clock);
         due = λ o t.
             wired-due moved t
             ∙ due-parts moved t
-            ∙ ap₂ _||_
-            (channels-advance-due (b .«timer_enable») c 0 (b .timers) (g .fits .timers) (g .facts .timers) t)
-            (ap (λ (rate : ℕ). clockDue rate (moved .clock) t) (rate-kept .same)
-            ∙ clock-advance-due (rateOf (b .clock)) c (b .clock) (clock-good b g) o t)
+            ∙ ap₂ _||_ (channels-advance-due (b .«timer_enable») c 0 (b .timers) (p .timers) t)
+            (ap (λ (n : ℕ). clockDue n (moved .clock) t) (y .own ∙ sym (g .own))
+            ∙ clock-advance-due r c (b .clock) (p .clock) o t)
             ∙ sym (due-parts b (c + t));
-        source =
-            wired-source moved
-            ∙ ap (λ v. (line moved && not v) || source3 b) (g .facts .level)
-            ∙ ap (λ v. (v && not (line b)) || source3 b) (sym (wired-line moved));
+        source = wired-source moved (line b) (g .facts .level);
       }
 
   -- what is due of a low line is high after the advance, whatever the clock runs from: from host time it has no
@@ -176,10 +140,9 @@ module _ (c : ℕ) (b : Board) (g : Good b) where
   advance-rises low d =
       either (fromHost (b .clock .control))
       (λ h. wired-line moved
-      ∙ ap (λ v. v || clockLine (moved .clock)) (channels-line-due e 0 (moved .timers)
-      (channels-fits e c 0 (b .timers) (g .fits .timers))
-      (channels-sound e c 0 (b .timers) (g .fits .timers) (g .facts .timers))
-      ∙ channels-advance-due e c 0 (b .timers) (g .fits .timers) (g .facts .timers) 0
+      ∙ ap (λ v. v || clockLine (moved .clock))
+      (channels-line-due e 0 (moved .timers) (channels-kept e c 0 (b .timers) (own-parts g .timers))
+      ∙ channels-advance-due e c 0 (b .timers) (own-parts g .timers) 0
       ∙ from-channels h))
       (λ o. line-due (wired moved) (advance-step .good) ∙ advance-step .due o 0 ∙ rw (low, add-zero) d)
     where
@@ -200,46 +163,7 @@ module _ (c : ℕ) (b : Board) (g : Good b) where
           (ap (λ v. channelsDue e 0 (b .timers) c || v) (sym (due-host (rateOf (b .clock)) (b .clock) c h))
           ∙ sym (due-parts b c) ∙ ap (λ v. line b || v) d ∙ or-true (line b)))
 
-module _ (h : HostTime) (b : Board) (small : h .nanoseconds < nanosPerSecond) (g : Good b) where
-  abbrev hosted : Board
-  hosted = withClock (withHost h (b .clock)) b
-
-  hosted-clock : OwnSound (hosted .clock)
-  hosted-clock = host-sound (rateOf (b .clock)) h (b .clock) small (clock-good b g)
-
-  hosted-due : (t : ℕ) → boardDue hosted t ≡ boardDue b t
-  hosted-due t =
-      due-parts hosted t
-      ∙ ap (λ v. channelsDue (b .«timer_enable») 0 (b .timers) t || v) (host-due (rateOf (b .clock)) h (b .clock) t)
-      ∙ sym (due-parts b t)
-
-  pub host-step : Step 0 b (boardAfter (hostTimeCall h b))
-  unfolding wired
-  host-step =
-      record {
-        good = record {
-          fits = record {
-            four = g .fits .four;
-            timers = g .fits .timers;
-            clock = sound-fits (rateOf (hosted .clock)) (hosted .clock) hosted-clock;
-          };
-          facts = record {
-            timers = g .facts .timers;
-            enable = g .facts .enable;
-            rate = g .facts .rate;
-            clock = clock-sound (rateOf (hosted .clock)) (hosted .clock) hosted-clock;
-            level = wired-level hosted;
-          };
-        };
-        own = λ o. o;
-        due = λ o t. wired-due hosted t ∙ hosted-due t ∙ ap (boardDue b) (sym (zero-add t));
-        source =
-            wired-source hosted
-            ∙ ap (λ v. (line hosted && not v) || source3 b) (g .facts .level)
-            ∙ ap (λ v. (v && not (line b)) || source3 b) (sym (wired-line hosted));
-      }
-
-same-step : (b : Board) → Good b → Step 0 b b
+same-step : {rate : ℕ} (b : Board) → Good rate b → Step rate 0 b b
 same-step b g =
     record {
       good = g;
@@ -248,34 +172,75 @@ same-step b g =
       source = sym (ap (λ v. v || source3 b) (and-not-self (line b)));
     }
 
--- an accepted call
+module _ (h : HostTimeOf) (b : Board) {rate : ℕ} (w : h .seconds < 2 ^ 64) (n : h .nanoseconds < nanosPerSecond)
+    (g : Good rate b) where
+  abbrev hosted : Board
+  hosted = withClock (withHost h (b .clock)) b
+
+  hosted-due : (t : ℕ) → boardDue hosted t ≡ boardDue b t
+  hosted-due t =
+      due-parts hosted t
+      ∙ ap (λ v. channelsDue (b .«timer_enable») 0 (b .timers) t || v) (host-due (rateOf (b .clock)) h (b .clock) t)
+      ∙ sym (due-parts b t)
+
+  host-step : Step rate 0 b (boardAfter (hostTimeTo h) b)
+  unfolding wired
+  host-step =
+      record {
+        good = hosted-good g h (record { word = w; small = n });
+        own = λ o. o;
+        due = λ o t. wired-due hosted t ∙ hosted-due t ∙ ap (boardDue b) (sym (zero-add t));
+        source = wired-source hosted (line b) (g .facts .level);
+      }
+
+-- ---- a call, refused or not
 
 advance-accepted : (c : ℕ) (b : Board) → sound b ≡ true →
-    (after (advance c) b ≡ advancedBoard c b) × (adds (advance c) b ≡ c)
+    (after (advanceBy c) b ≡ advancedBoard c b) × (adds (advanceBy c) b ≡ c)
 unfolding after adds answerOf advancedBoard
 advance-accepted c b e = (rw (e, after), rw (e, adds))
 
-host-accepted : (h : HostTime) (b : Board) → sound b ≡ true → leb nanosPerSecond (h .nanoseconds) ≡ false →
-    after (hostTime h) b ≡ boardAfter (hostTimeCall h b)
+host-accepted : (h : HostTimeOf) (b : Board) → sound b ≡ true → leb nanosPerSecond (h .nanoseconds) ≡ false →
+    after (hostTimeTo h) b ≡ boardAfter (hostTimeTo h) b
 unfolding after answerOf hostTimeRefusal
 host-accepted h b e n = rw (n, e, after)
 
-host-refused : (h : HostTime) (b : Board) → sound b ≡ true → leb nanosPerSecond (h .nanoseconds) ≡ true →
-    after (hostTime h) b ≡ b
+host-refused : (h : HostTimeOf) (b : Board) → sound b ≡ true → leb nanosPerSecond (h .nanoseconds) ≡ true →
+    after (hostTimeTo h) b ≡ b
 unfolding after answerOf hostTimeRefusal
 host-refused h b e n = rw (n, e, after)
 
-host-adds : (h : HostTime) (b : Board) → adds (hostTime h) b ≡ 0
+host-adds : (h : HostTimeOf) (b : Board) → adds (hostTimeTo h) b ≡ 0
 unfolding adds
-host-adds h b = refl
+host-adds h b = either (eqb (answerOf (hostTimeTo h) b .refusal) 0) (λ e. rw e) (λ e. rw e)
 
--- a call, refused or not
-pub call-step : (a : DemandCall) (b : Board) → Good b → Step (adds a b) b (after a b)
-call-step (advance c) b g =
-    let e = advance-accepted c b (facts-sound b (g .facts)) in
-    rw (e .0, e .1) (advance-step c b g)
-call-step (hostTime h) b g =
-    let s = facts-sound b (g .facts) in
-    rw (host-adds h b)
-    (either (leb nanosPerSecond (h .nanoseconds)) (λ e. rw (host-refused h b s e) (same-step b g))
-    (λ e. rw (host-accepted h b s e) (host-step h b (leb-false nanosPerSecond (h .nanoseconds) e) g)))
+-- a call of the promise's lists is one of two
+pub passing-cases : (P : Call → Type 0) → ((h : HostTimeOf) → h .seconds < 2 ^ 64 → P (hostTimeTo h)) →
+    ((c : ℕ) → P (advanceBy c)) → (call : Call) → PassesTime call → P call
+passing-cases P host advance (HostTime nanoseconds seconds) p =
+    host (record { seconds = seconds; nanoseconds = nanoseconds }) p
+passing-cases P host advance (Read address) p = absurd p
+passing-cases P host advance (Write byte address) p = absurd p
+passing-cases P host advance (Advance c) p = advance (c .0)
+passing-cases P host advance Deadline p = absurd p
+passing-cases P host advance Skip p = absurd p
+passing-cases P host advance (Source number level) p = absurd p
+passing-cases P host advance (ControllerRead address) p = absurd p
+passing-cases P host advance (ControllerWrite byte address) p = absurd p
+passing-cases P host advance Output p = absurd p
+
+pub call-step : {rate : ℕ} (call : Call) → PassesTime call → (b : Board) → Good rate b →
+    Step rate (adds call b) b (after call b)
+call-step {rate} call p b g =
+    passing-cases (λ a. Step rate (adds a b) b (after a b)) hosts
+    (λ c. let e = advance-accepted c b s in rw (e .0, e .1) (advance-step c b g))
+    call p
+  where
+    s : sound b ≡ true
+    s = good-sound g
+
+    hosts : (h : HostTimeOf) → h .seconds < 2 ^ 64 → Step rate (adds (hostTimeTo h) b) b (after (hostTimeTo h) b)
+    hosts h w =
+        rw (host-adds h b)
+        (either (leb nanosPerSecond (h .nanoseconds)) (λ e. rw (host-refused h b s e) (same-step b g))
+        (λ e. rw (host-accepted h b s e) (host-step h b w (leb-false nanosPerSecond (h .nanoseconds) e) g)))

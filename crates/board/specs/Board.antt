@@ -1,6 +1,6 @@
 -- Document 01, 'An advance arrives at the board' and 'The line, source 3 and the deadline': the board's fields,
 -- soundness, line and deadline. The terms sound, line and deadline are document 01's.
-use Prim.Native.Nat.{ℕ, min}
+use Prim.Native.Nat.{ℕ, _^_, _<_, min}
 use mathlib.Core.Bool.{Bool, true, false, _&&_, _||_, Bool·beq}
 use mathlib.Core.Option.{Option, none, some}
 use mathlib.Core.Path.{_≡_}
@@ -13,20 +13,15 @@ use Rattle.channel.specs.Channel.{TimerFits}
 use Rattle.clock.specs.Clock.{rateOf}
 use Rattle.clock.specs.Sound.{ClockFits, soundRate, soundClock}
 use Rattle.clock.specs.Deadline.{clockLine, clockDeadline}
-use Rattle.controller.specs.Controller.{sourceSet}
+use Rattle.controller.specs.Controller.{ControllerFits, sourceSet}
 use Rattle.board.specs.declared.Latch.{Latch}
 use Rattle.board.specs.declared.Latch.the-variants.{Empty, Held}
+use Rattle.board.specs.declared.CountLatch.{CountLatch}
 use Rattle.board.specs.declared.Latches.{Latches}
 use Rattle.board.specs.declared.Board.{Board}
 use Rattle.board.specs.Loops.{All, foldFrom}
 use Rattle.board.specs.Channels.{anyLine, soonestOf, allSound}
 use Rattle.board.specs.Fields.{withController}
-
--- what the types of a machine board say: it has four channels, and the words that its laws are about are words
-pub record BoardFits (b : Board) : Type 0 where
-  pub four : length (b .timers) ≡ 4
-  pub timers : All TimerFits (b .timers)
-  pub clock : ClockFits (b .clock)
 
 -- a latch as document 01's 'held flag, value'
 abbrev pub heldOf : Latch → Bool
@@ -36,6 +31,29 @@ heldOf (Held v) = true
 abbrev pub heldValue : Latch → ℕ
 heldValue Empty = 0
 heldValue (Held v) = v
+
+-- ---- what the types of a machine board say
+
+abbrev pub LatchFits : Latch → Type 0
+LatchFits l = heldValue l < 2 ^ 32
+
+abbrev pub CountFits : CountLatch → Type 0
+CountFits c = LatchFits (c .high)
+
+pub record LatchesFit (ls : Latches) : Type 0 where
+  pub four : length (ls .counts) ≡ 4
+  pub counts : All CountFits (ls .counts)
+  pub low : LatchFits (ls .low)
+  pub high : LatchFits (ls .high)
+
+-- each field is within its width, and there are four channels and four latches of counts; timer enable, and what the
+-- channels' and the clock's rules leave out, is small in a sound board
+pub record BoardFits (b : Board) : Type 0 where
+  pub four : length (b .timers) ≡ 4
+  pub timers : All TimerFits (b .timers)
+  pub clock : ClockFits (b .clock)
+  pub latches : LatchesFit (b .latches)
+  pub controller : ControllerFits (b .controller)
 
 -- ---- the line and the deadline
 

@@ -1,6 +1,6 @@
--- Document 01, 'The call list' and 'The line, source 3 and the deadline': the calls. A call is a case of `Call`, with its
--- members, and what it means goes by cases: its own refusal, the board after it, and the members of its answer. A direct
--- call's answer is made of these three, and a run of a call list uses the same three.
+-- Document 01, 'The call list' and 'The line, source 3 and the deadline': the calls. A call is a case of `Call`, with
+-- its members, and what it means goes by cases: its own refusal, the board after it, and the members of its answer. A
+-- direct call's answer is made of these three, and a run of a call list uses the same three.
 use Prim.Native.Nat.{ℕ, _+_, _^_, _<_}
 use mathlib.Core.Bool.{Bool, true, false, cond}
 use mathlib.Core.Option.{Option, none, some}

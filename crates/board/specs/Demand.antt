@@ -78,8 +78,8 @@ cyclesPassed (call ∷ calls) b = adds call b + cyclesPassed calls (after call b
 abbrev pub source3 : Board → Bool
 source3 b = bit 3 (b .controller .pending)
 
--- with a deadline d given, of the board at the start, T and the board at the end: 'the line is high exactly when T is at
--- least D, and source 3's pending bit is set exactly when it was set at the start or T is at least D'
+-- with a deadline d given, of the board at the start, T and the board at the end: 'the line is high exactly when T is
+-- at least D, and source 3's pending bit is set exactly when it was set at the start or T is at least D'
 pub record Rises (b : Board) (d t : ℕ) (end : Board) : Type 0 where
   pub line : (line end ≡ true) ↔ (d ≤ t)
   pub source : (source3 end ≡ true) ↔ ((source3 b ≡ true) ⊎ (d ≤ t))
@@ -99,7 +99,8 @@ PromiseAfter false d word b t end = StaysLow b end
 abbrev pub Promise : Board → Bool → ℕ → ℕ → Type 0
 Promise b present d word =
     sound b ≡ true → line b ≡ false → fromHost (b .clock .control) ≡ false →
-    (calls : List Call) → All PassesTime calls → PromiseAfter present d word b (cyclesPassed calls b) (afterAll calls b)
+    (calls : List Call) → All PassesTime calls →
+    PromiseAfter present d word b (cyclesPassed calls b) (afterAll calls b)
 
 -- ---- skip
 

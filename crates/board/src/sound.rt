@@ -9,7 +9,7 @@ use wide::flags::same;
 
 impl Board {
     fn sound_parts(self) -> bool
-        ensures { λ r. ⌜ (r ≡ soundParts self) × BoardFits self ⌝ }
+        ensures { λ r. ⌜ r ≡ soundParts self ⌝ }
     {
         let timers = self.timers;
         let timer_enable = self.timer_enable;

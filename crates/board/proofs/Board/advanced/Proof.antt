@@ -1,9 +1,9 @@
 -- `Board::advanced` meets its contract. Assumes nothing.
-use native.Mathlib.Omega.{arith}
 use Rattle.board.specs.Calls.{movedBoard, advancedBoard}
 use Rattle.clock.specs.Clock.{rateOf}
-use Rattle.clock.proofs.Soundness.{sound-timed}
+use Rattle.clock.proofs.Soundness.{clock-timed}
 use Rattle.board.proofs.Soundness.{sound-facts, clock-facts}
+use Rattle.board.proofs.Widths.{board-fits}
 use borrow.Author.Needs.{needs}
 use Rattle.board.proofs.Board.advanced.Statement.{statement}
 use Rattle.board.proofs.Board.advanced.Tie as tie
@@ -14,14 +14,9 @@ advance-all-requires c κs = sound-facts (c .before .args .self) (c .before .pre
 advance-requires : tie.Need-advance-requires
 advance-requires c κs =
     let s = c .before .before .before .before in
-    sound-timed (rateOf (s .args .self .clock)) (s .args .self .clock) (sound-facts (s .args .self) (s .pre) .rate)
+    clock-timed (rateOf (s .args .self .clock)) (s .args .self .clock) (sound-facts (s .args .self) (s .pre) .rate)
     (clock-facts (s .args .self)
-    (record {
-      seconds = omega (arith, s .good);
-      alarm = omega (arith, s .good);
-      shadow = omega (arith, s .good);
-      alarmShadow = omega (arith, s .good);
-    })
+    (board-fits (s .args .self) _ (s .good .0) .clock)
     (s .pre))
 
 wired-requires : tie.Need-wired-requires

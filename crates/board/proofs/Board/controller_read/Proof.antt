@@ -1,7 +1,8 @@
 -- `Board::controller_read` meets its contract. Assumes nothing.
 use mathlib.Core.Path.{sym, ap, _∙_}
 use borrow.Author.Tests.{ne-eqb}
-use Rattle.board.specs.Calls.{byteAnswer, controllerReadCall}
+use Rattle.board.specs.declared.calls.Call.the-variants.{ControllerRead}
+use Rattle.board.specs.Calls.{byteAnswer}
 use Rattle.board.proofs.Soundness.{wired-sound}
 use Rattle.board.proofs.Answers.{answer-refused, answer-accepted, accepted-sound}
 use borrow.Author.Needs.{needs}
@@ -14,7 +15,7 @@ refusal-of-requires c κs = search needs
 returns : tie.Need-returns
 returns c = ap byteAnswer
     (sym
-    (answer-refused (controllerReadCall (c .before .before .args .address)) (c .before .before .args .self) (c
+    (answer-refused (ControllerRead (c .before .before .args .address)) (c .before .before .args .self) (c
     .before .refusal-of .result)
     (c .before .refusal-of .ensures .0)
     (ne-eqb _ _ (c .if1 .taken))))
@@ -26,7 +27,7 @@ returns-2 : tie.Need-returns-2
 returns-2 c = let a = c .before .before .before .before .args in
     let z = sym (c .before .before .before .refusal-of .ensures .0) ∙ c .before .before .if1 .left in
     rw (
-      answer-accepted (controllerReadCall (a .address)) (a .self) z,
+      answer-accepted (ControllerRead (a .address)) (a .self) z,
       wired-sound (a .self) (accepted-sound (a .self) 0 z),
       c .read-of .ensures,
     )

@@ -1,7 +1,8 @@
 -- `Board::controller_write` meets its contract. Assumes nothing.
 use mathlib.Core.Path.{sym, ap, _∙_}
 use borrow.Author.Tests.{ne-eqb}
-use Rattle.board.specs.Calls.{emptyAnswer, controllerWriteCall}
+use Rattle.board.specs.declared.calls.Call.the-variants.{ControllerWrite}
+use Rattle.board.specs.Calls.{emptyAnswer}
 use Rattle.board.proofs.Answers.{answer-refused, answer-accepted}
 use borrow.Author.Needs.{needs}
 use Rattle.board.proofs.Board.controller_write.Statement.{statement}
@@ -13,7 +14,7 @@ refusal-of-requires c κs = search needs
 returns : tie.Need-returns
 returns c = ap emptyAnswer
     (sym
-    (answer-refused (controllerWriteCall (c .before .before .args .address) (c .before .before .args .value)) (c
+    (answer-refused (ControllerWrite (c .before .before .args .value) (c .before .before .args .address)) (c
     .before .before .args .self) (c .before .refusal-of .result)
     (c .before .refusal-of .ensures .0)
     (ne-eqb _ _ (c .if1 .taken))))
@@ -32,7 +33,7 @@ returns-2 c = let a = c .before .before .before .before .before .before .args in
     let z = sym (c .before .before .before .before .before .refusal-of .ensures .0)
     ∙ c .before .before .before .before .if1 .left in
     rw (
-      answer-accepted (controllerWriteCall (a .address) (a .value)) (a .self) z,
+      answer-accepted (ControllerWrite (a .value) (a .address)) (a .self) z,
       c .wired .ensures,
       c .before .with-controller .ensures,
       c .before .before .written .ensures,

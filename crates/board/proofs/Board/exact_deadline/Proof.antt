@@ -1,7 +1,7 @@
 -- `Board::exact_deadline` meets its contract. Assumes nothing.
 use Rattle.board.specs.Board.{exactDeadline}
-use native.Mathlib.Omega.{arith}
 use Rattle.board.proofs.Soundness.{sound-facts, clock-facts}
+use Rattle.board.proofs.Widths.{board-fits}
 use borrow.Author.Needs.{needs}
 use Rattle.board.proofs.Board.exact_deadline.Statement.{statement}
 use Rattle.board.proofs.Board.exact_deadline.Tie as tie
@@ -13,12 +13,7 @@ deadline-requires : tie.Need-deadline-requires
 deadline-requires c κs =
     let s = c .before .before .before in
     clock-facts (s .args .self)
-    (record {
-      seconds = omega (arith, s .good);
-      alarm = omega (arith, s .good);
-      shadow = omega (arith, s .good);
-      alarmShadow = omega (arith, s .good);
-    })
+    (board-fits (s .args .self) _ (s .good .0) .clock)
     (s .pre)
     .parts
     .subsecond

@@ -1,7 +1,7 @@
 -- `Board::host_time` meets its contract. Assumes nothing.
 use mathlib.Core.Path.{sym, ap, _∙_}
 use borrow.Author.Tests.{ne-eqb}
-use Rattle.board.specs.Calls.{refusalOf, emptyAnswer, hostTimeCall}
+use Rattle.board.specs.Calls.{refusalOf, emptyAnswer, hostTimeTo}
 use Rattle.board.proofs.Answers.{answer-refused, answer-accepted}
 use borrow.Author.Needs.{needs}
 use Rattle.board.proofs.Board.host_time.Statement.{statement}
@@ -16,7 +16,7 @@ refusal-of-requires c κs = search needs
 returns : tie.Need-returns
 returns c = ap emptyAnswer
     (sym
-    (answer-refused (hostTimeCall (c .before .before .before .args .host)) (c .before .before .before .args .self) (c
+    (answer-refused (hostTimeTo (c .before .before .before .args .host)) (c .before .before .before .args .self) (c
     .before .refusal-of .result)
     (c .before .refusal-of .ensures .0 ∙ ap (refusalOf (c .before .before .before .args .self)) (c .before .before
     .host-time-refusal .ensures))
@@ -38,7 +38,7 @@ returns-2 c = let a = c .before .before .before .before .before .before .before 
     ∙ sym (c .before .before .before .before .before .refusal-of .ensures .0)
     ∙ c .before .before .before .before .if1 .left in
     rw (
-      answer-accepted (hostTimeCall (a .host)) (a .self) z,
+      answer-accepted (hostTimeTo (a .host)) (a .self) z,
       c .wired .ensures,
       c .before .with-clock .ensures,
       c .before .before .with-host .ensures,

@@ -1,5 +1,6 @@
 -- `Board::sound` meets its contract. Assumes nothing.
 use Rattle.board.specs.Board.{sound}
+use Rattle.board.proofs.Widths.{board-fits}
 use borrow.Author.Needs.{needs}
 use Rattle.board.proofs.Board.sound.Statement.{statement}
 use Rattle.board.proofs.Board.sound.Tie as tie
@@ -21,16 +22,17 @@ both-requires c κs = search needs
 
 returns : tie.Need-returns
 unfolding sound
-returns c = (
-  rw (
-    c .both .ensures,
-    c .before .same .ensures,
-    c .before .before .line .ensures,
-    c .before .before .before .sound-parts .ensures .0,
-    c .before .before .before .before .level-of .ensures,
-  ),
-  c .before .before .before .sound-parts .ensures .1,
-)
+returns c =
+    let s = c .before .before .before .before .before .before in (
+      rw (
+        c .both .ensures,
+        c .before .same .ensures,
+        c .before .before .line .ensures,
+        c .before .before .before .sound-parts .ensures,
+        c .before .before .before .before .level-of .ensures,
+      ),
+      board-fits (s .args .self) _ (s .good .0),
+    )
 
 pub sound-spec : {M : Type 1} → statement M
 sound-spec =

@@ -1,5 +1,4 @@
 -- `Board::sound_parts` meets its contract. Assumes nothing.
-use native.Mathlib.Omega.{arith}
 use Rattle.board.specs.Board.{soundParts}
 use mathlib.Core.Bool.{and-true}
 use Rattle.board.proofs.Soundness.{latches-sound}
@@ -28,27 +27,16 @@ both-requires-3 c κs = search needs
 returns : tie.Need-returns
 unfolding soundParts
 returns c =
-    let s = c .before .before .before .before .before .before .before .before in (
-      rw (
-        latches-sound (s .args .self .latches),
-        and-true,
-        c .both3 .ensures,
-        c .before .both2 .ensures,
-        c .before .before .both .ensures,
-        c .before .before .before .sound .ensures,
-        c .before .before .before .before .sound-rate .ensures,
-        c .before .before .before .before .before .all-sound .ensures .0,
-      ),
-      record {
-        four = c .before .before .before .before .before .all-sound .ensures .1;
-        timers = c .before .before .before .before .before .all-sound .ensures .2;
-        clock = record {
-          seconds = omega (arith, s .good);
-          alarm = omega (arith, s .good);
-          shadow = omega (arith, s .good);
-          alarmShadow = omega (arith, s .good);
-        };
-      },
+    let s = c .before .before .before .before .before .before .before .before in
+    rw (
+      latches-sound (s .args .self .latches),
+      and-true,
+      c .both3 .ensures,
+      c .before .both2 .ensures,
+      c .before .before .both .ensures,
+      c .before .before .before .sound .ensures,
+      c .before .before .before .before .sound-rate .ensures,
+      c .before .before .before .before .before .all-sound .ensures,
     )
 
 pub sound-parts-spec : {M : Type 1} → statement M

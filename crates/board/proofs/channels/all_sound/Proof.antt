@@ -6,25 +6,20 @@ use native.Mathlib.Omega.{arith}
 use lib.ListN.{drop}
 use Rattle.channel.specs.Channel.{freshTimer}
 use mathlib.Core.Bool.{true, _&&_}
-use Rattle.channel.specs.Channel.{TimerFits, soundTimer}
-use Rattle.board.specs.Loops.{All, foldFrom}
-use Rattle.board.proofs.Loops.{fold-starts, fold-goes, all-starts, all-goes}
+use Rattle.channel.specs.Channel.{soundTimer}
+use Rattle.board.specs.Loops.{foldFrom}
+use Rattle.board.proofs.Loops.{fold-starts, fold-goes}
 use Rattle.board.proofs.channels.all_sound.Statement.{statement}
 use Rattle.board.proofs.channels.all_sound.Tie as tie
 
 abbrev Inv-loop : tie.InvT-loop
-Inv-loop timers all₀ i₀ all i =
-    (i ≤ 4) × (all ≡ foldFrom (λ _ h. soundTimer h) _&&_ true i (drop i timers)) × All TimerFits (drop i timers)
+Inv-loop timers all₀ i₀ all i = (i ≤ 4) × (all ≡ foldFrom (λ _ h. soundTimer h) _&&_ true i (drop i timers))
 
 abbrev μ-loop : tie.MeasureT-loop
 μ-loop timers all₀ i₀ all i = i
 
 loop-holds : tie.Need-loop-holds Inv-loop μ-loop
-loop-holds c = (
-  search needs,
-  fold-starts (λ _ h. soundTimer h) _&&_ true (c .args .t1) 4 4 (search needs),
-  all-starts TimerFits (c .args .t1) 4 (search needs),
-)
+loop-holds c = (search needs, fold-starts (λ _ h. soundTimer h) _&&_ true (c .args .t1) 4 4 (search needs))
 
 sub-i : tie.Need-sub-i Inv-loop μ-loop
 sub-i c = search needs
@@ -52,14 +47,13 @@ loop-again c =
       c .both .ensures
           ∙ fold-goes (λ _ h. soundTimer h) _&&_ true ts freshTimer (l .i)
           (c .before .sound .result) (l .all) (search needs) (search needs) (c .before .sound .ensures .0) (l .inv .1),
-      all-goes TimerFits ts freshTimer (l .i) (search needs) (search needs) (c .before .sound .ensures .1) (l .inv .2),
     )
 
 returns : tie.Need-returns Inv-loop μ-loop
 returns c =
     let l = c .before .loop in
     let z : l .i ≡ 0 = omega arith in
-    (rw z at (l .inv .1), search needs, rw z at (l .inv .2))
+    rw z at (l .inv .1)
 
 pub all-sound-spec : {M : Type 1} → statement M
 all-sound-spec =
