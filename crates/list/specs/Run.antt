@@ -7,30 +7,28 @@ use lib.Dec.{eqb}
 use Rattle.board.specs.declared.Board.{Board}
 use Rattle.board.specs.Board.{sound}
 use Rattle.board.specs.Calls.{notSound, boardAfter}
-use Rattle.format.specs.Format.{headerLength, valueLength, tagAt, answerBytes, recordOf}
-use Rattle.perform.specs.Calls.{callAt, refusalAt}
+use Rattle.format.specs.Codec.{callAt, callLength, answerRecord, refusalAt}
 use Rattle.list.specs.declared.Outcome.{Outcome}
 
 -- ---- one call
 
 -- what becomes of one call: it is done, with the board after it, the list bytes it used and its answer; or it is
 -- refused
-pub data Turn : Type 0 where
-  done : Board → ℕ → List ℕ → Turn
-  refused : ℕ → Turn
+pub data Result : Type 0 where
+  done : Board → ℕ → List ℕ → Result
+  refused : ℕ → Result
 
 -- what becomes of the call at the front of a list, with so much room for its answer
-unfoldable pub turnOf : Board → List ℕ → ℕ → Turn
-turnOf b l room =
+unfoldable pub resultOf : Board → List ℕ → ℕ → Result
+resultOf b l room =
     cond (eqb (refusalAt b l room) 0)
-    (done (boardAfter (callAt l b)) (headerLength + valueLength (tagAt l))
-    (recordOf (tagAt l) (answerBytes (tagAt l) (callAt l b .members))))
+    (done (boardAfter (callAt l) b) (callLength (callAt l)) (answerRecord (callAt l) b))
     (refused (refusalAt b l room))
 
 -- ---- a run
 
 -- the run so far after one more call; a refused call changes the refusal alone
-unfoldable pub stepped : Outcome → Turn → Outcome
+unfoldable pub stepped : Outcome → Result → Outcome
 stepped s (done b n a) =
     record {
       board = b;
@@ -59,7 +57,7 @@ unfoldable pub runOn : ℕ → List ℕ → ℕ → Outcome → List ℕ → Run
 runOn skip [] room s out = record { outcome = s; answers = out }
 runOn (suc k) (x ∷ rest) room s out = runOn k rest room s out
 runOn zero (x ∷ rest) room s out =
-    elim (turnOf (s .board) (x ∷ rest) (room - length out)) [
+    elim (resultOf (s .board) (x ∷ rest) (room - length out)) [
       | done b n a ↦ runOn (n - 1) rest room (stepped s (done b n a)) (out ++ a)
       | refused n ↦ record { outcome = stepped s (refused n); answers = out }
     ]
