@@ -79,9 +79,9 @@ use Rattle.perform.proofs.Calls.{
 }
 use Rattle.perform.proofs.Counts.{counts-none, counts-length, record-start}
 use Rattle.list.specs.declared.Outcome.{Outcome}
-use Rattle.list.specs.Run.{Turn, done, refused, turnOf, stepped}
+use Rattle.list.specs.Run.{Result, done, refused, resultOf, stepped}
 use Rattle.perform.proofs.Refusals.{Clear, clear}
-use Rattle.list.proofs.Turns.{turn-refused, turn-done, record-size, call-good}
+use Rattle.list.proofs.Results.{result-refused, result-done, record-size, call-good}
 use Rattle.list.proofs.Runs.{bytesOf, Running, Ran, stateOf, more, stops}
 
 -- a call has the bytes of its value
@@ -319,8 +319,8 @@ module _ (list buf₀ : List ℕ) (s₀ : Outcome) (buf : List ℕ) (b : Board) 
     (r : Running list buf₀ s₀ buf (stateOf b calls used written)) (inside : used < length list)
     (l : List ℕ) (rest : l ≡ drop used list) where
   -- the call at the front of what is left of the list
-  at-front : (t : Turn) → turnOf b l (length buf - written) ≡ t → turnOf b (drop used list) (length buf - written) ≡ t
-  at-front t e = ap (λ (m : List ℕ). turnOf b m (length buf - written)) (sym rest) ∙ e
+  at-front : (t : Result) → resultOf b l (length buf - written) ≡ t → resultOf b (drop used list) (length buf - written) ≡ t
+  at-front t e = ap (λ (m : List ℕ). resultOf b m (length buf - written)) (sym rest) ∙ e
 
   -- behind a call that is accepted
   pub goes-on : ((i : ℕ) → getD l i 0 < 256) → (f : Front) → Found b l (length buf - written) f → (b′ : Board) →
@@ -335,7 +335,7 @@ module _ (list buf₀ : List ℕ) (s₀ : Outcome) (buf : List ℕ) (b : Board) 
       let t = done (boardAfter (callAt l b)) (3 + valueLength (tagAt l))
       (recordOf (tagAt l) (answerBytes (tagAt l) (callAt l b .members))) in
       rw (k .length, k .size, e, ← m)
-      (more list buf₀ s₀ buf (stateOf b calls used written) r inside buf′ t (at-front t (turn-done b l room (k .none)))
+      (more list buf₀ s₀ buf (stateOf b calls used written) r inside buf′ t (at-front t (result-done b l room (k .none)))
       (p ∙ w) refl (facts-sound (boardAfter (callAt l b)) (g .facts)) (g .fits) .0)
 
   -- at a call that is refused
@@ -344,7 +344,7 @@ module _ (list buf₀ : List ℕ) (s₀ : Outcome) (buf : List ℕ) (b : Board) 
   unfolding stepped bytesOf
   ends n p q =
       stops list buf₀ s₀ buf (stateOf b calls used written) r inside buf (refused n)
-      (at-front (refused n) (turn-refused b l (length buf - written) n p q)) refl refl
+      (at-front (refused n) (result-refused b l (length buf - written) n p q)) refl refl
 
   -- the numbers of the call are inside the list and the buffer
   module _ (f : Front) (k : Found b l (length buf - written) f) where

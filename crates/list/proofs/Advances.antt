@@ -36,8 +36,8 @@ use Rattle.board.proofs.Loops.{
   given-ends,
 }
 use Rattle.board.proofs.Phases.{phase-next}
-use Rattle.perform.specs.CodeCalls.{countsAt, countsPut, countPut}
-use Rattle.perform.proofs.Counts.{counts-length, counts-goes, counts-zero, counts-over}
+use Rattle.list.specs.CodeParts.{countsAt, begunPut, countPut}
+use Rattle.list.proofs.Records.{countsPut, counts-length, counts-goes, counts-zero, counts-over}
 
 -- the channels below i are advanced
 pub record Advancing (enable c i : ℕ) (b₀ b : Board) : Type 0 where
@@ -64,10 +64,10 @@ module _ (enable c i : ℕ) (b₀ b : Board) (a : Advancing enable c i b₀ b) w
       phase-next (λ k t. advanced (bit k enable) c t) (b₀ .timers) (b .timers) i (omega (arith, h, a .four)) (a .sound)
       timers-now
 
-  -- one turn: m is the next channel advanced
-  pub turns : i < 4 → (v : Bool) → v ≡ bit i enable → (m : HardwareTimer) →
+  -- one channel more: m is the channel advanced
+  pub advances : i < 4 → (v : Bool) → v ≡ bit i enable → (m : HardwareTimer) →
       m ≡ advanced v c (getD (b .timers) i freshTimer) → Advancing enable c (i + 1) b₀ (withChannel i m b)
-  turns h v e m q =
+  advances h v e m q =
       record {
         below = omega (arith, h);
         four = a .four;
@@ -80,16 +80,16 @@ module _ (enable c i : ℕ) (b₀ b : Board) (a : Advancing enable c i b₀ b) w
             (a .now);
       }
 
-  -- one turn at a channel that does not run
+  -- one channel more that does not run
   pub passed-over : i < 4 → (v : Bool) → v ≡ bit i enable → runs v (getD (b .timers) i freshTimer) ≡ false →
       Advancing enable c (i + 1) b₀ b
   passed-over h v e n =
       let m = getD (b .timers) i freshTimer in
       let same : withChannel i m b ≡ b =
       ap (λ (ts : List HardwareTimer). withTimers ts b) (set-getD (b .timers) i freshTimer) in
-      subst (Advancing enable c (i + 1) b₀) same (turns h v e m (sym (advanced-still v c m n)))
+      subst (Advancing enable c (i + 1) b₀) same (advances h v e m (sym (advanced-still v c m n)))
 
-  -- after the last turn, and with the clock advanced
+  -- after the last channel, and with the clock advanced
   pub all-advanced : 4 ≤ i → enable ≡ b₀ .«timer_enable» → (k : Clock) →
       k ≡ advanceClock (rateOf (b .clock)) c (b .clock) → withClock k b ≡ movedBoard c b₀
   unfolding movedBoard
@@ -109,21 +109,23 @@ module _ (enable c i : ℕ) (b₀ b : Board) (a : Advancing enable c i b₀ b) w
 abbrev pub countsTo : (enable c i : ℕ) → Board → List ℕ
 countsTo enable c i b = givenTo (λ k h. matchesOf (bit k enable) c h) 0 i 0 (b .timers)
 
--- the buffer has them, in the record of a call of this tag from index at on
-abbrev pub Counted : (enable c i tag at : ℕ) → Board → List ℕ → List ℕ → Type 0
-Counted enable c i tag at b₀ buf₀ buf = buf ≡ countsPut tag at (countsTo enable c i b₀) buf₀
+-- the buffer has them, in the record of a pass from index at on, if it has counts
+abbrev pub Counted : (enable c i : ℕ) → Bool → ℕ → Board → List ℕ → List ℕ → Type 0
+Counted enable c i v at b₀ buf₀ buf = buf ≡ countsPut v at (countsTo enable c i b₀) buf₀
 
 abbrev noCounts : List ℕ
 noCounts = 0 ∷ 0 ∷ 0 ∷ 0 ∷ []
 
-pub counts-begin : (enable c tag at : ℕ) (b : Board) → length (b .timers) ≡ 4 → (l buf : List ℕ) →
-    buf ≡ countsPut tag at noCounts l → Counted enable c 0 tag at b buf buf
-counts-begin enable c tag at b n l buf e =
+-- buf₀ is the buffer that the pass begins with
+pub counts-begin : (enable c : ℕ) (v : Bool) (at : ℕ) (b : Board) → length (b .timers) ≡ 4 → (buf buf₀ : List ℕ) →
+    buf₀ ≡ begunPut v c at buf → Counted enable c 0 v at b buf₀ buf₀
+counts-begin enable c true at b n buf buf₀ e =
     rw (← given-starts (λ k h. matchesOf (bit k enable) c h) 0 0 (b .timers) n, e)
-    (sym (counts-over tag at l noCounts noCounts refl))
+    (sym (counts-over true at buf noCounts noCounts refl))
+counts-begin enable c false at b n buf buf₀ e = refl
 
-module _ (enable c i tag at : ℕ) (b₀ b : Board) (a : Advancing enable c i b₀ b) (buf₀ buf : List ℕ)
-    (k : Counted enable c i tag at b₀ buf₀ buf) where
+module _ (enable c i : ℕ) (v : Bool) (at : ℕ) (b₀ b : Board) (a : Advancing enable c i b₀ b) (buf₀ buf : List ℕ)
+    (k : Counted enable c i v at b₀ buf₀ buf) where
   abbrev counted : ℕ → HardwareTimer → ℕ
   counted j h = matchesOf (bit j enable) c h
 
@@ -131,10 +133,10 @@ module _ (enable c i tag at : ℕ) (b₀ b : Board) (a : Advancing enable c i b�
   below-four h = omega (arith, h, given-length counted 0 i 0 (b₀ .timers), a .four)
 
   -- the next count is 0 so far
-  pub next-zero : i < 4 → tag ≡ 4 → sets buf (countsAt at + 16 * i) (be 16 0) ≡ buf
+  pub next-zero : i < 4 → v ≡ true → sets buf (countsAt at + 16 * i) (be 16 0) ≡ buf
   next-zero h e =
       rw k
-      (counts-zero tag at buf₀ (countsTo enable c i b₀) i (below-four h) (given-next counted 0 i 0 (b₀ .timers)) e)
+      (counts-zero v at buf₀ (countsTo enable c i b₀) i (below-four h) (given-next counted 0 i 0 (b₀ .timers)) e)
 
   -- the next channel has not been advanced
   same-next : getD (b .timers) i freshTimer ≡ getD (b₀ .timers) i freshTimer
@@ -142,48 +144,40 @@ module _ (enable c i tag at : ℕ) (b₀ b : Board) (a : Advancing enable c i b�
       ap (λ (ts : List HardwareTimer). getD ts i freshTimer) (timers-now enable c i b₀ b a)
       ∙ next-is (λ j h. advanced (bit j enable) c h) freshTimer i 0 (b₀ .timers)
 
-  -- the next channel's count, where its bit in timer enable is v
-  count-next : i < 4 → (v : Bool) → v ≡ bit i enable → (n : ℕ) → n ≡ matchesOf v c (getD (b .timers) i freshTimer) →
+  -- the next channel's count, where its bit in timer enable is s
+  count-next : i < 4 → (s : Bool) → s ≡ bit i enable → (n : ℕ) → n ≡ matchesOf s c (getD (b .timers) i freshTimer) →
       set (countsTo enable c i b₀) i n ≡ countsTo enable c (i + 1) b₀
-  count-next h v e n q =
+  count-next h s e n q =
       given-goes counted 0 freshTimer i (b₀ .timers) (countsTo enable c i b₀) n (omega (arith, h, a .four)) refl
       (q ∙ ap (λ (s : Bool). matchesOf s c (getD (b .timers) i freshTimer)) e ∙ ap (counted i) same-next)
 
-  -- one turn: n is the next channel's count
-  pub counts-turn : i < 4 → (v : Bool) → v ≡ bit i enable → (n : ℕ) →
-      n ≡ matchesOf v c (getD (b .timers) i freshTimer) → (x buf′ : List ℕ) → x ≡ countPut tag at i n buf → buf′ ≡ x →
-      Counted enable c (i + 1) tag at b₀ buf₀ buf′
-  counts-turn h v e n q x buf′ f g =
-      g ∙ f ∙ ap (countPut tag at i n) k
-      ∙ counts-goes tag at buf₀ (countsTo enable c i b₀) i n (below-four h)
-      ∙ ap (λ (ns : List ℕ). countsPut tag at ns buf₀) (count-next h v e n q)
+  -- one channel more: n is its count
+  pub counts-next : i < 4 → (s : Bool) → s ≡ bit i enable → (n : ℕ) →
+      n ≡ matchesOf s c (getD (b .timers) i freshTimer) → (x buf′ : List ℕ) → x ≡ countPut v at i n buf → buf′ ≡ x →
+      Counted enable c (i + 1) v at b₀ buf₀ buf′
+  counts-next h s e n q x buf′ f g =
+      g ∙ f ∙ ap (countPut v at i n) k
+      ∙ counts-goes v at buf₀ (countsTo enable c i b₀) i n (below-four h)
+      ∙ ap (λ (ns : List ℕ). countsPut v at ns buf₀) (count-next h s e n q)
 
-  -- one turn at a channel that does not run: its count is 0
-  pub counts-passed : i < 4 → (v : Bool) → v ≡ bit i enable → runs v (getD (b .timers) i freshTimer) ≡ false →
-      Counted enable c (i + 1) tag at b₀ buf₀ buf
-  counts-passed h v e r =
-      let z = still-matches v c (getD (b .timers) i freshTimer) r in
+  -- one channel more that does not run: its count is 0
+  pub counts-passed : i < 4 → (s : Bool) → s ≡ bit i enable → runs s (getD (b .timers) i freshTimer) ≡ false →
+      Counted enable c (i + 1) v at b₀ buf₀ buf
+  counts-passed h s e r =
+      let z = still-matches s c (getD (b .timers) i freshTimer) r in
       let same : set (countsTo enable c i b₀) i 0 ≡ countsTo enable c i b₀ =
       ap (set (countsTo enable c i b₀) i) (sym (given-next counted 0 i 0 (b₀ .timers)))
       ∙ set-getD (countsTo enable c i b₀) i 0 in
-      k ∙ ap (λ (ns : List ℕ). countsPut tag at ns buf₀) (sym same ∙ count-next h v e 0 (sym z))
+      k ∙ ap (λ (ns : List ℕ). countsPut v at ns buf₀) (sym same ∙ count-next h s e 0 (sym z))
 
   -- the buffer keeps its length
-  pub counts-same : (l : List ℕ) → buf₀ ≡ countsPut tag at noCounts l → length buf ≡ length l
-  counts-same l e =
-      ap length k
-      ∙ counts-length tag at buf₀ (countsTo enable c i b₀)
-      ∙ ap length e
-      ∙ counts-length tag at l noCounts
+  pub counts-same : length buf ≡ length buf₀
+  counts-same = ap length k ∙ counts-length v at (countsTo enable c i b₀) buf₀
 
-  -- after the last turn
-  pub counts-end : 4 ≤ i → (l : List ℕ) → buf₀ ≡ countsPut tag at noCounts l →
-      buf ≡ countsPut tag at (matchesAll enable c (b₀ .timers)) l
-  counts-end h l e =
+  -- after the last channel
+  pub counts-end : 4 ≤ i → buf ≡ countsPut v at (matchesAll enable c (b₀ .timers)) buf₀
+  counts-end h =
       let n : i ≡ 4 = omega (arith, h, a .below) in
       let all : countsTo enable c i b₀ ≡ matchesAll enable c (b₀ .timers) =
       rw n (given-ends counted 0 4 0 (b₀ .timers) (a .four)) in
-      k ∙ ap (λ (ns : List ℕ). countsPut tag at ns buf₀) all
-      ∙ ap (countsPut tag at (matchesAll enable c (b₀ .timers))) e
-      ∙ counts-over tag at l noCounts (matchesAll enable c (b₀ .timers))
-      (sym (map-length counted 0 (b₀ .timers) ∙ a .four))
+      k ∙ ap (λ (ns : List ℕ). countsPut v at ns buf₀) all

@@ -10,127 +10,91 @@ use lib.Seq.{take-all, drop-append-le}
 use lib.Dec.{eqb}
 use borrow.Author.Tests.{eq-eqb}
 use Rattle.wide.specs.Bits.{flagOf}
-use Rattle.wide.specs.Fields.{beAt, be}
-use Rattle.clock.specs.Clock.{fromHost}
+use Rattle.wide.specs.Fields.{be}
+use Rattle.clock.specs.Clock.{rateOf, fromHost}
 use Rattle.board.specs.declared.Board.{Board}
+use Rattle.board.specs.declared.calls.Call.{Call}
+use Rattle.board.specs.Loops.{All}
 use Rattle.board.specs.Channels.{matchesAll}
 use Rattle.board.specs.Board.{BoardFits, line, exactDeadline, wordDeadline, sound}
 use Rattle.board.specs.Calls.{
-  Call,
+  effectOf,
   DirectAnswer,
   refusalOf,
   boardAfter,
-  answerOf,
   isPresent,
   orZero,
   movedBoard,
-  advanceCall,
-  hostTimeCall,
+  advanceBy,
 }
-use Rattle.board.specs.Demand.{DemandCall, advance, hostTime, after, afterAll, total, PromiseAfter}
-use Rattle.board.proofs.Soundness.{facts-sound}
-use Rattle.board.proofs.Steps.{Good, good, wired-line, call-step}
+use Rattle.board.specs.Demand.{PassesTime, after, afterAll, cyclesPassed, PromiseAfter}
+use Rattle.board.proofs.Soundness.{wired-line}
+use Rattle.board.proofs.Good.{Good, good, good-sound}
+use Rattle.board.proofs.Steps.{call-step}
 use Rattle.board.proofs.Answers.{answer-accepted}
 use Rattle.board.proofs.Demand3.{demand-3}
-use Rattle.list.specs.declared.Outcome.{Outcome}
-use Rattle.format.specs.Format.{
-  valueLength,
-  tagAt,
-  membersAt,
-  argumentsOf,
-  frameRefusal,
-  membersBytes,
-  answerBytes,
-  recordOf,
-}
-use Rattle.perform.specs.Calls.{callOf, callAt}
-use Rattle.list.specs.Run.{Turn, done, refused, turnOf, stepped, Run, runOn, nothingDone, runOf}
-use Rattle.list.specs.Demand.{FrontIs, ListIs}
+use Rattle.format.specs.Format.{membersBytes, answerBytes, recordOf}
+use Rattle.format.specs.Codec.{frameRefusal, callAt, callLength, answerRecord}
 use Rattle.format.proofs.Frames.{framed}
-use Rattle.list.proofs.Turns.{refused-numbered, done-placed, done-fits, done-answer}
+use Rattle.list.specs.declared.Outcome.{Outcome}
+use Rattle.list.specs.Run.{Result, done, refused, resultOf, stepped, Run, runOn, nothingDone, runOf}
+use Rattle.list.specs.Demand.{FrontIs, ListIs}
+use Rattle.list.proofs.Results.{refused-numbered, done-placed, done-fits}
 use Rattle.list.proofs.Runs.{go-on, stop-at}
-use Rattle.list.proofs.TwoParts.{turn-before, joined, run-keeps, two-parts}
+use Rattle.list.proofs.TwoParts.{result-before, joined, two-parts}
+use Rattle.list.proofs.Kept.{began-sound, run-keeps}
 
 -- ---- one call
 
--- the call at the front, by its tag and the members of its value
-advance-at : (tag : ℕ) (l : List ℕ) (b : Board) → tag ≡ 4 → callOf tag (argumentsOf tag l) b ≡ advanceCall (beAt l 3
-    8) b
-unfolding callOf membersAt
-advance-at tag l b e = rw e
-
-host-time-at : (tag : ℕ) (l : List ℕ) (b : Board) → tag ≡ 1 →
-    callOf tag (argumentsOf tag l) b ≡ hostTimeCall (record { seconds = beAt l 3 8; nanoseconds = beAt l 11 4 }) b
-unfolding callOf membersAt
-host-time-at tag l b e = rw e
-
 -- an accepted call of the list is the direct call
-accepted-after : (call : Board → Call) (b : Board) → sound b ≡ true → (x : Call) → x ≡ call b → x .refusal ≡ 0 →
-    boardAfter x ≡ answerOf call b .board
-accepted-after call b s x e z =
-    let r : refusalOf b (call b .refusal) ≡ 0 = rw s (sym (ap (λ (y : Call). y .refusal) e) ∙ z) in
-    ap (λ (y : Call). boardAfter y) e ∙ sym (ap (λ (y : DirectAnswer). y .board) (answer-accepted call b r))
-
--- the board of the call at the front
-front-after : (l : List ℕ) (b : Board) (a : DemandCall) → sound b ≡ true → FrontIs l a → callAt l b .refusal ≡ 0 →
-    boardAfter (callAt l b) ≡ after a b
+accepted-after : (call : Call) (b : Board) → sound b ≡ true → effectOf call b .refusal ≡ 0 →
+    boardAfter call b ≡ after call b
 unfolding after
-front-after l b (advance c) s f z =
-    accepted-after (advanceCall c) b s (callAt l b)
-    (advance-at (tagAt l) l b (f .1 .0) ∙ ap (λ (n : ℕ). advanceCall n b) (f .1 .1)) z
-front-after l b (hostTime h) s f z =
-    accepted-after (hostTimeCall h) b s (callAt l b)
-    (host-time-at (tagAt l) l b (f .1 .0)
-    ∙ ap (λ (n : ℕ). hostTimeCall (record { seconds = n; nanoseconds = beAt l 11 4 }) b) (f .1 .1 .0)
-    ∙ ap (λ (n : ℕ). hostTimeCall (record { seconds = h .seconds; nanoseconds = n }) b) (f .1 .1 .1))
-    z
-
-front-framed : (l : List ℕ) (a : DemandCall) → FrontIs l a → frameRefusal l ≡ 0
-front-framed l (advance c) f = f .0
-front-framed l (hostTime h) f = f .0
+accepted-after call b s z =
+    let r : refusalOf b (effectOf call b .refusal) ≡ 0 = rw s z in
+    sym (ap (λ (y : DirectAnswer). y .board) (answer-accepted call b r))
 
 -- where it is done
-module _ (l : List ℕ) (b : Board) (room : ℕ) where
-  done-after : (a : DemandCall) → sound b ≡ true → FrontIs l a → (b′ : Board) (n : ℕ) (x : List ℕ) →
-      turnOf b l room ≡ done b′ n x → b′ ≡ after a b
-  done-after a s f b′ n x e =
+module _ (l : List ℕ) (b : Board) (room : ℕ) (call : Call) (f : FrontIs l call) where
+  done-after : sound b ≡ true → (b′ : Board) (n : ℕ) (x : List ℕ) → resultOf b l room ≡ done b′ n x →
+      b′ ≡ after call b
+  done-after s b′ n x e =
       let p = done-placed b l room b′ n x e in
-      p .1 .1 .1 ∙ front-after l b a s f (p .0 .own)
+      p .1 .1 .1 .0 ∙ accepted-after (callAt l) b s (p .0 .own) ∙ ap (λ (a : Call). after a b) (f .1)
 
-  done-length : (b′ : Board) (n : ℕ) (x : List ℕ) → turnOf b l room ≡ done b′ n x → n ≡ 3 + valueLength (tagAt l)
-  done-length b′ n x e = done-placed b l room b′ n x e .1 .0
+  done-length : (b′ : Board) (n : ℕ) (x : List ℕ) → resultOf b l room ≡ done b′ n x → n ≡ callLength call
+  done-length b′ n x e = done-placed b l room b′ n x e .1 .0 ∙ ap callLength (f .1)
 
 -- the answer of an advance: the line, behind tag and length
-advance-line : (tag : ℕ) (ms ns : List ℕ) (v : Bool) → tag ≡ 4 → ms ≡ flagOf v ∷ ns →
-    take 4 (recordOf tag (answerBytes tag ms)) ≡ 4 ∷ 0 ∷ 65 ∷ flagOf v ∷ []
+advance-line : (ns : List ℕ) (v : Bool) → take 4 (recordOf 4 (answerBytes 4 (flagOf v ∷ ns))) ≡ 4 ∷ 0 ∷ 65 ∷ flagOf v ∷ []
 unfolding recordOf membersBytes be
-advance-line tag ms ns true e h = rw (e, h)
-advance-line tag ms ns false e h = rw (e, h)
+advance-line ns true = refl
+advance-line ns false = refl
 
 -- an advance that is done answers the line of the board that it leaves
-pub line-answered : (l : List ℕ) (b : Board) (room c : ℕ) → FrontIs l (advance c) → (b′ : Board) (n : ℕ) (x : List ℕ) →
-    turnOf b l room ≡ done b′ n x → take 4 x ≡ 4 ∷ 0 ∷ 65 ∷ flagOf (line b′) ∷ []
+pub line-answered : (l : List ℕ) (b : Board) (room c : ℕ) → FrontIs l (advanceBy c) →
+    (b′ : Board) (n : ℕ) (x : List ℕ) → resultOf b l room ≡ done b′ n x →
+    take 4 x ≡ 4 ∷ 0 ∷ 65 ∷ flagOf (line b′) ∷ []
 line-answered l b room c f b′ n x e =
-    let call = advance-at (tagAt l) l b (f .1 .0) in
-    let left = done-placed b l room b′ n x e .1 .1 .1 ∙ ap (λ (y : Call). boardAfter y) call in
-    let moved : line b′ ≡ line (movedBoard (beAt l 3 8) b) =
-    ap line left ∙ wired-line (movedBoard (beAt l 3 8) b) in
-    let ns = matchesAll (b .«timer_enable») (beAt l 3 8) (b .timers) in
-    ap (take 4) (done-answer b l room b′ n x e)
-    ∙ advance-line (tagAt l) (callAt l b .members) ns (line b′) (f .1 .0)
-    (ap (λ (y : Call). y .members) call ∙ ap (λ (v : Bool). flagOf v ∷ ns) (sym moved))
+    let p = done-placed b l room b′ n x e in
+    let left = p .1 .1 .1 .0 ∙ ap (λ (call : Call). boardAfter call b) (f .1) in
+    let moved : line b′ ≡ line (movedBoard c b) = ap line left ∙ wired-line (movedBoard c b) in
+    let ns = matchesAll (b .«timer_enable») c (b .timers) in
+    ap (take 4) (p .1 .1 .1 .1 ∙ ap (λ (call : Call). answerRecord call b) (f .1))
+    ∙ advance-line ns (line (movedBoard c b))
+    ∙ ap (λ (v : Bool). 4 ∷ 0 ∷ 65 ∷ flagOf v ∷ []) (sym moved)
 
 -- ---- the run
 
 -- it has carried out some of the calls, from the first on, and all of them where it is not refused
-record Carried (calls : List DemandCall) (s : Outcome) (r : Run) : Type 0 where
+record Carried (calls : List Call) (s : Outcome) (r : Run) : Type 0 where
   count : ℕ
   counted : r .outcome .calls ≡ s .calls + count
   board : r .outcome .board ≡ afterAll (take count calls) (s .board)
   all : r .outcome .refusal ≡ 0 → count ≡ length calls
 
 -- none of them
-none-carried : (calls : List DemandCall) (s : Outcome) (r : Run) → r .outcome .calls ≡ s .calls →
+none-carried : (calls : List Call) (s : Outcome) (r : Run) → r .outcome .calls ≡ s .calls →
     r .outcome .board ≡ s .board → (r .outcome .refusal ≡ 0 → 0 ≡ length calls) → Carried calls s r
 unfolding afterAll
 none-carried calls s r n e h = record { count = 0; counted = n ∙ sym (add-zero (s .calls)); board = e; all = h }
@@ -139,7 +103,7 @@ none-at-end : (room : ℕ) (s : Outcome) (out : List ℕ) → Carried [] s (runO
 unfolding runOn
 none-at-end room s out = none-carried [] s (record { outcome = s; answers = out }) refl refl (λ _. refl)
 
-none-refused : (calls : List DemandCall) (s : Outcome) (n : ℕ) (out : List ℕ) → eqb n 0 ≡ false →
+none-refused : (calls : List Call) (s : Outcome) (n : ℕ) (out : List ℕ) → eqb n 0 ≡ false →
     Carried calls s (record { outcome = stepped s (refused n); answers = out })
 unfolding stepped
 none-refused calls s n out h =
@@ -147,7 +111,7 @@ none-refused calls s n out h =
     (λ z. absurd (false≢true (sym h ∙ eq-eqb n 0 z)))
 
 -- one call more, ahead of those
-one-more : (a : DemandCall) (calls : List DemandCall) (s : Outcome) (b : Board) (n : ℕ) (x : List ℕ) (r : Run) →
+one-more : (a : Call) (calls : List Call) (s : Outcome) (b : Board) (n : ℕ) (x : List ℕ) (r : Run) →
     b ≡ after a (s .board) → Carried calls (stepped s (done b n x)) r → Carried (a ∷ calls) s r
 unfolding afterAll stepped
 one-more a calls s b n x r e c = record {
@@ -157,66 +121,67 @@ one-more a calls s b n x r e c = record {
   all = λ z. ap suc (c .all z);
 }
 
-done-good : (a : DemandCall) (s : Outcome) (b : Board) (n : ℕ) (x : List ℕ) → Good (s .board) →
-    b ≡ after a (s .board) → Good (stepped s (done b n x) .board)
+done-good : (rate : ℕ) (a : Call) → PassesTime a → (s : Outcome) (b : Board) (n : ℕ) (x : List ℕ) →
+    Good rate (s .board) → b ≡ after a (s .board) → Good rate (stepped s (done b n x) .board)
 unfolding stepped
-done-good a s b n x g e = subst Good (sym e) (call-step a (s .board) g .good)
+done-good rate a w s b n x g e = subst (Good rate) (sym e) (call-step a w (s .board) g .good)
 
-carried : (calls : List DemandCall) (l : List ℕ) (room : ℕ) (s : Outcome) (out : List ℕ) → Good (s .board) →
-    ListIs l calls → Carried calls s (runOn 0 l room s out)
+carried : (rate : ℕ) (calls : List Call) → All PassesTime calls → (l : List ℕ) (room : ℕ) (s : Outcome)
+    (out : List ℕ) → Good rate (s .board) → ListIs l calls → Carried calls s (runOn 0 l room s out)
 unfolding ListIs
-carried [] l room s out g e = rw e (none-at-end room s out)
-carried (a ∷ calls) l room s out g h =
-    onward (λ n o x q i. carried calls (drop n l) room o x q i) (turnOf (s .board) l (room - length out)) refl
+carried rate [] w l room s out g e = rw e (none-at-end room s out)
+carried rate (a ∷ calls) w l room s out g h =
+    onward (λ n o x q i. carried rate calls (w .1) (drop n l) room o x q i) (resultOf (s .board) l (room - length out))
+    refl
   where
     inside : 0 < length l
-    inside = omega (arith, framed l (front-framed l a (h .0)))
+    inside = omega (arith, framed l (h .0 .0))
 
     onward :
-        ((n : ℕ) (o : Outcome) (x : List ℕ) → Good (o .board) → ListIs (drop n l) calls →
+        ((n : ℕ) (o : Outcome) (x : List ℕ) → Good rate (o .board) → ListIs (drop n l) calls →
         Carried calls o (runOn 0 (drop n l) room o x)) →
-        (t : Turn) → turnOf (s .board) l (room - length out) ≡ t → Carried (a ∷ calls) s (runOn 0 l room s out)
+        (t : Result) → resultOf (s .board) l (room - length out) ≡ t → Carried (a ∷ calls) s (runOn 0 l room s out)
     onward next (refused n) e =
         subst (Carried (a ∷ calls) s) (sym (stop-at l room s out inside n e))
         (none-refused (a ∷ calls) s n out (refused-numbered (s .board) l (room - length out) n e))
     onward next (done b n x) e =
-        let q = done-after l (s .board) (room - length out) a (facts-sound (s .board) (g .facts)) (h .0) b n x e in
+        let q = done-after l (s .board) (room - length out) a (h .0) (good-sound g) b n x e in
         subst (Carried (a ∷ calls) s) (sym (go-on l room s out inside b n x e))
         (one-more a calls s b n x (runOn 0 (drop n l) room (stepped s (done b n x)) (out ++ x)) q
-        (next n (stepped s (done b n x)) (out ++ x) (done-good a s b n x g q)
+        (next n (stepped s (done b n x)) (out ++ x) (done-good rate a (w .0) s b n x g q)
         (subst (λ (k : ℕ). ListIs (drop k l) calls)
-        (sym (done-length l (s .board) (room - length out) b n x e)) (h .1))))
+        (sym (done-length l (s .board) (room - length out) a (h .0) b n x e)) (h .1))))
 
 -- a run's board is the board after the calls that it has carried out
-pub run-after : (b : Board) (l : List ℕ) (room : ℕ) (calls : List DemandCall) → BoardFits b → sound b ≡ true →
-    ListIs l calls → runOf b l room .outcome .board ≡ afterAll (take (runOf b l room .outcome .calls) calls) b
+pub run-after : (b : Board) (l : List ℕ) (room : ℕ) (calls : List Call) → All PassesTime calls → BoardFits b →
+    sound b ≡ true → ListIs l calls → runOf b l room .outcome .board ≡ afterAll (take (runOf b l room .outcome .calls) calls) b
 unfolding runOf
-run-after b l room calls f s h =
-    let c = carried calls l room (nothingDone b 0) [] (good b f s) h in
+run-after b l room calls w f s h =
+    let c = carried (rateOf (b .clock)) calls w l room (nothingDone b 0) [] (good b f s) h in
     rw s (c .board ∙ ap (λ (n : ℕ). afterAll (take n calls) b) (sym (c .counted ∙ zero-add (c .count))))
 
 -- a run that is not refused has carried out all of them
-run-all : (b : Board) (l : List ℕ) (room : ℕ) (calls : List DemandCall) → BoardFits b → sound b ≡ true →
-    ListIs l calls → runOf b l room .outcome .refusal ≡ 0 → runOf b l room .outcome .calls ≡ length calls
+run-all : (b : Board) (l : List ℕ) (room : ℕ) (calls : List Call) → All PassesTime calls → BoardFits b →
+    sound b ≡ true → ListIs l calls → runOf b l room .outcome .refusal ≡ 0 → runOf b l room .outcome .calls ≡ length calls
 unfolding runOf
-run-all b l room calls f s h z =
-    let c = carried calls l room (nothingDone b 0) [] (good b f s) h in
+run-all b l room calls w f s h z =
+    let c = carried (rateOf (b .clock)) calls w l room (nothingDone b 0) [] (good b f s) h in
     rw s (c .counted ∙ zero-add (c .count) ∙ c .all (rw s at z))
 
 -- ---- bytes behind the calls
 
 -- a run that is refused inside the calls ends there, whatever stands behind them
-ends-inside : (m : List ℕ) (calls : List DemandCall) (l : List ℕ) (room : ℕ) (s : Outcome) (out : List ℕ) →
+ends-inside : (m : List ℕ) (calls : List Call) (l : List ℕ) (room : ℕ) (s : Outcome) (out : List ℕ) →
     s .refusal ≡ 0 → ListIs l calls → (runOn 0 l room s out .outcome .refusal ≡ 0 → ⊥) →
     runOn 0 (l ++ m) room s out ≡ runOn 0 l room s out
 unfolding ListIs runOn stepped
 ends-inside m [] l room s out z e r = absurd (r (rw e z))
 ends-inside m (a ∷ calls) l room s out z h r =
     onward (λ n o x y i q. ends-inside m calls (drop n l) room o x y i q)
-    (turnOf (s .board) l (room - length out)) refl
+    (resultOf (s .board) l (room - length out)) refl
   where
     frame : frameRefusal l ≡ 0
-    frame = front-framed l a (h .0)
+    frame = h .0 .0
 
     inside : 0 < length l
     inside = omega (arith, framed l frame)
@@ -228,22 +193,29 @@ ends-inside m (a ∷ calls) l room s out z h r =
         ((n : ℕ) (o : Outcome) (x : List ℕ) → o .refusal ≡ 0 → ListIs (drop n l) calls →
         (runOn 0 (drop n l) room o x .outcome .refusal ≡ 0 → ⊥) →
         runOn 0 (drop n l ++ m) room o x ≡ runOn 0 (drop n l) room o x) →
-        (t : Turn) → turnOf (s .board) l (room - length out) ≡ t →
+        (t : Result) → resultOf (s .board) l (room - length out) ≡ t →
         runOn 0 (l ++ m) room s out ≡ runOn 0 l room s out
     onward next (refused n) e =
-        stop-at (l ++ m) room s out longer n (turn-before (s .board) l m (room - length out) frame ∙ e)
+        stop-at (l ++ m) room s out longer n (result-before (s .board) l m (room - length out) frame ∙ e)
         ∙ sym (stop-at l room s out inside n e)
     onward next (done b n x) e =
         let i = subst (λ (k : ℕ). ListIs (drop k l) calls)
-        (sym (done-length l (s .board) (room - length out) b n x e)) (h .1) in
+        (sym (done-length l (s .board) (room - length out) a (h .0) b n x e)) (h .1) in
         let g = go-on l room s out inside b n x e in
         let f = done-fits (s .board) l (room - length out) b n x e in
-        go-on (l ++ m) room s out longer b n x (turn-before (s .board) l m (room - length out) frame ∙ e)
+        go-on (l ++ m) room s out longer b n x (result-before (s .board) l m (room - length out) frame ∙ e)
         ∙ ap (λ (k : List ℕ). runOn 0 k room (stepped s (done b n x)) (out ++ x)) (drop-append-le n l m (f .1 .0))
         ∙ next n (stepped s (done b n x)) (out ++ x) refl i (λ y. r (ap (λ (q : Run). q .outcome .refusal) g ∙ y))
         ∙ sym g
 
 -- ---- a stretch of a run
+
+-- of the first elements holds what holds of all
+all-take : {A : Type 0} (P : A → Type 0) (n : ℕ) (xs : List A) → All P xs → All P (take n xs)
+all-take P zero [] h = tt
+all-take P zero (x ∷ xs) h = tt
+all-take P (suc n) [] h = tt
+all-take P (suc n) (x ∷ xs) h = (h .0, all-take P n xs (h .1))
 
 -- bytes in front of bytes
 bytes-before : (l m : List ℕ) → ((i : ℕ) → getD (l ++ m) i 0 < 256) → (i : ℕ) → getD l i 0 < 256
@@ -252,14 +224,14 @@ bytes-before (x ∷ l) m h zero = h 0
 bytes-before (x ∷ l) m h (suc i) = bytes-before l m (λ j. h (suc j)) i
 
 -- a run over a sound board is refused inside the calls: what stands behind them has no part in it
-run-ends : (b : Board) (l m : List ℕ) (room : ℕ) (calls : List DemandCall) → sound b ≡ true → ListIs l calls →
+run-ends : (b : Board) (l m : List ℕ) (room : ℕ) (calls : List Call) → sound b ≡ true → ListIs l calls →
     (runOf b l room .outcome .refusal ≡ 0 → ⊥) → runOf b (l ++ m) room ≡ runOf b l room
 unfolding runOf
 run-ends b l m room calls s h r =
     rw s (ends-inside m calls l room (nothingDone b 0) [] refl h (rw s at r))
 
 -- of a run over b whose list is `first`, `stretch` and `last`, one after another: the calls are those of the stretch
-module _ (b : Board) (first stretch last : List ℕ) (room : ℕ) (calls : List DemandCall) where
+module _ (b : Board) (first stretch last : List ℕ) (room : ℕ) (calls : List Call) where
   -- the run up to the stretch, the run up to its end, and the whole run
   abbrev pub Before : Run
   Before = runOf b first room
@@ -275,7 +247,7 @@ module _ (b : Board) (first stretch last : List ℕ) (room : ℕ) (calls : List 
   AtStart = Before .outcome .board
 
   -- the calls of the stretch that the run carries out: all of them, or those before the one that it refuses
-  abbrev pub CarriedOut : List DemandCall
+  abbrev pub CarriedOut : List Call
   CarriedOut = take (Through .outcome .calls - Before .outcome .calls) calls
 
   pub record Stretch : Type 0 where
@@ -285,7 +257,7 @@ module _ (b : Board) (first stretch last : List ℕ) (room : ℕ) (calls : List 
     pub all : Through .outcome .refusal ≡ 0 → CarriedOut ≡ calls
     -- what is promised of the deadline of the board at its start holds of them
     pub promise : PromiseAfter (isPresent (exactDeadline AtStart)) (orZero (exactDeadline AtStart))
-        (orZero (wordDeadline (exactDeadline AtStart))) AtStart (total CarriedOut AtStart) (afterAll CarriedOut AtStart)
+        (orZero (wordDeadline (exactDeadline AtStart))) AtStart (cyclesPassed CarriedOut AtStart) (afterAll CarriedOut AtStart)
     -- the whole run does the same up to there, and goes on from there over what stands behind the stretch
     pub goes-on : Through .outcome .refusal ≡ 0 →
         Whole ≡ joined Through (runOf (Through .outcome .board) last (room - length (Through .answers)))
@@ -297,9 +269,10 @@ module _ (b : Board) (first stretch last : List ℕ) (room : ℕ) (calls : List 
   Alone = runOf AtStart stretch (room - length (Before .answers))
 
   -- by parts: the run through the stretch is the run up to it, and then the stretch by itself
-  module _ (e : Through ≡ joined Before Alone) (g : Good AtStart) (h : ListIs stretch calls) where
+  module _ (e : Through ≡ joined Before Alone) (g : Good (rateOf (b .clock)) AtStart) (w : All PassesTime calls)
+      (h : ListIs stretch calls) where
     starts-sound : sound AtStart ≡ true
-    starts-sound = facts-sound AtStart (g .facts)
+    starts-sound = good-sound g
 
     counts : Alone .outcome .calls ≡ Through .outcome .calls - Before .outcome .calls
     counts = omega (arith, ap (λ (q : Run). q .outcome .calls) e)
@@ -307,33 +280,34 @@ module _ (b : Board) (first stretch last : List ℕ) (room : ℕ) (calls : List 
     ends-at : Through .outcome .board ≡ afterAll CarriedOut AtStart
     ends-at =
         ap (λ (q : Run). q .outcome .board) e
-        ∙ run-after AtStart stretch (room - length (Before .answers)) calls (g .fits) starts-sound h
+        ∙ run-after AtStart stretch (room - length (Before .answers)) calls w (g .fits) starts-sound h
         ∙ ap (λ (k : ℕ). afterAll (take k calls) AtStart) counts
 
     carries-all : Through .outcome .refusal ≡ 0 → CarriedOut ≡ calls
     carries-all z =
-        let n = run-all AtStart stretch (room - length (Before .answers)) calls (g .fits) starts-sound h
+        let n = run-all AtStart stretch (room - length (Before .answers)) calls w (g .fits) starts-sound h
         (sym (ap (λ (q : Run). q .outcome .refusal) e) ∙ z) in
         take-all (Through .outcome .calls - Before .outcome .calls) calls (omega (arith, counts, n))
 
   -- what is promised of the deadline holds of every stretch of calls 01 and 04 of a run, whatever stands before it and
   -- behind it
-  pub run-demand-3 : BoardFits b → ((i : ℕ) → getD (first ++ stretch) i 0 < 256) → ListIs stretch calls →
-      Before .outcome .refusal ≡ 0 → line AtStart ≡ false → fromHost (AtStart .clock .control) ≡ false → Stretch
-  run-demand-3 f bytes h z low o =
+  pub run-demand-3 : BoardFits b → ((i : ℕ) → getD (first ++ stretch) i 0 < 256) → All PassesTime calls →
+      ListIs stretch calls → Before .outcome .refusal ≡ 0 → line AtStart ≡ false →
+      fromHost (AtStart .clock .control) ≡ false → Stretch
+  run-demand-3 f bytes w h z low o =
       let few = bytes-before first stretch bytes in
-      let g = run-keeps b first room f few z in
+      let g = run-keeps b first room f few (began-sound b first room z) in
       let e = two-parts b first stretch room f few z in
       record {
-        board = ends-at e g h;
-        all = carries-all e g h;
-        promise = demand-3 AtStart (g .fits) (starts-sound e g h) low o CarriedOut;
+        board = ends-at e g w h;
+        all = carries-all e g w h;
+        promise = demand-3 AtStart (g .fits) (good-sound g) low o CarriedOut (all-take PassesTime _ calls w);
         goes-on = two-parts b (first ++ stretch) last room f bytes;
         ends = λ r.
             ap (λ (l : List ℕ). runOf b l room) (append-assoc first stretch last)
             ∙ two-parts b first (stretch ++ last) room f few z
             ∙ ap (joined Before)
-            (run-ends AtStart stretch last (room - length (Before .answers)) calls (facts-sound AtStart (g .facts)) h
+            (run-ends AtStart stretch last (room - length (Before .answers)) calls (good-sound g) h
             (λ y. r (ap (λ (q : Run). q .outcome .refusal) e ∙ y)))
             ∙ sym e;
       }

@@ -8,19 +8,20 @@ use native.Mathlib.Omega.{arith}
 use lib.ListN.{length, drop, length-drop, length-append, drop-of-length-le}
 use lib.Seq.{sets, length-sets, drop-drop}
 use Rattle.board.specs.declared.Board.{Board}
-use Rattle.board.specs.Board.{BoardFits, sound}
+use Rattle.clock.specs.Clock.{rateOf}
+use Rattle.board.proofs.Good.{Good}
 use Rattle.list.specs.declared.Outcome.{Outcome}
-use Rattle.list.specs.Run.{Turn, done, refused, turnOf, stepped, Run, runOn, over}
+use Rattle.list.specs.Run.{Result, done, refused, resultOf, stepped, Run, runOn, over}
 use Rattle.format.proofs.Frames.{sets-then, sets-front}
-use Rattle.list.proofs.Turns.{done-fits}
+use Rattle.list.proofs.Results.{done-fits}
 
 -- whether a call was done
-abbrev pub served : Turn → Bool
+abbrev pub served : Result → Bool
 served (done b n a) = true
 served (refused n) = false
 
 -- the bytes that it writes
-unfoldable pub bytesOf : Turn → List ℕ
+unfoldable pub bytesOf : Result → List ℕ
 bytesOf (done b n a) = a
 bytesOf (refused n) = []
 
@@ -35,12 +36,12 @@ skip-drop (suc k) [] room s out = refl
 skip-drop (suc k) (x ∷ l) room s out = skip-drop k l room s out
 
 module _ (x : ℕ) (rest : List ℕ) (room : ℕ) (s : Outcome) (out : List ℕ) where
-  pub next-done : (b : Board) (n : ℕ) (a : List ℕ) → turnOf (s .board) (x ∷ rest) (room - length out) ≡ done b n a →
+  pub next-done : (b : Board) (n : ℕ) (a : List ℕ) → resultOf (s .board) (x ∷ rest) (room - length out) ≡ done b n a →
       runOn 0 (x ∷ rest) room s out ≡ runOn (n - 1) rest room (stepped s (done b n a)) (out ++ a)
   unfolding runOn
   next-done b n a e = rw (e, runOn)
 
-  pub next-refused : (n : ℕ) → turnOf (s .board) (x ∷ rest) (room - length out) ≡ refused n →
+  pub next-refused : (n : ℕ) → resultOf (s .board) (x ∷ rest) (room - length out) ≡ refused n →
       runOn 0 (x ∷ rest) room s out ≡ record { outcome = stepped s (refused n); answers = out }
   unfolding runOn
   next-refused n e = rw (e, runOn)
@@ -51,7 +52,7 @@ drop-pred (suc n) x rest h = let e : suc n - 1 ≡ n = omega arith in ap (λ (k 
 
 -- where the call is done the run goes on behind it
 pub go-on : (l : List ℕ) (room : ℕ) (s : Outcome) (out : List ℕ) → 0 < length l → (b : Board) (n : ℕ) (a : List ℕ) →
-    turnOf (s .board) l (room - length out) ≡ done b n a →
+    resultOf (s .board) l (room - length out) ≡ done b n a →
     runOn 0 l room s out ≡ runOn 0 (drop n l) room (stepped s (done b n a)) (out ++ a)
 go-on [] room s out h b n a e = absurd (omega arith)
 go-on (x ∷ rest) room s out h b n a e =
@@ -62,7 +63,7 @@ go-on (x ∷ rest) room s out h b n a e =
 
 -- where it is refused the run ends
 pub stop-at : (l : List ℕ) (room : ℕ) (s : Outcome) (out : List ℕ) → 0 < length l → (n : ℕ) →
-    turnOf (s .board) l (room - length out) ≡ refused n →
+    resultOf (s .board) l (room - length out) ≡ refused n →
     runOn 0 l room s out ≡ record { outcome = stepped s (refused n); answers = out }
 stop-at [] room s out h n e = absurd (omega arith)
 stop-at (x ∷ rest) room s out h n e = next-refused x rest room s out n e
@@ -75,8 +76,7 @@ stateOf b calls used written = record { board = b; calls = calls; used = used; w
 
 -- the answers so far stand at the buffer's start, and the run from here on is the run from the list's start
 pub record Running (list buf₀ : List ℕ) (s₀ : Outcome) (buf : List ℕ) (s : Outcome) : Type 0 where
-  pub sound : sound (s .board) ≡ true
-  pub fits : BoardFits (s .board)
+  pub good : Good (rateOf (s₀ .board .clock)) (s .board)
   pub used-in : s .used ≤ length list
   pub calls-in : s .calls ≤ s .used
   pub out : List ℕ
@@ -92,12 +92,11 @@ Ran list buf₀ s₀ buf s =
     (s ≡ runOn 0 list (length buf₀) s₀ [] .outcome)
     × (buf ≡ over (runOn 0 list (length buf₀) s₀ [] .answers) buf₀)
 
-pub begun : (list buf₀ : List ℕ) (s₀ : Outcome) → sound (s₀ .board) ≡ true → BoardFits (s₀ .board) →
+pub begun : (list buf₀ : List ℕ) (s₀ : Outcome) → Good (rateOf (s₀ .board .clock)) (s₀ .board) →
     s₀ .used ≡ 0 → s₀ .calls ≡ 0 → s₀ .written ≡ 0 → Running list buf₀ s₀ buf₀ s₀
-begun list buf₀ s₀ i f u k w =
+begun list buf₀ s₀ g u k w =
     record {
-      sound = i;
-      fits = f;
+      good = g;
       used-in = omega arith;
       calls-in = omega arith;
       out = [];
@@ -130,10 +129,10 @@ module _ (list buf₀ : List ℕ) (s₀ : Outcome) (buf : List ℕ) (s : Outcome
       stopped list buf₀ s₀ buf s (r .out) (r .room) (r .bytes) (rw (drop-of-length-le list h) at (r .whole))
 
   -- the next call, with the room that the answers so far leave
-  abbrev Next : Turn → Type 0
-  Next t = turnOf (s .board) (drop (s .used) list) (length buf - s .written) ≡ t
+  abbrev Next : Result → Type 0
+  Next t = resultOf (s .board) (drop (s .used) list) (length buf - s .written) ≡ t
 
-  here : (t : Turn) → Next t → turnOf (s .board) (drop (s .used) list) (length buf₀ - length (r .out)) ≡ t
+  here : (t : Result) → Next t → resultOf (s .board) (drop (s .used) list) (length buf₀ - length (r .out)) ≡ t
   here t e = rw (← r .same, r .counted) e
 
   module _ (inside : s .used < length list) (buf′ : List ℕ) where
@@ -141,18 +140,17 @@ module _ (list buf₀ : List ℕ) (s₀ : Outcome) (buf : List ℕ) (s : Outcome
     left = omega (arith, length-drop (s .used) list)
 
     -- the next call is done: the run goes on, farther in the list
-    pub more : (t : Turn) → Next t → buf′ ≡ sets buf (s .written) (bytesOf t) → served t ≡ true →
-        sound (stepped s t .board) ≡ true → BoardFits (stepped s t .board) →
+    pub more : (t : Result) → Next t → buf′ ≡ sets buf (s .written) (bytesOf t) → served t ≡ true →
+        Good (rateOf (s₀ .board .clock)) (stepped s t .board) →
         Running list buf₀ s₀ buf′ (stepped s t) × (s .used < stepped s t .used)
     unfolding stepped bytesOf
-    more (refused n) e w served i f = absurd (false≢true served)
-    more (done b n a) e w served i f =
+    more (refused n) e w served g = absurd (false≢true served)
+    more (done b n a) e w served g =
         let k = done-fits (s .board) (drop (s .used) list) (length buf - s .written) b n a e in
         let d = length-drop (s .used) list in
         let l = length-append (r .out) a in (
           record {
-            sound = i;
-            fits = f;
+            good = g;
             used-in = omega arith;
             calls-in = omega arith;
             out = r .out ++ a;
@@ -170,7 +168,7 @@ module _ (list buf₀ : List ℕ) (s₀ : Outcome) (buf : List ℕ) (s : Outcome
         )
 
     -- the next call is refused: the run has stopped
-    pub stops : (t : Turn) → Next t → buf′ ≡ sets buf (s .written) (bytesOf t) → served t ≡ false →
+    pub stops : (t : Result) → Next t → buf′ ≡ sets buf (s .written) (bytesOf t) → served t ≡ false →
         Ran list buf₀ s₀ buf′ (stepped s t)
     unfolding stepped bytesOf
     stops (done b n a) e w served = absurd (true≢false served)

@@ -80,7 +80,7 @@ use Rattle.board.specs.RegisterWrites.{timerWritten, clockWritten, writtenAt}
 use Rattle.registers.specs.Calls.{addressRefusal, readCall, writeCall}
 use Rattle.format.specs.Format.{membersAt, frameRefusal, membersBytes, recordOf}
 use Rattle.perform.specs.Calls.{callOf, refusalAt}
-use Rattle.list.specs.Run.{turnOf, stepped, Run, runOn, runOf}
+use Rattle.list.specs.Run.{resultOf, stepped, Run, runOn, runOf}
 
 -- ---- boards
 
@@ -308,5 +308,5 @@ unfolding
     lowestFrom controllerWritten pendingCleared mapFrom foldFrom line exactDeadline wired soundParts sound answerOf
     freshOf movedBoard advancedBoard timerWord clockWord liveWord readLive readCountHigh readChannel secondsLatched
     readLow readHigh readAt timerWritten clockWritten writtenAt addressRefusal membersAt frameRefusal membersBytes
-    recordOf callOf refusalAt turnOf stepped runOn runOf
+    recordOf callOf refusalAt resultOf stepped runOn runOf
 settings-hold = refl

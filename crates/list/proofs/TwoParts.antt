@@ -11,21 +11,20 @@ use borrow.Author.Tests.{eq-eqb}
 use Rattle.wide.proofs.Choices.{either}
 use Rattle.board.specs.declared.Board.{Board}
 use Rattle.board.specs.Board.{BoardFits, sound}
-use Rattle.board.proofs.Soundness.{facts-sound}
-use Rattle.board.proofs.Steps.{Good, good}
+use Rattle.clock.specs.Clock.{rateOf}
+use Rattle.board.proofs.Good.{Good, good, good-sound}
 use Rattle.list.specs.declared.Outcome.{Outcome}
-use Rattle.format.specs.Format.{frameRefusal}
-use Rattle.list.specs.Run.{Turn, done, refused, turnOf, stepped, Run, runOn, nothingDone, runOf, over}
-use Rattle.perform.specs.Calls.{refusalAt}
-use Rattle.format.proofs.Frames.{tag-before, frame-before, arguments-before}
-use Rattle.list.proofs.Turns.{refused-numbered, done-placed, done-fits, step-good}
+use Rattle.format.specs.Codec.{frameRefusal, refusalAt}
+use Rattle.list.specs.Run.{Result, done, refused, resultOf, stepped, Run, runOn, nothingDone, runOf, over}
+use Rattle.format.proofs.Frames.{frame-before, call-before}
+use Rattle.list.proofs.Results.{refused-numbered, done-placed, done-fits, step-good}
 use Rattle.list.proofs.Runs.{next-done, next-refused}
 
 -- ---- bytes behind a call have no part in it
 
-pub turn-before : (b : Board) (l m : List ℕ) (room : ℕ) → frameRefusal l ≡ 0 → turnOf b (l ++ m) room ≡ turnOf b l room
-unfolding turnOf refusalAt
-turn-before b l m room e = rw (frame-before l e m, arguments-before l e m, tag-before l e m, e)
+pub result-before : (b : Board) (l m : List ℕ) (room : ℕ) → frameRefusal l ≡ 0 → resultOf b (l ++ m) room ≡ resultOf b l room
+unfolding resultOf refusalAt
+result-before b l m room e = rw (frame-before l e m, call-before l e m, e)
 
 -- ---- the first part
 
@@ -40,12 +39,12 @@ module _ (m : List ℕ) (room : ℕ) where
   first-part (suc k) [] s out h z = absurd (omega arith)
   first-part (suc k) (x ∷ l) s out h z = first-part k l s out (omega arith) z
   first-part zero (x ∷ l) s out h z =
-      onward (λ k o a. first-part k l o a) (turnOf (s .board) (x ∷ l) (room - length out)) refl
+      onward (λ k o a. first-part k l o a) (resultOf (s .board) (x ∷ l) (room - length out)) refl
     where
       onward :
           ((k : ℕ) (o : Outcome) (a : List ℕ) → k ≤ length l → runOn k l room o a .outcome .refusal ≡ 0 →
           runOn k (l ++ m) room o a ≡ runOn 0 m room (runOn k l room o a .outcome) (runOn k l room o a .answers)) →
-          (t : Turn) → turnOf (s .board) (x ∷ l) (room - length out) ≡ t →
+          (t : Result) → resultOf (s .board) (x ∷ l) (room - length out) ≡ t →
           runOn 0 ((x ∷ l) ++ m) room s out
           ≡ runOn 0 m room (runOn 0 (x ∷ l) room s out .outcome) (runOn 0 (x ∷ l) room s out .answers)
       onward next (refused n) e =
@@ -56,7 +55,7 @@ module _ (m : List ℕ) (room : ℕ) where
           let p = done-placed (s .board) (x ∷ l) (room - length out) b n a e in
           let f = done-fits (s .board) (x ∷ l) (room - length out) b n a e in
           let g = next-done x l room s out b n a e in
-          next-done x (l ++ m) room s out b n a (turn-before (s .board) (x ∷ l) m (room - length out) (p .0 .frame) ∙ e)
+          next-done x (l ++ m) room s out b n a (result-before (s .board) (x ∷ l) m (room - length out) (p .0 .frame) ∙ e)
           ∙ next (n - 1) (stepped s (done b n a)) (out ++ a) (omega arith)
           (sym (ap (λ (q : Run). q .outcome .refusal) g) ∙ z)
           ∙ ap (λ (q : Run). runOn 0 m room (q .outcome) (q .answers)) (sym g)
@@ -87,7 +86,7 @@ from-start q z =
     (sym z))
 
 module _ (p : Run) (room : ℕ) where
-  step-behind : (s : Outcome) (t : Turn) →
+  step-behind : (s : Outcome) (t : Result) →
       stepped (behind (p .outcome) s) t ≡ behind (p .outcome) (stepped s t)
   unfolding stepped
   step-behind s (done b n a) =
@@ -106,7 +105,7 @@ module _ (p : Run) (room : ℕ) where
   second-part (suc k) [] s out = refl
   second-part (suc k) (x ∷ l) s out = second-part k l s out
   second-part zero (x ∷ l) s out =
-      onward (λ k o a. second-part k l o a) (turnOf (s .board) (x ∷ l) (room - length (p .answers) - length out)) refl
+      onward (λ k o a. second-part k l o a) (resultOf (s .board) (x ∷ l) (room - length (p .answers) - length out)) refl
     where
       less : room - length (p .answers ++ out) ≡ room - length (p .answers) - length out
       less = omega (arith, length-append (p .answers) out)
@@ -115,17 +114,17 @@ module _ (p : Run) (room : ℕ) where
           ((k : ℕ) (o : Outcome) (a : List ℕ) →
           runOn k l room (behind (p .outcome) o) (p .answers ++ a)
           ≡ joined p (runOn k l (room - length (p .answers)) o a)) →
-          (t : Turn) → turnOf (s .board) (x ∷ l) (room - length (p .answers) - length out) ≡ t →
+          (t : Result) → resultOf (s .board) (x ∷ l) (room - length (p .answers) - length out) ≡ t →
           runOn 0 (x ∷ l) room (behind (p .outcome) s) (p .answers ++ out)
           ≡ joined p (runOn 0 (x ∷ l) (room - length (p .answers)) s out)
       onward next (refused n) e =
           next-refused x l room (behind (p .outcome) s) (p .answers ++ out) n
-          (ap (turnOf (s .board) (x ∷ l)) less ∙ e)
+          (ap (resultOf (s .board) (x ∷ l)) less ∙ e)
           ∙ ap (λ (o : Outcome). record { outcome = o; answers = p .answers ++ out }) (step-behind s (refused n))
           ∙ ap (joined p) (sym (next-refused x l (room - length (p .answers)) s out n e))
       onward next (done b n a) e =
           next-done x l room (behind (p .outcome) s) (p .answers ++ out) b n a
-          (ap (turnOf (s .board) (x ∷ l)) less ∙ e)
+          (ap (resultOf (s .board) (x ∷ l)) less ∙ e)
           ∙ ap (λ (o : Outcome). runOn (n - 1) l room o ((p .answers ++ out) ++ a)) (step-behind s (done b n a))
           ∙ ap (runOn (n - 1) l room (behind (p .outcome) (stepped s (done b n a))))
           (append-assoc (p .answers) out a)
@@ -136,7 +135,7 @@ module _ (p : Run) (room : ℕ) where
 
 module _ (P : Board → Type 0)
     (step : (l : List ℕ) → ((i : ℕ) → getD l i 0 < 256) → (s : Outcome) → P (s .board) → (room : ℕ) →
-    P (stepped s (turnOf (s .board) l room) .board)) where
+    P (stepped s (resultOf (s .board) l room) .board)) where
   pub run-invariant : (k : ℕ) (l : List ℕ) (room : ℕ) (s : Outcome) (out : List ℕ) → ((i : ℕ) → getD l i 0 < 256) →
       P (s .board) → P (runOn k l room s out .outcome .board)
   unfolding runOn
@@ -144,12 +143,12 @@ module _ (P : Board → Type 0)
   run-invariant (suc k) [] room s out h g = g
   run-invariant (suc k) (x ∷ l) room s out h g = run-invariant k l room s out (λ i. h (suc i)) g
   run-invariant zero (x ∷ l) room s out h g =
-      onward (λ k o a. run-invariant k l room o a (λ i. h (suc i))) (turnOf (s .board) (x ∷ l) (room - length out))
+      onward (λ k o a. run-invariant k l room o a (λ i. h (suc i))) (resultOf (s .board) (x ∷ l) (room - length out))
       refl
     where
       onward :
           ((k : ℕ) (o : Outcome) (a : List ℕ) → P (o .board) → P (runOn k l room o a .outcome .board)) →
-          (t : Turn) → turnOf (s .board) (x ∷ l) (room - length out) ≡ t →
+          (t : Result) → resultOf (s .board) (x ∷ l) (room - length out) ≡ t →
           P (runOn 0 (x ∷ l) room s out .outcome .board)
       onward next (refused n) e =
           rw (next-refused x l room s out n e) (rw e at (step (x ∷ l) h s g (room - length out)))
@@ -158,18 +157,10 @@ module _ (P : Board → Type 0)
           (next (n - 1) (stepped s (done b n a)) (out ++ a)
           (rw e at (step (x ∷ l) h s g (room - length out))))
 
--- a sound board stays sound
-pub run-good : (k : ℕ) (l : List ℕ) (room : ℕ) (s : Outcome) (out : List ℕ) → ((i : ℕ) → getD l i 0 < 256) →
-    Good (s .board) → Good (runOn k l room s out .outcome .board)
-run-good = run-invariant Good step-good
-
--- so does a whole run that is not refused, for its board was sound
-pub run-keeps : (b : Board) (l : List ℕ) (room : ℕ) → BoardFits b → ((i : ℕ) → getD l i 0 < 256) →
-    runOf b l room .outcome .refusal ≡ 0 → Good (runOf b l room .outcome .board)
-unfolding runOf
-run-keeps b l room f bytes z =
-    either (sound b) (λ s. rw s (run-good 0 l room (nothingDone b 0) [] bytes (good b f s)))
-    (λ s. let one : _≡_ {A = ℕ} 1 0 = rw s at z in absurd (omega arith))
+-- a good board stays good
+pub run-good : (rate : ℕ) (k : ℕ) (l : List ℕ) (room : ℕ) (s : Outcome) (out : List ℕ) →
+    ((i : ℕ) → getD l i 0 < 256) → Good rate (s .board) → Good rate (runOn k l room s out .outcome .board)
+run-good rate = run-invariant (Good rate) (step-good rate)
 
 -- ---- the whole
 
@@ -187,7 +178,7 @@ module _ (b : Board) (l m : List ℕ) (room : ℕ) (f : BoardFits b) (bytes : (i
       let p = runOn 0 l room (nothingDone b 0) [] in
       let q = p .outcome in
       let kept : sound (q .board) ≡ true =
-      facts-sound (q .board) (run-good 0 l room (nothingDone b 0) [] bytes (good b f s) .facts) in
+      good-sound (run-good (rateOf (b .clock)) 0 l room (nothingDone b 0) [] bytes (good b f s)) in
       first-part m room 0 l (nothingDone b 0) [] (omega arith) z
       ∙ sym (ap (λ (o : Outcome). runOn 0 m room o (p .answers)) (from-start q z))
       ∙ sym (ap (runOn 0 m room (behind q (nothingDone (q .board) 0))) (append-nil (p .answers)))

@@ -1,10 +1,11 @@
--- Not document 01's sentences: what the code computes of one call of a run, and the steps in which it writes the call's
--- record. The rules are `effectOf` of the board and `answerRecord` of crates/format; proofs/Parts.antt and
--- proofs/Records.antt show that these are they.
+-- Not document 01's sentences: what the code makes of the call at the front of a list, and the steps in which it writes
+-- the call's record. The rules are `refusalAt`, `effectOf` and `answerRecord`; the proofs show that these are they.
 use Prim.Native.Nat.{ℕ, _+_, _*_}
 use mathlib.Core.Path.{_≡_}
 use mathlib.Core.List.{List, [], _∷_, _++_}
 use mathlib.Core.Bool.{Bool, true, false}
+use mathlib.Core.Option.{none, some}
+use lib.Dec.{eqb}
 use lib.Seq.{sets}
 use Rattle.wide.specs.Fields.{be}
 use Rattle.clock.specs.declared.HostTime.{HostTime as HostTimeOf}
@@ -24,45 +25,145 @@ use Rattle.board.specs.declared.calls.Call.the-variants.{
   ControllerWrite,
   Output,
 }
+use Rattle.board.specs.Registers.{base}
 use Rattle.board.specs.Fields.{withClock, withController}
-use Rattle.board.specs.Calls.{effectOf}
+use Rattle.board.specs.Calls.{effectOf, advanceBy, skipLength}
 use Rattle.format.specs.Format.{answerLength, answerBytes, valueBytes}
-use Rattle.format.specs.Codec.{tagOf}
+use Rattle.format.specs.Codec.{callAt, refusalAt, tagOf}
 use Rattle.format.specs.CodeAnswers.{headerBytes, wides}
+use Rattle.list.specs.declared.parts.Step.{Step}
+use Rattle.list.specs.declared.parts.Step.the-variants.{
+  Refused,
+  Read as ReadStep,
+  Write as WriteStep,
+  Pass,
+  HostTime as HostTimeStep,
+  Stay,
+  Deadline as DeadlineStep,
+  Source as SourceStep,
+  ControllerRead as ControllerReadStep,
+  ControllerWrite as ControllerWriteStep,
+  Output as OutputStep,
+}
 use Rattle.list.specs.declared.parts.Changes.{Changes}
 
+-- ---- the step that the run makes of the call at the front
+
+-- a register of this offset is read, or a byte written to it
+pub record Reads (call : Call) (offset : ℕ) : Type 0 where
+  pub address : ℕ
+  pub call : call ≡ Read address
+  pub offset : offset ≡ address + base
+
+pub record Writes (call : Call) (byte offset : ℕ) : Type 0 where
+  pub address : ℕ
+  pub call : call ≡ Write byte address
+  pub offset : offset ≡ address + base
+
+-- cycles pass: of an advance, or of a skip that makes one
+abbrev pub Passes : Call → Board → Bool → ℕ → Type 0
+Passes call b true c = call ≡ advanceBy c
+Passes call b false c = (call ≡ Skip) × (skipLength b ≡ some c)
+
+-- the call that a step is of
+abbrev pub Makes : Call → Board → Step → Type 0
+Makes call b (Refused refusal) = ⊥
+Makes call b (ReadStep offset) = Reads call offset
+Makes call b (WriteStep byte offset) = Writes call byte offset
+Makes call b (Pass counted c) = Passes call b counted c
+Makes call b (HostTimeStep nanoseconds seconds) = call ≡ HostTime nanoseconds seconds
+Makes call b Stay = (call ≡ Skip) × (skipLength b ≡ none)
+Makes call b DeadlineStep = call ≡ Deadline
+Makes call b (SourceStep number level) = call ≡ Source number level
+Makes call b (ControllerReadStep address) = call ≡ ControllerRead address
+Makes call b (ControllerWriteStep byte address) = call ≡ ControllerWrite byte address
+Makes call b OutputStep = call ≡ Output
+
+-- the step of a skip
+abbrev pub SkipIs : Board → Step → Type 0
+SkipIs b (Refused refusal) = (refusal ≡ effectOf Skip b .refusal) × (eqb refusal 0 ≡ false)
+SkipIs b (ReadStep offset) = ⊥
+SkipIs b (WriteStep byte offset) = ⊥
+SkipIs b (Pass counted c) = (effectOf Skip b .refusal ≡ 0) × ((counted ≡ false) × (skipLength b ≡ some c))
+SkipIs b (HostTimeStep nanoseconds seconds) = ⊥
+SkipIs b Stay = (effectOf Skip b .refusal ≡ 0) × (skipLength b ≡ none)
+SkipIs b DeadlineStep = ⊥
+SkipIs b (SourceStep number level) = ⊥
+SkipIs b (ControllerReadStep address) = ⊥
+SkipIs b (ControllerWriteStep byte address) = ⊥
+SkipIs b OutputStep = ⊥
+
+-- a call that is accepted, and its step
+pub record Accepts (b : Board) (l : List ℕ) (room : ℕ) (step : Step) : Type 0 where
+  pub accepted : refusalAt b l room ≡ 0
+  pub makes : Makes (callAt l) b step
+
+-- the step of the call at the front, with so much room for its answer
+abbrev pub StepIs : Board → List ℕ → ℕ → Step → Type 0
+StepIs b l room (Refused refusal) = (refusal ≡ refusalAt b l room) × (eqb refusal 0 ≡ false)
+StepIs b l room (ReadStep offset) = Accepts b l room (ReadStep offset)
+StepIs b l room (WriteStep byte offset) = Accepts b l room (WriteStep byte offset)
+StepIs b l room (Pass counted c) = Accepts b l room (Pass counted c)
+StepIs b l room (HostTimeStep nanoseconds seconds) = Accepts b l room (HostTimeStep nanoseconds seconds)
+StepIs b l room Stay = Accepts b l room Stay
+StepIs b l room DeadlineStep = Accepts b l room DeadlineStep
+StepIs b l room (SourceStep number level) = Accepts b l room (SourceStep number level)
+StepIs b l room (ControllerReadStep address) = Accepts b l room (ControllerReadStep address)
+StepIs b l room (ControllerWriteStep byte address) = Accepts b l room (ControllerWriteStep byte address)
+StepIs b l room OutputStep = Accepts b l room OutputStep
+
 -- ---- the calls that change host time or the controller at most
+
+-- the call of such a step; of another it is a skip here
+abbrev pub otherCall : Step → Call
+otherCall (Refused refusal) = Skip
+otherCall (ReadStep offset) = Skip
+otherCall (WriteStep byte offset) = Skip
+otherCall (Pass counted c) = Skip
+otherCall (HostTimeStep nanoseconds seconds) = HostTime nanoseconds seconds
+otherCall Stay = Skip
+otherCall DeadlineStep = Deadline
+otherCall (SourceStep number level) = Source number level
+otherCall (ControllerReadStep address) = ControllerRead address
+otherCall (ControllerWriteStep byte address) = ControllerWrite byte address
+otherCall OutputStep = Output
 
 -- a board with another host time and another controller
 abbrev pub withChanges : HostTimeOf → IrqController → Board → Board
 withChanges h q b = withController q (withClock (withHost h (b .clock)) b)
 
--- what such a call changes, and its answer
+-- what a call changes, and its answer
 abbrev pub ChangesAre : Call → Board → Changes → Type 0
 ChangesAre call b c =
     (withChanges (c .host) (c .controller) b ≡ effectOf call b .board)
     × (valueBytes (c .answer) ≡ answerBytes (tagOf call) (effectOf call b .members))
 
--- the others have an arm of the run
-abbrev pub Changed : Call → Board → Changes → Type 0
-Changed (HostTime nanoseconds seconds) b c = ChangesAre (HostTime nanoseconds seconds) b c
-Changed (Read address) b c = Unit {0}
-Changed (Write byte address) b c = Unit {0}
-Changed (Advance cycles) b c = Unit {0}
-Changed Deadline b c = ChangesAre Deadline b c
-Changed Skip b c = Unit {0}
-Changed (Source number level) b c = ChangesAre (Source number level) b c
-Changed (ControllerRead address) b c = ChangesAre (ControllerRead address) b c
-Changed (ControllerWrite byte address) b c = ChangesAre (ControllerWrite byte address) b c
-Changed Output b c = ChangesAre Output b c
+-- what such a step changes
+abbrev pub Changed : Step → Board → Changes → Type 0
+Changed (Refused refusal) b c = Unit {0}
+Changed (ReadStep offset) b c = Unit {0}
+Changed (WriteStep byte offset) b c = Unit {0}
+Changed (Pass counted n) b c = Unit {0}
+Changed (HostTimeStep nanoseconds seconds) b c = ChangesAre (HostTime nanoseconds seconds) b c
+Changed Stay b c = skipLength b ≡ none → ChangesAre Skip b c
+Changed DeadlineStep b c = ChangesAre Deadline b c
+Changed (SourceStep number level) b c = ChangesAre (Source number level) b c
+Changed (ControllerReadStep address) b c = ChangesAre (ControllerRead address) b c
+Changed (ControllerWriteStep byte address) b c = ChangesAre (ControllerWrite byte address) b c
+Changed OutputStep b c = ChangesAre Output b c
 
 -- ---- the record of an advance or a skip, by whether it has counts
+
+-- the call of a pass
+abbrev pub passCall : Bool → ℕ → Call
+passCall true c = advanceBy c
+passCall false c = Skip
 
 -- where the counts go in a record from index at on: behind tag, length and line
 abbrev pub countsAt : ℕ → ℕ
 countsAt at = at + 4
 
--- ahead of the advance: the counts, or the cycles passed
+-- ahead of the advance: counts of 0, or the cycles passed
 abbrev pub begunPut : Bool → ℕ → ℕ → List ℕ → List ℕ
 begunPut true c at buf = sets buf (countsAt at) (wides (0 ∷ 0 ∷ 0 ∷ 0 ∷ []))
 begunPut false c at buf = sets buf (at + 3) (be 8 c)

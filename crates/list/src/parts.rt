@@ -13,17 +13,40 @@ ghost use Rattle.board.specs.Board.{sound};
 ghost use Rattle.format.specs.Format.{answerBytes, valueBytes, recordOf};
 ghost use Rattle.format.specs.Codec.{tagOf, callLength, recordLength};
 ghost use Rattle.format.specs.CodeDecode.{firstRefusal};
-ghost use Rattle.list.specs.CodeParts.{Changed, begunPut, countPut, passedPut, otherPut};
+ghost use Rattle.list.specs.CodeParts.{StepIs, SkipIs, Changed, otherCall, passCall};
+ghost use Rattle.list.specs.CodeParts.{begunPut, countPut, passedPut, otherPut};
 use board::Board;
 use board::calls::Call;
-use channel::Cycles;
 use clock::HostTime;
 use controller::IrqController;
+use controller::SourceNumber;
 use format::Answer;
 use format::Decoded;
+use regmap::Registers;
 use wide::fields;
 use wide::flags::flag;
 use wide::number::Wide;
+
+// What a run does with the call at the front of its list.
+pub enum Step {
+    // The call is refused.
+    Refused(u8),
+    // An offset.
+    Read(u32),
+    // A byte and an offset.
+    Write(u8, u32),
+    // Cycles pass: whether they are an advance's, whose compare points are counted, or a skip's; and how many.
+    Pass(bool, u64),
+    // Nanoseconds and seconds.
+    HostTime(u32, u64),
+    // A skip that makes no advance.
+    Stay,
+    Deadline,
+    Source(SourceNumber, u8),
+    ControllerRead(u32),
+    ControllerWrite(u8, u32),
+    Output,
+}
 
 // What a call changes that changes host time or the controller at most, and its answer.
 pub struct Changes {
@@ -38,8 +61,10 @@ const COUNTS: usize = format::HEADER_LENGTH + 1;
 
 const SKIP_LINE: usize = format::HEADER_LENGTH + 8;
 
-// The refusal of a call that is refused: a skip's own comes before that of the room.
-pub fn first_refusal(board: Board, front: Decoded) -> u8
+// ---- the step
+
+// The refusal of a call that its bytes or the room refuse: a skip's own comes before that of the room.
+fn first_refusal(board: Board, front: Decoded) -> u8
     requires { ⌜ sound board ≡ true ⌝ }
     ensures { λ r. ⌜ r ≡ firstRefusal board front ⌝ }
 {
@@ -54,16 +79,58 @@ pub fn first_refusal(board: Board, front: Decoded) -> u8
     front.refusal
 }
 
-// Host time, deadline, source, and the controller's calls.
-pub fn changes_of(board: Board, call: Call) -> Changes
+// A skip: refused, an advance, or none.
+fn skip_step(board: Board) -> Step
     requires { ⌜ sound board ≡ true ⌝ }
-    ensures { λ r. ⌜ Changed call board r ⌝ }
+    ensures { λ r. ⌜ SkipIs board r ⌝ }
+{
+    let skip = board.skip_length();
+    if skip.refusal != 0 {
+        return Step::Refused(skip.refusal);
+    }
+    if skip.made {
+        let cycles = skip.cycles;
+        return Step::Pass(false, cycles.0);
+    }
+    Step::Stay
+}
+
+// The step of the call at the front, with so much room for its answer.
+pub fn step_of(board: Board, rest: &[u8], room: usize) -> Step
+    requires { ⌜ sound board ≡ true ⌝ }
+    ensures { λ r. ⌜ StepIs board (now (rest .entry)) room r ⌝ }
+{
+    let front = format::decode(rest, room);
+    if front.refusal != 0 {
+        return Step::Refused(first_refusal(board, front));
+    }
+    let call = front.call;
+    match call {
+        Call::HostTime(nanoseconds, seconds) => Step::HostTime(nanoseconds, seconds),
+        Call::Read(address) => Step::Read(address as u32 + Registers::BASE),
+        Call::Write(byte, address) => Step::Write(byte, address as u32 + Registers::BASE),
+        Call::Advance(cycles) => Step::Pass(true, cycles.0),
+        Call::Deadline => Step::Deadline,
+        Call::Skip => skip_step(board),
+        Call::Source(number, level) => Step::Source(number, level),
+        Call::ControllerRead(address) => Step::ControllerRead(address),
+        Call::ControllerWrite(byte, address) => Step::ControllerWrite(byte, address),
+        Call::Output => Step::Output,
+    }
+}
+
+// ---- the calls that change host time or the controller at most
+
+// What such a step changes.
+pub fn changes_of(board: Board, step: Step) -> Changes
+    requires { ⌜ sound board ≡ true ⌝ }
+    ensures { λ r. ⌜ Changed step board r ⌝ }
 {
     let clock = board.clock;
     let host = clock.host;
     let controller = board.controller;
-    match call {
-        Call::HostTime(nanoseconds, seconds) => Changes {
+    match step {
+        Step::HostTime(nanoseconds, seconds) => Changes {
             host: HostTime {
                 seconds,
                 nanoseconds,
@@ -71,22 +138,22 @@ pub fn changes_of(board: Board, call: Call) -> Changes
             controller,
             answer: Answer::Empty,
         },
-        Call::Source(number, level) => Changes {
+        Step::Source(number, level) => Changes {
             host,
             controller: controller::with_source(controller, number, level == 1),
             answer: Answer::Empty,
         },
-        Call::ControllerRead(address) => Changes {
+        Step::ControllerRead(address) => Changes {
             host,
             controller,
             answer: Answer::Byte(controller::read_of(controller, address)),
         },
-        Call::ControllerWrite(byte, address) => Changes {
+        Step::ControllerWrite(byte, address) => Changes {
             host,
             controller: controller::written(controller, address, byte),
             answer: Answer::Empty,
         },
-        Call::Output => {
+        Step::Output => {
             let o = controller::output_of(controller);
             Changes {
                 host,
@@ -94,7 +161,7 @@ pub fn changes_of(board: Board, call: Call) -> Changes
                 answer: Answer::Pair(flag(o.valid), o.number.0),
             }
         }
-        Call::Deadline => {
+        Step::Deadline => {
             let members = board.deadline_members();
             let exact = members.exact;
             let word = members.word;
@@ -107,27 +174,57 @@ pub fn changes_of(board: Board, call: Call) -> Changes
         _ => Changes {
             host,
             controller,
-            answer: Answer::Empty,
+            answer: Answer::Skip(
+                0,
+                flag(controller::level_of(controller, Board::LINE_SOURCE)),
+            ),
         },
     }
 }
 
-// ---- lengths
-
-// The list bytes that a call uses.
-pub fn call_length(call: Call) -> usize
-    ensures { λ r. ⌜ r ≡ callLength call ⌝ }
+// The tag of such a step's call.
+fn tag_of(step: Step) -> u8
+    ensures { λ r. ⌜ r ≡ tagOf (otherCall step) ⌝ }
 {
-    let lengths = format::lengths_of(format::tag_of(call));
+    match step {
+        Step::HostTime(nanoseconds, seconds) => 1,
+        Step::Deadline => 5,
+        Step::Source(number, level) => 7,
+        Step::ControllerRead(address) => 8,
+        Step::ControllerWrite(byte, address) => 9,
+        Step::Output => 10,
+        _ => 6,
+    }
+}
+
+// The list bytes that such a step's call uses.
+pub fn call_length(step: Step) -> usize
+    ensures { λ r. ⌜ r ≡ callLength (otherCall step) ⌝ }
+{
+    let lengths = format::lengths_of(tag_of(step));
     format::HEADER_LENGTH + lengths.value
 }
 
 // The bytes of the record of its answer.
-pub fn record_length(call: Call) -> usize
-    ensures { λ r. ⌜ r ≡ recordLength call ⌝ }
+pub fn record_length(step: Step) -> usize
+    ensures { λ r. ⌜ r ≡ recordLength (otherCall step) ⌝ }
 {
-    let lengths = format::lengths_of(format::tag_of(call));
+    let lengths = format::lengths_of(tag_of(step));
     format::HEADER_LENGTH + lengths.answer
+}
+
+// The list bytes that an advance or a skip uses.
+pub fn pass_length(counted: bool) -> usize
+    ensures { λ r. ⌜ r ≡ callLength (passCall counted 0) ⌝ }
+{
+    if counted { 11 } else { 3 }
+}
+
+// The bytes of the record of its answer.
+pub fn pass_record(counted: bool) -> usize
+    ensures { λ r. ⌜ r ≡ recordLength (passCall counted 0) ⌝ }
+{
+    if counted { 68 } else { 12 }
 }
 
 // ---- records, from index at on
@@ -142,14 +239,14 @@ pub fn put_byte(buf: &mut [u8], at: usize, byte: u8)
 }
 
 // What an advance or a skip puts ahead of it: counts of 0 of the one, the cycles of the other.
-pub fn put_begun(buf: &mut [u8], at: usize, counted: bool, cycles: Cycles)
+pub fn put_begun(buf: &mut [u8], at: usize, counted: bool, cycles: u64)
     requires { ⌜ (counted ≡ true → at + 68 ≤ length (now buf)) × (at + 12 ≤ length (now buf)) ⌝ }
-    ensures { λ _. ⌜ now (buf .exit) ≡ begunPut counted (cycles .0) at (now (buf .entry)) ⌝ }
+    ensures { λ _. ⌜ now (buf .exit) ≡ begunPut counted cycles at (now (buf .entry)) ⌝ }
 {
     if counted {
         format::put_no_counts(buf, at + COUNTS);
     } else {
-        fields::put(buf, at + format::HEADER_LENGTH, cycles.0, 8);
+        fields::put(buf, at + format::HEADER_LENGTH, cycles, 8);
     }
 }
 
@@ -179,11 +276,11 @@ pub fn put_passed(buf: &mut [u8], at: usize, counted: bool, line: bool)
 }
 
 // The record of another call.
-pub fn put_other(buf: &mut [u8], at: usize, call: Call, answer: Answer)
+pub fn put_other(buf: &mut [u8], at: usize, step: Step, answer: Answer)
     requires { ⌜ at + 3 + length (valueBytes answer) ≤ length (now buf) ⌝ }
-    ensures { λ _. ⌜ now (buf .exit) ≡ otherPut (tagOf call) at (valueBytes answer) (now (buf .entry)) ⌝ }
+    ensures { λ _. ⌜ now (buf .exit) ≡ otherPut (tagOf (otherCall step)) at (valueBytes answer) (now (buf .entry)) ⌝ }
 {
-    let tag = format::tag_of(call);
+    let tag = tag_of(step);
     let lengths = format::lengths_of(tag);
     format::put_header(buf, at, tag, lengths.answer);
     format::put_value(buf, at + format::HEADER_LENGTH, answer);
