@@ -19,6 +19,7 @@ use Rattle.board.specs.declared.Latch.{Latch}
 use Rattle.board.specs.declared.Latch.the-variants.{Empty}
 use Rattle.board.specs.declared.Latches.{Latches}
 use Rattle.board.specs.declared.Board.{Board}
+use Rattle.board.specs.declared.calls.Call.the-variants.{Read as ReadCall}
 use Rattle.board.specs.Fields.{withClock, withLatches, countLatch}
 use Rattle.board.specs.Board.{heldOf, heldValue}
 use Rattle.board.specs.Registers.{
@@ -38,7 +39,7 @@ use Rattle.board.specs.Registers.{
 }
 use Rattle.board.specs.RegisterWords.{timerWord, liveWord}
 use Rattle.regmap.proofs.Ranges.{inside, below, bounds}
-use Rattle.registers.specs.declared.reads.Reading.{Reading}
+use Rattle.registers.specs.declared.reads.LatchedReading.{LatchedReading}
 use Rattle.board.specs.RegisterReads.{
   Read,
   readByte,
@@ -53,7 +54,7 @@ use Rattle.board.specs.RegisterReads.{
   readHigh,
   readAt,
 }
-use Rattle.registers.specs.Calls.{readCall}
+use Rattle.board.specs.Calls.{effectOf}
 use Rattle.registers.specs.CodeReads.{
   channelIndex,
   atCountLow,
@@ -116,10 +117,10 @@ check-flags k =
 -- ---- a read at an offset
 
 -- what a read gives, by its reading
-abbrev given : Board → Reading → Read
+abbrev given : Board → LatchedReading → Read
 given b r = record { board = afterReading r b; byte = r .byte }
 
-cond-given : (b : Board) (v : Bool) (x y : Reading) {p q : Read} → p ≡ given b x → q ≡ given b y →
+cond-given : (b : Board) (v : Bool) (x y : LatchedReading) {p q : Read} → p ≡ given b x → q ≡ given b y →
     cond v p q ≡ given b (cond v x y)
 cond-given b true x y e f = e
 cond-given b false x y e f = f
@@ -132,10 +133,10 @@ module _ (o : ℕ) (b : Board) where
   shared = timerWord (registerOf o) (b .«timer_enable») (b .timers)
 
   -- the reading by latches that are filled
-  abbrev by : Latches → Reading
+  abbrev by : Latches → LatchedReading
   by ls = readingBy timer shared (b .clock) ls o
 
-  abbrev live : Latches → Reading
+  abbrev live : Latches → LatchedReading
   live ls = liveReading timer shared (checkAlarm (rateOf (b .clock)) (b .clock)) (b .clock .alarm .pending) ls o
 
   abbrev full : Latches
@@ -292,8 +293,8 @@ module _ (o : ℕ) (b : Board) where
 
 -- the call
 pub read-parts : (address : ℕ) (b : Board) →
-    (readCall address b .board ≡ afterReading (offsetReading (address + base) b) b)
-    × (readCall address b .members ≡ offsetReading (address + base) b .byte ∷ [])
+    (effectOf (ReadCall address) b .board ≡ afterReading (offsetReading (address + base) b) b)
+    × (effectOf (ReadCall address) b .members ≡ offsetReading (address + base) b .byte ∷ [])
 read-parts address b =
     let e = read-at-parts (address + base) b in
     (ap (λ (r : Read). r .board) e, ap (λ (r : Read). r .byte ∷ []) e)

@@ -1,40 +1,51 @@
--- A read and a write keep a sound board sound, and its words words. Assumes nothing.
-use Prim.Native.Nat.{ℕ, _+_, _<_}
+-- 'Every call keeps a sound board sound', of its rate, and its words words: a read and a write, then every call, and
+-- what a direct call answers. Assumes nothing.
+use Prim.Native.Nat.{ℕ, _+_, _^_, _<_}
 use native.Mathlib.Nat.{mod-lt}
 use native.Mathlib.Omega.{arith}
-use mathlib.Core.Path.{_≡_, _∙_}
-use mathlib.Core.Bool.{true, _&&_}
+use mathlib.Core.Path.{_≡_, refl, subst⁻¹, _∙_}
+use mathlib.Core.Bool.{Bool, true, false, _&&_}
 use lib.Dec.{eqb}
-use lib.ListN.{length, length-set}
+use lib.ListN.{length-set}
 use Rattle.wide.specs.Bits.{bit}
-use Rattle.wide.proofs.Choices.{choose}
+use Rattle.wide.specs.Words.{lowWord, highWord}
+use Rattle.wide.proofs.Choices.{choose, either}
+use Rattle.channel.specs.declared.HardwareTimer.{HardwareTimer}
 use Rattle.channel.specs.Channel.{freshTimer}
-use Rattle.channel.specs.Registers.{byteWritten}
+use Rattle.channel.specs.Registers.{countLowAt, countHighAt, byteWritten}
+use Rattle.channel.proofs.Sound.{GoodTimer, fresh-timer-good, flags-good, byte-good}
 use Rattle.clock.specs.declared.Clock.{Clock}
-use Rattle.clock.specs.Clock.{rateOf, checkAlarm}
+use Rattle.clock.specs.Clock.{rateOf, timeSeconds, checkAlarm}
 use Rattle.clock.specs.Registers.{mergeByte}
 use Rattle.clock.specs.Sound.{soundRate}
-use Rattle.clock.proofs.Rate.{Rate, three-rate, at-rate, check-rate}
+use Rattle.clock.proofs.Rate.{Rate, three-rate}
 use Rattle.clock.proofs.Soundness.{
-  Sound,
-  facts-sound as clock-sound,
-  sound-fits,
-  check-sound,
-  control-sound,
-  seconds-sound,
-  alarm-bytes-sound,
-  enable-sound,
-  acknowledge-sound,
+  GoodClock,
+  check-good,
+  control-good,
+  seconds-good,
+  alarm-bytes-good,
+  enable-good,
+  acknowledge-good,
 }
-use Rattle.board.specs.declared.Latches.{Latches}
+use Rattle.board.specs.declared.Latch.{Latch}
+use Rattle.board.specs.declared.Latch.the-variants.{Empty, Held}
 use Rattle.board.specs.declared.Board.{Board}
-use Rattle.board.specs.Loops.{All}
-use Rattle.board.specs.Fields.{withLatches}
-use Rattle.board.specs.Board.{wired}
-use Rattle.board.proofs.Loops.{map-length, map-all}
-use Rattle.board.proofs.Soundness.{facts-sound, clock-facts}
-use Rattle.board.proofs.Steps.{Good, wired-level}
-use Rattle.board.proofs.Kept.{Keeps}
+use Rattle.board.specs.declared.calls.Call.{Call}
+use Rattle.board.specs.declared.calls.Call.the-variants.{
+  HostTime,
+  Read,
+  Write,
+  Advance,
+  Deadline,
+  Skip,
+  Source,
+  ControllerRead,
+  ControllerWrite,
+  Output,
+}
+use Rattle.board.specs.Fields.{channelAt, withChannel, countLatch, withCountLatch, withClockLatches}
+use Rattle.board.specs.Board.{heldOf, LatchFits, CountFits, BoardFits, sound}
 use Rattle.board.specs.Registers.{
   base,
   timerEnableAt,
@@ -46,6 +57,7 @@ use Rattle.board.specs.Registers.{
   alarmHighAt,
   alarmEnableAt,
   clockAckAt,
+  inRegister,
   inTimers,
   inClock,
   inChannels,
@@ -54,163 +66,248 @@ use Rattle.board.specs.Registers.{
   channelOf,
   placeOf,
 }
-use Rattle.board.specs.RegisterReads.{checked, readAt}
-use Rattle.board.specs.RegisterWrites.{clearedBy, timerWritten, clockWritten, writtenAt}
-use Rattle.registers.specs.Calls.{readCall, writeCall}
-use Rattle.registers.proofs.Cases.{read-cases}
-use Rattle.registers.proofs.Rate.{written-rate}
-use Rattle.registers.proofs.Channels.{
-  GoodTimer,
-  set-all,
-  all-good,
-  good-sound,
-  good-fits,
-  cleared-good,
-  byte-written-good,
+use Rattle.board.specs.RegisterReads.{
+  Read as ByteRead,
+  readLive,
+  freed,
+  readCountHigh,
+  readChannel,
+  secondsLatched,
+  readLow,
+  readHigh,
+  readAt,
 }
+use Rattle.board.specs.RegisterWrites.{clearedBy, acknowledged, timerWritten, clockWritten, writtenAt}
+use Rattle.board.specs.Calls.{CallFits, answerOf}
+use Rattle.board.proofs.Loops.{map-length, map-all}
+use Rattle.board.proofs.Good.{
+  GoodParts,
+  Good,
+  good,
+  good-parts,
+  parts-good,
+  own-parts,
+  at-rate,
+  timers-parts,
+  enable-parts,
+  clock-parts,
+  latches-parts,
+}
+use Rattle.board.proofs.Kept.{
+  Keeps,
+  host-time-keeps,
+  advance-keeps,
+  deadline-keeps,
+  skip-keeps,
+  source-keeps,
+  controller-read-keeps,
+  controller-write-keeps,
+  output-keeps,
+  answer-good,
+  answer-kept,
+}
+use Rattle.board.proofs.Answers.{answer-refused}
+use Rattle.registers.proofs.Lists.{all-get, all-set}
 
--- ---- all of soundness but the level of source 3, which the end of a call sets
+-- ---- the latches
 
--- a clock is sound at a rate of a sound board
-abbrev SoundAt : ℕ → Clock → Type 0
-SoundAt rate k = (soundRate rate ≡ true) × Sound rate k
+high-word : (n : ℕ) → n < 2 ^ 64 → highWord n < 2 ^ 32
+high-word n h = omega arith
 
-record Unwired (b : Board) : Type 0 where
-  four : length (b .timers) ≡ 4
-  timers : All GoodTimer (b .timers)
-  enable : b .«timer_enable» < 16
-  clock : SoundAt (rateOf (b .clock)) (b .clock)
+seconds-word : (rate : ℕ) (k : Clock) → timeSeconds rate k < 2 ^ 64
+unfolding timeSeconds
+seconds-word rate k = omega arith
 
-good-unwired : (b : Board) → Good b → Unwired b
-good-unwired b g =
-    record {
-      four = g .fits .four;
-      timers = all-good 0 (b .timers) (g .facts .timers) (g .fits .timers);
-      enable = g .facts .enable;
-      clock = (g .facts .rate, clock-facts b (g .fits .clock) (facts-sound b (g .facts)));
-    }
+freed-fits : (offset : ℕ) (l : Latch) → LatchFits l → LatchFits (freed offset l)
+freed-fits offset l h = choose LatchFits (eqb (byteOf offset) 3) (λ _. omega arith) (λ _. h)
 
-unwired-good : (b : Board) → Unwired b → Good (wired b)
-unfolding wired
-unwired-good b p =
-    record {
-      fits = record {
-        four = p .four;
-        timers = good-fits (b .timers) (p .timers);
-        clock = sound-fits (rateOf (b .clock)) (b .clock) (p .clock .1);
-      };
-      facts = record {
-        timers = good-sound 0 (b .timers) (p .timers);
-        enable = p .enable;
-        rate = p .clock .0;
-        clock = clock-sound (rateOf (b .clock)) (b .clock) (p .clock .1);
-        level = wired-level b;
-      };
-    }
+module _ {rate : ℕ} {b : Board} (p : GoodParts rate b) where
+  channel-good : (n : ℕ) → GoodTimer (channelAt n b)
+  channel-good n = all-get GoodTimer freshTimer fresh-timer-good n (b .timers) (p .timers)
 
--- the latches have no part in it
-latches-unwired : (b : Board) (ls : Latches) → Unwired b → Unwired (withLatches ls b)
-latches-unwired b ls p = record { four = p .four; timers = p .timers; enable = p .enable; clock = p .clock }
+  count-fits : (n : ℕ) → LatchFits (countLatch n b)
+  count-fits n = all-get CountFits (record { high = Empty }) (omega arith) n (b .latches .counts) (p .latches .counts)
+
+  count-parts : (n : ℕ) (l : Latch) → LatchFits l → GoodParts rate (withCountLatch n l b)
+  count-parts n l h =
+      latches-parts p _
+      (record {
+        four = length-set (b .latches .counts) n (record { high = l }) ∙ p .latches .four;
+        counts = all-set CountFits (record { high = l }) h n (b .latches .counts) (p .latches .counts);
+        low = p .latches .low;
+        high = p .latches .high;
+      })
+
+  seconds-parts : (low high : Latch) → LatchFits low → LatchFits high → GoodParts rate (withClockLatches low high b)
+  seconds-parts low high l h =
+      latches-parts p _ (record { four = p .latches .four; counts = p .latches .counts; low = l; high = h })
 
 -- ---- a read
 
--- the alarm check
-check-kept : (k : Clock) → SoundAt (rateOf k) k →
-    SoundAt (rateOf (checkAlarm (rateOf k) k)) (checkAlarm (rateOf k) k)
-check-kept k s =
-    at-rate SoundAt k (checkAlarm (rateOf k) k) (check-rate (rateOf k) k)
-    (s .0, check-sound (rateOf k) k (s .1 .parts))
+module _ (rate offset : ℕ) where
+  abbrev Kept : ByteRead → Type 0
+  Kept r = GoodParts rate (r .board)
 
-checked-unwired : (b : Board) → Unwired b → Unwired (checked b)
-checked-unwired b p =
-    record { four = p .four; timers = p .timers; enable = p .enable; clock = check-kept (b .clock) (p .clock) }
+  -- by the live register, behind the alarm check
+  live-kept : {b : Board} → GoodParts rate b → Kept (readLive offset b)
+  unfolding readLive
+  live-kept {b} p =
+      clock-parts p _
+      (subst⁻¹ (λ (n : ℕ). GoodClock rate (checkAlarm n (b .clock))) (p .clock .parts .own)
+      (check-good rate (b .clock) (p .clock .parts)))
+
+  count-high-kept : {b : Board} → GoodParts rate b → Kept (readCountHigh offset b)
+  unfolding readCountHigh
+  count-high-kept {b} p =
+      let l = countLatch (channelOf offset) b in
+      choose Kept (heldOf l)
+      (λ _. count-parts p (channelOf offset) (freed offset l) (freed-fits offset l (count-fits p (channelOf offset))))
+      (λ _. live-kept p)
+
+  channel-kept : {b : Board} → GoodParts rate b → Kept (readChannel offset b)
+  unfolding readChannel
+  channel-kept {b} p =
+      let counter = channelAt (channelOf offset) b .counter in
+      choose Kept (eqb (placeOf offset) countLowAt)
+      (λ _. live-kept
+      (count-parts p (channelOf offset) (Held (highWord counter))
+      (high-word counter (channel-good p (channelOf offset) .fits .counter))))
+      (λ _. choose Kept (inRegister countHighAt (placeOf offset)) (λ _. count-high-kept p) (λ _. live-kept p))
+
+  latched-kept : {b : Board} → GoodParts rate b → GoodParts rate (secondsLatched offset b)
+  unfolding secondsLatched
+  latched-kept {b} p =
+      let s = timeSeconds (rateOf (b .clock)) (b .clock) in
+      choose (GoodParts rate) (eqb offset secondsLowAt)
+      (λ _. seconds-parts p (Held (lowWord s)) (Held (highWord s)) (omega arith)
+      (high-word s (seconds-word (rateOf (b .clock)) (b .clock))))
+      (λ _. p)
+
+  low-kept : {b : Board} → GoodParts rate b → Kept (readLow offset b)
+  unfolding readLow
+  low-kept {b} p =
+      let ls = b .latches in
+      choose Kept (heldOf (ls .low))
+      (λ _. seconds-parts p (freed offset (ls .low)) (ls .high) (freed-fits offset (ls .low) (p .latches .low))
+      (p .latches .high))
+      (λ _. live-kept p)
+
+  high-kept : {b : Board} → GoodParts rate b → Kept (readHigh offset b)
+  unfolding readHigh
+  high-kept {b} p =
+      let ls = b .latches in
+      choose Kept (heldOf (ls .high))
+      (λ _. seconds-parts p (ls .low) (freed offset (ls .high)) (p .latches .low)
+      (freed-fits offset (ls .high) (p .latches .high)))
+      (λ _. live-kept p)
+
+  read-kept : {b : Board} → GoodParts rate b → Kept (readAt offset b)
+  unfolding readAt
+  read-kept p =
+      choose Kept (inRegister secondsLowAt offset) (λ _. low-kept (latched-kept p))
+      (λ _. choose Kept (inRegister secondsHighAt offset) (λ _. high-kept p)
+      (λ _. choose Kept (inChannels offset) (λ _. channel-kept p)
+      (λ _. live-kept p)))
 
 -- ---- a write
 
-module _ (i v : ℕ) (four : i < 4) (byte : v < 256) (k : Clock) (s : SoundAt (rateOf k) k) where
-  -- at the rate before it
-  abbrev S : Clock → Type 0
-  S = Sound (rateOf k)
+cleared-good : (clear : Bool) (h : HardwareTimer) → GoodTimer h → GoodTimer (clearedBy clear h)
+cleared-good clear h g = choose GoodTimer clear (λ _. flags-good h g false (h .armed)) (λ _. g)
 
-  r : Rate (rateOf k)
-  r = three-rate (rateOf k) (s .0)
+-- to the clock, by its own rate
+module _ (i v : ℕ) (four : i < 4) (byte : v < 256) (k : Clock) (known : soundRate (rateOf k) ≡ true)
+    (g : GoodClock (rateOf k) k) where
+  abbrev P : Clock → Type 0
+  P = GoodClock (rateOf k)
 
-  written-sound : (register : ℕ) → S (clockWritten register i v k)
+  clock-written-good : (register : ℕ) → P (clockWritten register i v k)
   unfolding clockWritten
-  written-sound register =
-      choose S (eqb register clockControlAt) (λ _. control-sound (rateOf k) r i v k (s .1))
-      (λ _. choose S (eqb register secondsLowAt)
-      (λ _. seconds-sound (rateOf k) r (i + 4) v (omega arith) byte k (s .1))
-      (λ _. choose S (eqb register secondsHighAt)
-      (λ _. seconds-sound (rateOf k) r i v (omega arith) byte k (s .1))
-      (λ _. choose S (eqb register alarmLowAt)
-      (λ _. alarm-bytes-sound (rateOf k) r (i + 4) v (omega arith) byte k (s .1))
-      (λ _. choose S (eqb register alarmHighAt)
-      (λ _. alarm-bytes-sound (rateOf k) r i v (omega arith) byte k (s .1))
-      (λ _. choose S (eqb register alarmEnableAt) (λ _. enable-sound (rateOf k) i v k (s .1))
-      (λ _. choose S (eqb register clockAckAt) (λ _. acknowledge-sound (rateOf k) i v k (s .1))
-      (λ _. s .1)))))))
+  clock-written-good register =
+      choose P (eqb register clockControlAt) (λ _. control-good (rateOf k) r i v k g)
+      (λ _. choose P (eqb register secondsLowAt)
+      (λ _. seconds-good (rateOf k) r (i + 4) v (omega arith) byte k g)
+      (λ _. choose P (eqb register secondsHighAt)
+      (λ _. seconds-good (rateOf k) r i v (omega arith) byte k g)
+      (λ _. choose P (eqb register alarmLowAt)
+      (λ _. alarm-bytes-good (rateOf k) r (i + 4) v (omega arith) byte k g)
+      (λ _. choose P (eqb register alarmHighAt)
+      (λ _. alarm-bytes-good (rateOf k) r i v (omega arith) byte k g)
+      (λ _. choose P (eqb register alarmEnableAt) (λ _. enable-good (rateOf k) i v k g)
+      (λ _. choose P (eqb register clockAckAt) (λ _. acknowledge-good (rateOf k) i v k g)
+      (λ _. g)))))))
+    where
+      r : Rate (rateOf k)
+      r = three-rate (rateOf k) known
 
-  clock-written-sound : (register : ℕ) → SoundAt (rateOf (clockWritten register i v k)) (clockWritten register i v k)
-  clock-written-sound register =
-      at-rate SoundAt k (clockWritten register i v k) (written-rate register i v k (r .positive))
-      (s .0, written-sound register)
+module _ (v : ℕ) (byte : v < 256) (b : Board) (p : GoodParts (rateOf (b .clock)) b) where
+  abbrev Q : Board → Type 0
+  Q = GoodParts (rateOf (b .clock))
 
-module _ (v : ℕ) (byte : v < 256) (b : Board) (p : Unwired b) where
-  timer-unwired : (register i : ℕ) → Unwired (timerWritten register i v b)
+  timer-written-kept : (register i : ℕ) → Q (timerWritten register i v b)
   unfolding timerWritten
-  timer-unwired register i =
-      choose Unwired (eqb register timerEnableAt)
-      (λ _. record {
-        four = p .four;
-        timers = p .timers;
-        enable = mod-lt (mergeByte i v (b .«timer_enable»)) (omega arith);
-        clock = p .clock;
-      })
-      (λ _. choose Unwired (eqb register timerAckAt && eqb i 3)
-      (λ _. record {
-        four = map-length (λ k h. clearedBy (bit k v) h) 0 (b .timers) ∙ p .four;
-        timers =
-            map-all GoodTimer (λ k h. clearedBy (bit k v) h) (λ k h. cleared-good (bit k v) h) 0 (b .timers)
-            (p .timers);
-        enable = p .enable;
-        clock = p .clock;
-      })
+  timer-written-kept register i =
+      choose Q (eqb register timerEnableAt)
+      (λ _. enable-parts p _ (mod-lt (mergeByte i v (b .«timer_enable»)) (omega arith)))
+      (λ _. choose Q (eqb register timerAckAt && eqb i 3)
+      (λ _. timers-parts p (acknowledged v (b .timers))
+      (map-length (λ k h. clearedBy (bit k v) h) 0 (b .timers) ∙ p .four)
+      (map-all GoodTimer (λ k h. clearedBy (bit k v) h) (λ k. cleared-good (bit k v)) 0 (b .timers) (p .timers)))
       (λ _. p))
 
-  written-unwired : (offset : ℕ) → Unwired (writtenAt offset v b)
+  channel-written-kept : (register i n : ℕ) → Q (withChannel n (byteWritten register i v (channelAt n b)) b)
+  channel-written-kept register i n =
+      let h = byteWritten register i v (channelAt n b) in
+      timers-parts p _ (length-set (b .timers) n h ∙ p .four)
+      (all-set GoodTimer h (byte-good (channelAt n b) (channel-good p n) register i v byte) n (b .timers) (p .timers))
+
+  written-kept : (offset : ℕ) → Q (writtenAt offset v b)
   unfolding writtenAt
-  written-unwired offset =
-      choose Unwired (inTimers offset) (λ _. timer-unwired (registerOf offset) (byteOf offset))
-      (λ _. choose Unwired (inClock offset)
-      (λ _. record {
-        four = p .four;
-        timers = p .timers;
-        enable = p .enable;
-        clock = clock-written-sound (byteOf offset) v four byte (b .clock) (p .clock) (registerOf offset);
-      })
-      (λ _. choose Unwired (inChannels offset)
-      (λ _. record {
-        four = length-set (b .timers) (channelOf offset) _ ∙ p .four;
-        timers =
-            set-all GoodTimer (byteWritten (registerOf (placeOf offset)) (byteOf offset) v)
-            (byte-written-good (registerOf (placeOf offset)) (byteOf offset) v four byte) freshTimer (channelOf offset)
-            (b .timers) (p .timers);
-        enable = p .enable;
-        clock = p .clock;
-      })
+  written-kept offset =
+      choose Q (inTimers offset) (λ _. timer-written-kept (registerOf offset) (byteOf offset))
+      (λ _. choose Q (inClock offset)
+      (λ _. clock-parts p _
+      (clock-written-good (byteOf offset) v (mod-lt offset (omega arith)) byte (b .clock) (p .known) (p .clock)
+      (registerOf offset)))
+      (λ _. choose Q (inChannels offset)
+      (λ _. channel-written-kept (registerOf (placeOf offset)) (byteOf offset) (channelOf offset))
       (λ _. p)))
-    where
-      four : byteOf offset < 4
-      four = mod-lt offset (omega arith)
 
 -- ---- the calls
 
-pub read-keeps : (address : ℕ) → Keeps (readCall address)
-read-keeps address b g z =
-    unwired-good (readAt (address + base) b .board)
-    (read-cases Unwired latches-unwired checked-unwired (address + base) b (good-unwired b g))
+pub read-keeps : (address : ℕ) → Keeps (Read address)
+read-keeps address rate b f g z = parts-good (read-kept rate (address + base) (good-parts g))
 
-pub write-keeps : (address v : ℕ) → v < 256 → Keeps (writeCall address v)
-write-keeps address v byte b g z =
-    unwired-good (writtenAt (address + base) v b) (written-unwired v byte b (good-unwired b g) (address + base))
+pub write-keeps : (byte address : ℕ) → Keeps (Write byte address)
+write-keeps byte address rate b f g z =
+    at-rate g (parts-good (written-kept byte (f .0) b (own-parts g) (address + base)))
+
+pub call-keeps : (call : Call) → Keeps call
+call-keeps (HostTime nanoseconds seconds) =
+    host-time-keeps (record { seconds = seconds; nanoseconds = nanoseconds })
+call-keeps (Read address) = read-keeps address
+call-keeps (Write byte address) = write-keeps byte address
+call-keeps (Advance c) = advance-keeps (c .0)
+call-keeps Deadline = deadline-keeps
+call-keeps Skip = skip-keeps
+call-keeps (Source number level) = source-keeps (number .0) level
+call-keeps (ControllerRead address) = controller-read-keeps address
+call-keeps (ControllerWrite byte address) = controller-write-keeps byte address
+call-keeps Output = output-keeps
+
+-- ---- the answer of a direct call
+
+module _ (call : Call) (b : Board) (c : CallFits call) (f : BoardFits b) where
+  -- the board is the one given, or a good one of its rate
+  answered : (P : Board → Type 0) → P b → ((y : Board) → Good (rateOf (b .clock)) y → P y) → P (answerOf call b .board)
+  answered P p q =
+      either (sound b) (λ s. q _ (answer-good call (call-keeps call) (rateOf (b .clock)) b c (good b f s)))
+      (λ s. rw (answer-refused call b 1 (rw s) refl) p)
+
+  pub call-sound : sound b ≡ true → sound (answerOf call b .board) ≡ true
+  call-sound = answer-kept call (call-keeps call) b c f
+
+  pub answer-fits : BoardFits (answerOf call b .board)
+  answer-fits = answered BoardFits f (λ _ g. g .fits)
+
+  pub answer-rate : rateOf (answerOf call b .board .clock) ≡ rateOf (b .clock)
+  answer-rate = answered (λ (y : Board). rateOf (y .clock) ≡ rateOf (b .clock)) refl (λ _ g. g .own)

@@ -33,7 +33,7 @@ use Rattle.board.specs.Registers.{
 }
 use Rattle.board.specs.RegisterWords.{timerWord}
 use Rattle.regmap.proofs.Ranges.{above, bounds, after-seconds}
-use Rattle.registers.specs.declared.reads.Reading.{Reading}
+use Rattle.registers.specs.declared.reads.LatchedReading.{LatchedReading}
 use Rattle.registers.specs.CodeReads.{
   channelIndex,
   atCountLow,
@@ -163,4 +163,4 @@ module _ (o : ℕ) (p : plainAt o ≡ true) where
       )
 
   pub plain-latches : (b : Board) → offsetReading o b .latches ≡ b .latches
-  plain-latches b = ap (λ (r : Reading). r .latches) (plain-reading b)
+  plain-latches b = ap (λ (r : LatchedReading). r .latches) (plain-reading b)

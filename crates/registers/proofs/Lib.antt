@@ -1,8 +1,6 @@
 pub mod Timing
 pub mod Latches
-mod Channels
-mod Cases
-pub mod Rate
+mod Lists
 pub mod Kept
 pub mod CodeReads
 mod Settings

@@ -24,7 +24,7 @@ use Rattle.board.specs.Board.{heldOf, line, wired, sound}
 use Rattle.board.proofs.Soundness.{sound-facts}
 use Rattle.board.specs.Registers.{registerOf, byteOf, placeOf}
 use Rattle.board.specs.RegisterWords.{timerWord}
-use Rattle.registers.specs.declared.reads.Reading.{Reading}
+use Rattle.registers.specs.declared.reads.LatchedReading.{LatchedReading}
 use Rattle.registers.specs.declared.writes.WritePart.{WritePart}
 use Rattle.registers.specs.declared.writes.WritePart.the-variants.{
   Nothing,
@@ -43,7 +43,7 @@ use Rattle.registers.specs.CodeReads.{
   afterReading,
 }
 use Rattle.registers.specs.CodeWrites.{writtenBy, atControl, movesLine}
-use Rattle.registers.proofs.Channels.{set-fold}
+use Rattle.registers.proofs.Lists.{set-fold}
 
 -- ---- a write
 
@@ -76,7 +76,7 @@ reading-still : (h : HardwareTimer) (shared : ℕ) (k : Clock) (ls : Latches) (o
     readingOf h shared k ls o .rose ≡ false → readingOf h shared k ls o .pending ≡ k .alarm .pending
 unfolding readingOf readingBy
 reading-still h shared k ls o =
-    choose (λ (r : Reading). r .rose ≡ false → r .pending ≡ k .alarm .pending)
+    choose (λ (r : LatchedReading). r .rose ≡ false → r .pending ≡ k .alarm .pending)
     (heldOf (serving o (filled o (h .counter) k ls))) (λ _ _. refl)
     (λ _. not-differ (checkAlarm (rateOf k) k .alarm .pending) (k .alarm .pending))
 

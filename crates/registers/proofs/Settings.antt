@@ -25,10 +25,11 @@ use Rattle.clock.specs.Registers.{
   timeNanoseconds,
 }
 use Rattle.board.specs.declared.Board.{Board}
+use Rattle.board.specs.declared.calls.Call.the-variants.{Read, Write}
 use Rattle.board.specs.Loops.{mapFrom, foldFrom}
 use Rattle.board.specs.Fields.{freshBoard, withTimers, withClock, withChannel}
 use Rattle.board.specs.Board.{wired}
-use Rattle.board.specs.Calls.{boardAfter, answerOf}
+use Rattle.board.specs.Calls.{addressRefusal, effectOf, boardAfter, answerOf}
 use Rattle.board.proofs.Kept.{fresh-sound}
 use Rattle.board.specs.RegisterWords.{timerWord, clockWord, liveWord}
 use Rattle.board.specs.RegisterReads.{
@@ -41,22 +42,21 @@ use Rattle.board.specs.RegisterReads.{
   readAt,
 }
 use Rattle.board.specs.RegisterWrites.{timerWritten, clockWritten, writtenAt}
-use Rattle.registers.specs.Calls.{addressRefusal, readCall, writeCall}
 
 -- ---- lists of accepted reads
 
 -- the bytes that reads at some addresses answer, one after another
 bytes : List ℕ → Board → List ℕ
 bytes [] b = []
-bytes (address ∷ more) b = readCall address b .members ++ bytes more (boardAfter (readCall address b))
+bytes (address ∷ more) b = effectOf (Read address) b .members ++ bytes more (boardAfter (Read address) b)
 
 -- the board after a read
 after : ℕ → Board → Board
-after address b = boardAfter (readCall address b)
+after address b = boardAfter (Read address) b
 
 -- and after a write
 written : ℕ → ℕ → Board → Board
-written address v b = boardAfter (writeCall address v b)
+written address v b = boardAfter (Write v address) b
 
 same : List ℕ → List ℕ → Bool
 same [] [] = true
@@ -141,11 +141,11 @@ unfolding bytes after written same counted moved clocked dated reached seconds s
 rows-hold = refl
 
 -- document 01's worked run: the fresh board's clock control is 1
-pub first-read : answerOf (readCall 0x083) freshBoard .members ≡ 1 ∷ []
+pub first-read : answerOf (Read 0x083) freshBoard .members ≡ 1 ∷ []
 unfolding answerOf addressRefusal readAt readLive liveWord clockWord alarmReached checkAlarm
 first-read = rw fresh-sound
 
 -- 'Read, write: 1; 6 address ≥ 0x380.'
-pub first-refused : answerOf (readCall 0x380) freshBoard ≡ record { board = freshBoard; refusal = 6; members = [] }
+pub first-refused : answerOf (Read 0x380) freshBoard ≡ record { board = freshBoard; refusal = 6; members = [] }
 unfolding answerOf addressRefusal
 first-refused = rw fresh-sound

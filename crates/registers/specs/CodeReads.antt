@@ -1,5 +1,5 @@
 -- Not document 01's sentences: what the code computes of a read, from one channel, the clock, the latches and the word
--- that all channels share. The rule is `readAt` of Reads.antt, and `read-parts` of proofs/CodeReads.antt shows that
+-- that all channels share. The rule is `readAt` of crates/board, and `read-parts` of proofs/CodeReads.antt shows that
 -- the read here is the rule's.
 use Prim.Native.Nat.{ℕ}
 use mathlib.Core.Bool.{Bool, false, not, cond, _&&_, Bool·beq}
@@ -31,7 +31,7 @@ use Rattle.board.specs.Registers.{
   byteOfWord,
 }
 use Rattle.board.specs.RegisterWords.{timerWord, clockWord}
-use Rattle.registers.specs.declared.reads.Reading.{Reading}
+use Rattle.registers.specs.declared.reads.LatchedReading.{LatchedReading}
 use Rattle.registers.specs.declared.reads.PlainReading.{PlainReading}
 
 -- ---- where the offset is
@@ -108,7 +108,7 @@ wordAt h k shared offset =
 
 -- no latch serves: k is the clock after the alarm check, `before` whether its alarm was pending before. The check can
 -- only set pending, so where that is not as it was it rose.
-abbrev pub liveReading : HardwareTimer → ℕ → Clock → Bool → Latches → ℕ → Reading
+abbrev pub liveReading : HardwareTimer → ℕ → Clock → Bool → Latches → ℕ → LatchedReading
 liveReading h shared k before ls offset =
     record {
       byte = byteOfWord (byteOf offset) (wordAt h k shared offset);
@@ -119,7 +119,7 @@ liveReading h shared k before ls offset =
     }
 
 -- a latch serves, which holds a word
-abbrev pub latchReading : ℕ → Clock → Latches → ℕ → Reading
+abbrev pub latchReading : ℕ → Clock → Latches → ℕ → LatchedReading
 latchReading word k ls offset =
     record {
       byte = byteOfWord (byteOf offset) word;
@@ -130,25 +130,25 @@ latchReading word k ls offset =
     }
 
 -- by the latches, filled where the offset is byte 0 of a low word
-unfoldable pub readingBy : HardwareTimer → ℕ → Clock → Latches → ℕ → Reading
+unfoldable pub readingBy : HardwareTimer → ℕ → Clock → Latches → ℕ → LatchedReading
 readingBy h shared k ls offset =
     cond (heldOf (serving offset ls)) (latchReading (heldValue (serving offset ls)) k ls offset)
     (liveReading h shared (checkAlarm (rateOf k) k) (k .alarm .pending) ls offset)
 
 -- a read at an offset: h is the channel of its index, shared the word of the register that all channels share
-unfoldable pub readingOf : HardwareTimer → ℕ → Clock → Latches → ℕ → Reading
+unfoldable pub readingOf : HardwareTimer → ℕ → Clock → Latches → ℕ → LatchedReading
 readingOf h shared k ls offset = readingBy h shared k (filled offset (h .counter) k ls) offset
 
 -- ---- of a board
 
 -- the reading at an offset
-abbrev pub offsetReading : ℕ → Board → Reading
+abbrev pub offsetReading : ℕ → Board → LatchedReading
 offsetReading offset b =
     readingOf (channelAt (channelIndex offset) b) (timerWord (registerOf offset) (b .«timer_enable») (b .timers))
     (b .clock) (b .latches) offset
 
 -- the board with a reading's latches and flags
-abbrev pub afterReading : Reading → Board → Board
+abbrev pub afterReading : LatchedReading → Board → Board
 afterReading r b =
     withClock
     (withAlarm
@@ -170,5 +170,5 @@ plainAt offset =
     && (not (eqb (registerOf (placeOf offset)) countLowAt) && not (eqb (registerOf (placeOf offset)) countHighAt))
 
 -- a reading but for the latches
-abbrev pub plainOf : Reading → PlainReading
+abbrev pub plainOf : LatchedReading → PlainReading
 plainOf r = record { byte = r .byte; pending = r .pending; armed = r .armed; rose = r .rose }

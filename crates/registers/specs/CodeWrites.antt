@@ -1,5 +1,5 @@
 -- Not document 01's sentences: what the code computes of a write, the part of the board that a byte written at an
--- offset changes and the board with that part changed. The rule is `writtenAt` of crates/offsets, and `written-is` of
+-- offset changes and the board with that part changed. The rule is `writtenAt` of crates/board, and `written-is` of
 -- proofs/CodeWrites.antt shows that the board here is the rule's.
 use Prim.Native.Nat.{ℕ, _%_}
 use mathlib.Core.Bool.{Bool, true, false, cond}

@@ -3,7 +3,7 @@
 ghost use mathlib.Core.Path.{_≡_};
 ghost use Rattle.board.specs.Calls.{answerOf, emptyAnswer, byteAnswer};
 ghost use Rattle.registers.specs.CodeReads.{afterReading};
-use crate::reads::Reading;
+use crate::reads::LatchedReading;
 use crate::reads::channel_index;
 use crate::reads::reading_at;
 use crate::writes::written_at;
@@ -18,7 +18,7 @@ pub mod reads;
 pub mod writes;
 
 // The board with a reading's latches and flags.
-fn after_reading(board: Board, reading: Reading) -> Board
+fn after_reading(board: Board, reading: LatchedReading) -> Board
     ensures { λ r. ⌜ r ≡ afterReading reading board ⌝ }
 {
     let latches = reading.latches;

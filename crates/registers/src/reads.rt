@@ -28,7 +28,7 @@ use wide::words::low;
 
 // After a read the latches, what it answers, the alarm's two flags, and whether its alarm check set pending. The
 // latches stand first, so that no bytes between fields are copied with them.
-pub struct Reading {
+pub struct LatchedReading {
     pub latches: Latches,
     pub byte: u8,
     pub pending: bool,
@@ -201,7 +201,7 @@ fn reading_of(
     clock: Clock,
     latches: Latches,
     offset: u32,
-) -> Reading
+) -> LatchedReading
     requires { ⌜ Timed (rateOf clock) clock ⌝ }
     ensures { λ r. ⌜ r ≡ readingOf timer shared clock latches offset ⌝ }
 {
@@ -211,7 +211,7 @@ fn reading_of(
         let word = low(seconds);
         let pending = clock.alarm.pending;
         let armed = clock.alarm.armed;
-        return Reading {
+        return LatchedReading {
             byte: byte_of_word(word, 0),
             latches: Latches {
                 low: Latch::Held(word),
@@ -230,7 +230,7 @@ fn reading_of(
         let before = clock.alarm.pending;
         let pending = checked.alarm.pending;
         let armed = checked.alarm.armed;
-        return Reading {
+        return LatchedReading {
             byte: byte_of_word(word, offset % 4),
             latches: count_filled(latches, timer.counter, offset),
             pending,
@@ -240,7 +240,7 @@ fn reading_of(
     };
     let pending = clock.alarm.pending;
     let armed = clock.alarm.armed;
-    Reading {
+    LatchedReading {
         byte: byte_of_word(word, offset % 4),
         latches: freed_at(latches, offset),
         pending,
@@ -250,7 +250,7 @@ fn reading_of(
 }
 
 // A read at an offset; `timer` is the channel of its index.
-pub fn reading_at(board: Board, timer: HardwareTimer, offset: u32) -> Reading
+pub fn reading_at(board: Board, timer: HardwareTimer, offset: u32) -> LatchedReading
     requires { ⌜ Timed (rateOf (board .clock)) (board .clock) × (timer ≡ channelAt (channelIndex offset) board) ⌝ }
     ensures { λ r. ⌜ r ≡ offsetReading offset board ⌝ }
 {

@@ -2,10 +2,10 @@
 use Prim.Native.Nat.{ℕ}
 use mathlib.Core.Path.{sym, ap, _∙_}
 use borrow.Author.Tests.{ne-eqb}
+use Rattle.board.specs.declared.calls.Call.the-variants.{Read}
 use Rattle.board.specs.Fields.{channelAt}
 use Rattle.board.specs.Calls.{refusalOf, byteAnswer}
 use Rattle.board.proofs.Answers.{accepted-sound, answer-refused, answer-accepted}
-use Rattle.registers.specs.Calls.{readCall}
 use Rattle.registers.proofs.Timing.{sound-times}
 use Rattle.registers.proofs.CodeReads.{read-parts}
 use borrow.Author.Needs.{needs}
@@ -24,7 +24,7 @@ returns c =
     let a = c .before .before .before .args in
     ap byteAnswer
     (sym
-    (answer-refused (readCall (a .address)) (a .t1) (r .result)
+    (answer-refused (Read (a .address)) (a .t1) (r .result)
     (r .ensures .0 ∙ ap (refusalOf (a .t1)) (c .before .before .address-refusal .ensures))
     (ne-eqb _ _ (c .if1 .taken))))
 
@@ -65,7 +65,7 @@ returns-2 c =
     ∙ i .if1 .left in
     let p = read-parts (a .address) (a .t1) in
     rw (
-      answer-accepted (readCall (a .address)) (a .t1) z,
+      answer-accepted (Read (a .address)) (a .t1) z,
       p .0,
       p .1,
       c .wired .ensures,

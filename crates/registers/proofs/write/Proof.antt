@@ -1,9 +1,9 @@
 -- `write` meets its contract. Assumes nothing.
 use mathlib.Core.Path.{sym, ap, _∙_}
 use borrow.Author.Tests.{ne-eqb}
+use Rattle.board.specs.declared.calls.Call.the-variants.{Write}
 use Rattle.board.specs.Calls.{refusalOf, emptyAnswer}
 use Rattle.board.proofs.Answers.{accepted-sound, answer-refused, answer-accepted}
-use Rattle.registers.specs.Calls.{writeCall}
 use Rattle.registers.proofs.Timing.{sound-times}
 use borrow.Author.Needs.{needs}
 use Rattle.registers.proofs.write.Statement.{statement}
@@ -21,7 +21,7 @@ returns c =
     let a = c .before .before .before .args in
     ap emptyAnswer
     (sym
-    (answer-refused (writeCall (a .address) (a .value)) (a .board) (r .result)
+    (answer-refused (Write (a .value) (a .address)) (a .board) (r .result)
     (r .ensures .0 ∙ ap (refusalOf (a .board)) (c .before .before .address-refusal .ensures))
     (ne-eqb _ _ (c .if1 .taken))))
 
@@ -46,7 +46,7 @@ returns-2 c =
     ∙ sym (i .before .refusal-of .ensures .0)
     ∙ i .if1 .left in
     rw (
-      answer-accepted (writeCall (a .address) (a .value)) (a .board) z,
+      answer-accepted (Write (a .value) (a .address)) (a .board) z,
       c .wired .ensures,
       c .before .written-at .ensures,
     )
