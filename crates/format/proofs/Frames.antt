@@ -1,6 +1,6 @@
 -- Laws of the bytes of a list: a call at its front and its members, and how the parts of a record are stored. Assumes
 -- nothing.
-use mathlib.Core.Path.{_≡_, refl, sym, _∙_}
+use mathlib.Core.Path.{_≡_, refl, ap, _∙_}
 use mathlib.Core.List.{List, [], _∷_, _++_}
 use mathlib.Core.Bool.{Bool, true, false, cond, _&&_, not}
 use Prim.Native.Nat.{ℕ, zero, suc, _+_, _-_, _^_, _≤_, _<_}
@@ -10,30 +10,49 @@ use lib.Arith.{digits-lt}
 use lib.ListN.{length, getD, take, drop, length-drop, length-append, List·getD-append, List·getD-eq-default}
 use lib.Seq.{sets, sets-eq, take-all}
 use lib.Dec.{ltb, eqb}
-use borrow.Author.Tests.{ltb-true, ltb-false, le-ltb, eqb-true, eqb-false}
+use borrow.Author.Tests.{ltb-true, ltb-false, le-ltb, eqb-true, eqb-false, not-false}
 use Rattle.wide.specs.Fields.{beAt, be}
 use Rattle.wide.proofs.BigEndian.{length-be, sets-append}
-use Rattle.wide.proofs.Choices.{either}
-use Rattle.format.specs.declared.Lengths.{Lengths}
+use Rattle.wide.proofs.Choices.{choose, either, and-parts}
+use Rattle.board.specs.declared.Board.{Board}
+use Rattle.board.specs.declared.calls.Call.{Call}
+use Rattle.board.specs.declared.calls.Call.the-variants.{
+  HostTime,
+  Read,
+  Write,
+  Advance,
+  Deadline,
+  Skip,
+  Source,
+  ControllerRead,
+  ControllerWrite,
+  Output,
+}
+use Rattle.board.specs.Calls.{effectOf, CallFits}
 use Rattle.format.specs.Format.{
-  tagUnknown,
-  lengthWrong,
-  valueCut,
   row,
   table,
   sum,
   rowOf,
+  known,
   valueLength,
   answerLength,
   lengthsOf,
   headerLength,
-  tagAt,
   membersAt,
-  argumentsOf,
-  frameRefusal,
   membersBytes,
   answerBytes,
   recordOf,
+}
+use Rattle.format.specs.Codec.{
+  tagOf,
+  callLength,
+  tagAt,
+  frameRefusal,
+  callOf,
+  callAt,
+  answerRecord,
+  recordLength,
 }
 
 -- ---- bytes behind
@@ -102,19 +121,6 @@ unknown-is tag n1 n2 n3 n4 n5 n6 n7 n8 n9 n10 =
 
 -- ---- a call at the front
 
--- the refusal by the code's tests, of bytes that have a header
-pub tested : (l : List ℕ) → headerLength ≤ length l → (n : Lengths) → n ≡ lengthsOf (tagAt l) → (told : ℕ) →
-    told ≡ beAt l 1 2 →
-    frameRefusal l ≡ cond (not (n .known)) tagUnknown
-    (cond (not (eqb told (n .value))) lengthWrong
-    (cond (ltb (length l - headerLength) (n .value)) valueCut 0))
-unfolding frameRefusal
-tested l h n e told g = rw (le-ltb (length l) headerLength h, e, g)
-
--- a frame that is refused, by a number k, tells no lengths
-pub refused-is : {P : Type 0} (r k f : ℕ) → r ≡ k → 0 < k → f ≡ k → (r ≡ f) × (f ≡ 0 → P)
-refused-is r k f p h q = (p ∙ sym q, λ z. absurd (omega arith))
-
 -- no refusal: no test that gives one is met, and the tag is neither too small nor too large
 record Passed (t₁ t₂ u₂ t₃ t₄ : Bool) : Type 0 where
   header : t₁ ≡ false
@@ -147,6 +153,10 @@ module _ (l : List ℕ) (e : frameRefusal l ≡ 0) where
       let v = ltb-false (length l - headerLength) (valueLength (tagAt l)) (tests .value) in
       (omega arith, (ltb-true 0 (tagAt l) (tests .first), ltb-true (tagAt l) 11 (tests .last)))
 
+  -- the length that stands there is the table's
+  pub told-is : beAt l 1 2 ≡ valueLength (tagAt l)
+  told-is = eqb-true (beAt l 1 2) (valueLength (tagAt l)) (not-false _ (tests .length))
+
   -- bytes behind a call have no part in it
   module _ (m : List ℕ) where
     pub tag-before : tagAt (l ++ m) ≡ tagAt l
@@ -167,8 +177,87 @@ module _ (l : List ℕ) (e : frameRefusal l ≡ 0) where
           le-ltb (length (l ++ m) - headerLength) w (omega arith),
         )
 
-    pub arguments-before : argumentsOf (tagAt (l ++ m)) (l ++ m) ≡ argumentsOf (tagAt l) l
-    arguments-before = rw tag-before (members-before l m headerLength (rowOf (tagAt l) .value) (framed .0))
+    pub call-before : callAt (l ++ m) ≡ callAt l
+    call-before =
+        rw tag-before
+        (ap (callOf (tagAt l)) (members-before l m headerLength (rowOf (tagAt l) .value) (framed .0)))
+
+  -- a call's tag is the one that stands there
+  pub tag-is : tagOf (callAt l) ≡ tagAt l
+  unfolding callOf
+  tag-is =
+      by-tag (λ (t : ℕ). (ms : List ℕ) → tagOf (callOf t ms) ≡ t) (tagAt l) (framed .1 .0) (framed .1 .1) (λ ms. refl)
+      (λ ms. refl) (λ ms. refl) (λ ms. refl) (λ ms. refl) (λ ms. refl) (λ ms. refl) (λ ms. refl) (λ ms. refl)
+      (λ ms. refl) (membersAt l headerLength (rowOf (tagAt l) .value))
+
+  pub call-length : callLength (callAt l) ≤ length l
+  call-length = rw tag-is (framed .0)
+
+pub call-least : (call : Call) → 3 ≤ callLength call
+call-least call = omega arith
+
+-- a call's tag has a row, and its lengths are below 256
+bounds : (call : Call) →
+    (known (tagOf call) && (ltb (valueLength (tagOf call)) 256 && ltb (answerLength (tagOf call)) 256)) ≡ true
+bounds (HostTime nanoseconds seconds) = refl
+bounds (Read address) = refl
+bounds (Write byte address) = refl
+bounds (Advance c) = refl
+bounds Deadline = refl
+bounds Skip = refl
+bounds (Source number level) = refl
+bounds (ControllerRead address) = refl
+bounds (ControllerWrite byte address) = refl
+bounds Output = refl
+
+module _ (call : Call) where
+  lengths-below :
+      (known (tagOf call) ≡ true)
+      × ((ltb (valueLength (tagOf call)) 256 && ltb (answerLength (tagOf call)) 256) ≡ true)
+  lengths-below = and-parts (known (tagOf call)) _ (bounds call)
+
+  pub tag-known : known (tagOf call) ≡ true
+  tag-known = lengths-below .0
+
+  pub tag-below : tagOf call < 256
+  tag-below =
+      let h =
+      ltb-true (tagOf call) 11 (and-parts (ltb 0 (tagOf call)) (ltb (tagOf call) 11) tag-known .1) in
+      omega arith
+
+  pub value-below : valueLength (tagOf call) < 256
+  value-below =
+      ltb-true (valueLength (tagOf call)) 256
+      (and-parts (ltb (valueLength (tagOf call)) 256) (ltb (answerLength (tagOf call)) 256) (lengths-below .1) .0)
+
+  pub answer-below : answerLength (tagOf call) < 256
+  answer-below =
+      ltb-true (answerLength (tagOf call)) 256
+      (and-parts (ltb (valueLength (tagOf call)) 256) (ltb (answerLength (tagOf call)) 256) (lengths-below .1) .1)
+
+-- a call of bytes fits, whatever they are
+module _ (tag : ℕ) (ms : List ℕ) (below : (k : ℕ) → getD ms k 0 < 256 ^ getD (rowOf tag .value) k 0) where
+  width : (n k : ℕ) → eqb tag n ≡ true → getD ms k 0 < 256 ^ getD (rowOf n .value) k 0
+  width n k e = let q : tag ≡ n = eqb-true tag n e in rw q at (below k)
+
+  members-fit : CallFits (callOf tag ms)
+  unfolding callOf
+  members-fit =
+      choose CallFits (eqb tag 1) (λ e. (width 1 1 e, width 1 0 e))
+      (λ _. choose CallFits (eqb tag 2) (λ e. width 2 0 e)
+      (λ _. choose CallFits (eqb tag 3) (λ e. (width 3 1 e, width 3 0 e))
+      (λ _. choose CallFits (eqb tag 4) (λ e. width 4 0 e)
+      (λ _. choose CallFits (eqb tag 5) (λ _. tt)
+      (λ _. choose CallFits (eqb tag 6) (λ _. tt)
+      (λ _. choose CallFits (eqb tag 7) (λ e. (width 7 0 e, width 7 1 e))
+      (λ _. choose CallFits (eqb tag 8) (λ e. width 8 0 e)
+      (λ _. choose CallFits (eqb tag 9) (λ e. (width 9 1 e, width 9 0 e))
+      (λ _. tt)))))))))
+
+pub call-fits : (l : List ℕ) → ((i : ℕ) → getD l i 0 < 256) → CallFits (callAt l)
+call-fits l bytes =
+    members-fit (tagAt l) (membersAt l headerLength (rowOf (tagAt l) .value))
+    (members-below l bytes headerLength (rowOf (tagAt l) .value))
 
 -- a part of a slice that goes to its end
 pub part-rest : (l : List ℕ) (k : ℕ) → take (length l - k) (drop k l) ≡ drop k l
@@ -202,3 +291,8 @@ members-length (w ∷ ws) ms =
 
 pub answer-length : (tag : ℕ) (ms : List ℕ) → length (answerBytes tag ms) ≡ answerLength tag
 answer-length tag ms = members-length (rowOf tag .answer) ms
+
+pub answer-size : (call : Call) (b : Board) → length (answerRecord call b) ≡ recordLength call
+answer-size call b =
+    record-length (tagOf call) (answerBytes (tagOf call) (effectOf call b .members))
+    ∙ ap (λ (n : ℕ). 3 + n) (answer-length (tagOf call) (effectOf call b .members))

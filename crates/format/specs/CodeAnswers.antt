@@ -3,9 +3,9 @@ use Prim.Native.Nat.{ℕ}
 use mathlib.Core.List.{List, [], _∷_, _++_}
 use Rattle.wide.specs.Fields.{be}
 
--- a record's tag, the length of its value, and as much of the value as is given
-abbrev pub startOf : ℕ → ℕ → List ℕ → List ℕ
-startOf tag size value = be 1 tag ++ be 2 size ++ value
+-- a record's tag and the length of its value
+abbrev pub headerBytes : ℕ → ℕ → List ℕ
+headerBytes tag size = be 1 tag ++ be 2 size
 
 -- numbers of sixteen bytes, one behind the other
 unfoldable pub wides : List ℕ → List ℕ

@@ -1,10 +1,10 @@
--- Document 01, 'The call list': the members of calls and answers, and the bytes of a call at the front of a list and
--- of an answer. Which tags there are, and how long their values and answers are, follows from one table.
-use Prim.Native.Nat.{ℕ, _+_, _-_}
+-- Document 01, 'The call list': the members of calls and answers, and the bytes of an answer. Which tags there are, and
+-- how long their values and answers are, follows from one table. The codec of calls stands in Codec.
+use Prim.Native.Nat.{ℕ, _+_}
 use mathlib.Core.List.{List, [], _∷_, _++_, foldr}
-use mathlib.Core.Bool.{Bool, cond, _&&_, not}
+use mathlib.Core.Bool.{Bool, _&&_}
 use lib.ListN.{length, getD, drop}
-use lib.Dec.{ltb, eqb}
+use lib.Dec.{ltb}
 use Rattle.wide.specs.Number.{valueOf}
 use Rattle.wide.specs.Fields.{beAt, be}
 use Rattle.format.specs.declared.Answer.{Answer}
@@ -86,39 +86,23 @@ answerLength tag = sum (rowOf tag .answer)
 abbrev pub lengthsOf : ℕ → Lengths
 lengthsOf tag = record { known = known tag; value = valueLength tag; answer = answerLength tag }
 
--- ---- a call
+-- ---- the bytes of members
 
 -- 'Each call: tag 1, length 2, value; big-endian.'
 abbrev pub headerLength : ℕ
 headerLength = 3
-
-abbrev pub tagAt : List ℕ → ℕ
-tagAt l = getD l 0 0
 
 -- the numbers of members of these widths that stand from an index on
 unfoldable pub membersAt : List ℕ → ℕ → List ℕ → List ℕ
 membersAt l at [] = []
 membersAt l at (w ∷ ws) = beAt l at w ∷ membersAt l (at + w) ws
 
--- the members of the value of the call at the front
-abbrev pub argumentsOf : ℕ → List ℕ → List ℕ
-argumentsOf tag l = membersAt l headerLength (rowOf tag .value)
-
--- '2 one or two bytes left; 3 unknown tag; 4 wrong length; 5 value cut'. 0 for none
-unfoldable pub frameRefusal : List ℕ → ℕ
-frameRefusal l =
-    cond (ltb (length l) headerLength) headerCut
-    (cond (not (known (tagAt l))) tagUnknown
-    (cond (not (eqb (beAt l 1 2) (valueLength (tagAt l)))) lengthWrong
-    (cond (ltb (length l - headerLength) (valueLength (tagAt l))) valueCut
-    0)))
-
--- ---- an answer
-
 -- members in bytes, each of its width; a member that is not there is 0
 unfoldable pub membersBytes : List ℕ → List ℕ → List ℕ
 membersBytes [] ms = []
 membersBytes (w ∷ ws) ms = be w (getD ms 0 0) ++ membersBytes ws (drop 1 ms)
+
+-- ---- an answer
 
 -- the members of the answer to a call of this tag, in bytes
 abbrev pub answerBytes : ℕ → List ℕ → List ℕ

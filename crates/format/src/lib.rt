@@ -1,22 +1,26 @@
-// The bytes of the call list: the call at the front of a list, and the record of an answer, big-endian.
+// The bytes of the call list, big-endian: the call at the front of a list is decoded, and the record of an answer put.
 ghost use mathlib.Core.Path.{_≡_};
-ghost use mathlib.Core.Bool.{true};
+ghost use mathlib.Core.Bool.{true, not};
 ghost use mathlib.Core.List.{[], _∷_};
-ghost use Prim.Native.Nat.{_+_, _≤_};
+ghost use Prim.Native.Nat.{_+_, _≤_, _<_};
 ghost use lib.ListN.{length};
 ghost use lib.Seq.{sets};
+ghost use lib.Dec.{eqb};
 ghost use Rattle.wide.specs.Number.{valueOf};
-ghost use Rattle.wide.specs.Fields.{be};
-ghost use Rattle.format.specs.Format.{
-  valueLength,
-  answerLength,
-  lengthsOf,
-  tagAt,
-  frameRefusal,
-  valueBytes,
-};
-ghost use Rattle.format.specs.CodeAnswers.{startOf, wides};
+ghost use Rattle.wide.specs.Fields.{beAt, be};
+ghost use Rattle.board.specs.Calls.{advanceBy, sourceTo};
+ghost use Rattle.format.specs.Format.{valueLength, lengthsOf, valueBytes};
+ghost use Rattle.format.specs.Codec.{tagOf};
+ghost use Rattle.format.specs.CodeDecode.{refusedBy, isFramed, framedAs, Unframed, Bare, decodedOf};
+ghost use Rattle.format.specs.CodeAnswers.{headerBytes, wides};
 ghost use Rattle.format.specs.declared.Answer.the-variants.{Byte, Deadline, Skip, Pair};
+use board::calls::Call;
+use board::calls::address_refusal;
+use board::calls::host_time_refusal;
+use board::calls::source_refusal;
+use channel::Cycles;
+use clock::HostTime;
+use controller::SourceNumber;
 use wide::fields;
 use wide::number::Wide;
 
@@ -86,48 +90,267 @@ pub fn lengths_of(tag: u8) -> Lengths
     }
 }
 
-// The call at the front of a list: its refusal, 0 for none, and then the lengths of its value and answer.
-pub struct Frame {
+// The call at the front of a list: its refusal, 0 for none, and where there is none the call. It is refused by the
+// list's bytes and the room for its answer alone: what the board decides, a skip's own refusal, is not in it.
+pub struct Decoded {
     pub refusal: u8,
-    pub value: usize,
-    pub answer: usize,
+    pub call: Call,
 }
 
 // A call that is refused.
-fn refused_frame(refusal: u8) -> Frame
-    ensures { λ r. ⌜ r .refusal ≡ refusal ⌝ }
+fn refused(refusal: u8) -> Decoded
+    ensures { λ r. ⌜ r ≡ refusedBy refusal ⌝ }
 {
-    Frame {
+    Decoded {
         refusal,
-        value: 0,
-        answer: 0,
+        call: Call::Output,
     }
 }
 
-pub fn frame_of(rest: &[u8]) -> Frame
-    ensures { λ r. ⌜ (r .refusal ≡ frameRefusal (now (rest .entry)))
-        × (frameRefusal (now (rest .entry)) ≡ 0 → (r .value ≡ valueLength (tagAt (now (rest .entry))))
-        × (r .answer ≡ answerLength (tagAt (now (rest .entry))))) ⌝ }
+fn accepted(call: Call) -> Decoded
+    ensures { λ r. ⌜ r ≡ record { refusal = 0; call = call } ⌝ }
 {
-    if rest.len() < HEADER_LENGTH {
-        return refused_frame(HEADER_CUT);
-    }
-    let lengths = lengths_of(rest[0]);
-    if !lengths.known {
-        return refused_frame(TAG_UNKNOWN);
-    }
-    if fields::get(rest, 1, 2) != lengths.value as u64 {
-        return refused_frame(LENGTH_WRONG);
-    }
-    if rest.len() - HEADER_LENGTH < lengths.value {
-        return refused_frame(VALUE_CUT);
-    }
-    Frame {
-        refusal: 0,
-        value: lengths.value,
-        answer: lengths.answer,
+    Decoded { refusal: 0, call }
+}
+
+// ---- the members of a call
+
+fn byte_at(rest: &[u8], at: usize) -> u8
+    requires { ⌜ at + 1 ≤ length (now rest) ⌝ }
+    ensures { λ r. ⌜ r ≡ beAt (now (rest .entry)) at 1 ⌝ }
+{
+    fields::get(rest, at, 1) as u8
+}
+
+// The address of a register.
+fn address_at(rest: &[u8]) -> u16
+    requires { ⌜ 5 ≤ length (now rest) ⌝ }
+    ensures { λ r. ⌜ r ≡ beAt (now (rest .entry)) 3 2 ⌝ }
+{
+    fields::get(rest, 3, 2) as u16
+}
+
+// The address of a register of the controller.
+fn controller_address_at(rest: &[u8]) -> u32
+    requires { ⌜ 7 ≤ length (now rest) ⌝ }
+    ensures { λ r. ⌜ r ≡ beAt (now (rest .entry)) 3 4 ⌝ }
+{
+    fields::get(rest, 3, 4) as u32
+}
+
+fn host_at(rest: &[u8]) -> HostTime
+    requires { ⌜ 15 ≤ length (now rest) ⌝ }
+    ensures { λ r. ⌜ r
+        ≡ record { seconds = beAt (now (rest .entry)) 3 8; nanoseconds = beAt (now (rest .entry)) 11 4 } ⌝ }
+{
+    HostTime {
+        seconds: fields::get_word(rest, 3),
+        nanoseconds: fields::get(rest, 11, 4) as u32,
     }
 }
+
+// ---- the frame of a call whose value has so many bytes
+
+// Whether the header tells another length. The low byte counts for more here, as the machine loads the two bytes.
+fn length_wrong(rest: &[u8], value: usize) -> bool
+    requires { ⌜ (3 ≤ length (now rest)) × (value < 256) ⌝ }
+    ensures { λ r. ⌜ r ≡ not (eqb (beAt (now (rest .entry)) 1 2) value) ⌝ }
+{
+    fields::widened(rest[1]) + 256 * fields::widened(rest[2]) != 256 * value as u64
+}
+
+// Whether the header tells the length and the value is whole.
+fn framed(rest: &[u8], value: usize) -> bool
+    requires { ⌜ (3 ≤ length (now rest)) × (value < 256) ⌝ }
+    ensures { λ r. ⌜ r ≡ isFramed value (now (rest .entry)) ⌝ }
+{
+    if length_wrong(rest, value) {
+        return false;
+    }
+    HEADER_LENGTH + value <= rest.len()
+}
+
+// The refusal where one of the two is not so.
+fn unframed(rest: &[u8], value: usize) -> Decoded
+    requires { ⌜ (3 ≤ length (now rest)) × (value < 256) ⌝ }
+    ensures { λ r. ⌜ Unframed value (now (rest .entry)) r ⌝ }
+{
+    if length_wrong(rest, value) {
+        return refused(LENGTH_WRONG);
+    }
+    refused(VALUE_CUT)
+}
+
+// ---- each call, with so much room for its answer
+
+fn host_time_at(rest: &[u8], room: usize) -> Decoded
+    requires { ⌜ 3 ≤ length (now rest) ⌝ }
+    ensures { λ r. ⌜ r
+        ≡ framedAs 12 (Call.HostTime (beAt (now (rest .entry)) 11 4) (beAt (now (rest .entry)) 3 8))
+        (now (rest .entry)) room ⌝ }
+{
+    let lengths = lengths_of(1);
+    if !framed(rest, lengths.value) {
+        return unframed(rest, lengths.value);
+    }
+    let host = host_at(rest);
+    let own = host_time_refusal(host);
+    if own != 0 {
+        return refused(own);
+    }
+    if room < HEADER_LENGTH + lengths.answer {
+        return refused(ANSWER_TOO_LONG);
+    }
+    accepted(Call::HostTime(host.nanoseconds, host.seconds))
+}
+
+fn read_at(rest: &[u8], room: usize) -> Decoded
+    requires { ⌜ 3 ≤ length (now rest) ⌝ }
+    ensures { λ r. ⌜ r ≡ framedAs 2 (Call.Read (beAt (now (rest .entry)) 3 2)) (now (rest .entry)) room ⌝ }
+{
+    let lengths = lengths_of(2);
+    if !framed(rest, lengths.value) {
+        return unframed(rest, lengths.value);
+    }
+    let address = address_at(rest);
+    let own = address_refusal(address);
+    if own != 0 {
+        return refused(own);
+    }
+    if room < HEADER_LENGTH + lengths.answer {
+        return refused(ANSWER_TOO_LONG);
+    }
+    accepted(Call::Read(address))
+}
+
+fn write_at(rest: &[u8], room: usize) -> Decoded
+    requires { ⌜ 3 ≤ length (now rest) ⌝ }
+    ensures { λ r. ⌜ r
+        ≡ framedAs 3 (Call.Write (beAt (now (rest .entry)) 5 1) (beAt (now (rest .entry)) 3 2))
+        (now (rest .entry)) room ⌝ }
+{
+    let lengths = lengths_of(3);
+    if !framed(rest, lengths.value) {
+        return unframed(rest, lengths.value);
+    }
+    let address = address_at(rest);
+    let own = address_refusal(address);
+    if own != 0 {
+        return refused(own);
+    }
+    if room < HEADER_LENGTH + lengths.answer {
+        return refused(ANSWER_TOO_LONG);
+    }
+    accepted(Call::Write(byte_at(rest, 5), address))
+}
+
+fn advance_at(rest: &[u8], room: usize) -> Decoded
+    requires { ⌜ 3 ≤ length (now rest) ⌝ }
+    ensures { λ r. ⌜ r ≡ framedAs 8 (advanceBy (beAt (now (rest .entry)) 3 8)) (now (rest .entry)) room ⌝ }
+{
+    let lengths = lengths_of(4);
+    if !framed(rest, lengths.value) {
+        return unframed(rest, lengths.value);
+    }
+    if room < HEADER_LENGTH + lengths.answer {
+        return refused(ANSWER_TOO_LONG);
+    }
+    accepted(Call::Advance(Cycles(fields::get_word(rest, 3))))
+}
+
+fn source_at(rest: &[u8], room: usize) -> Decoded
+    requires { ⌜ 3 ≤ length (now rest) ⌝ }
+    ensures { λ r. ⌜ r
+        ≡ framedAs 2 (sourceTo (beAt (now (rest .entry)) 3 1) (beAt (now (rest .entry)) 4 1))
+        (now (rest .entry)) room ⌝ }
+{
+    let lengths = lengths_of(7);
+    if !framed(rest, lengths.value) {
+        return unframed(rest, lengths.value);
+    }
+    let number = SourceNumber(byte_at(rest, 3));
+    let level = byte_at(rest, 4);
+    let own = source_refusal(number, level);
+    if own != 0 {
+        return refused(own);
+    }
+    if room < HEADER_LENGTH + lengths.answer {
+        return refused(ANSWER_TOO_LONG);
+    }
+    accepted(Call::Source(number, level))
+}
+
+fn controller_read_at(rest: &[u8], room: usize) -> Decoded
+    requires { ⌜ 3 ≤ length (now rest) ⌝ }
+    ensures { λ r. ⌜ r ≡ framedAs 4 (Call.ControllerRead (beAt (now (rest .entry)) 3 4)) (now (rest .entry)) room ⌝ }
+{
+    let lengths = lengths_of(8);
+    if !framed(rest, lengths.value) {
+        return unframed(rest, lengths.value);
+    }
+    if room < HEADER_LENGTH + lengths.answer {
+        return refused(ANSWER_TOO_LONG);
+    }
+    accepted(Call::ControllerRead(controller_address_at(rest)))
+}
+
+fn controller_write_at(rest: &[u8], room: usize) -> Decoded
+    requires { ⌜ 3 ≤ length (now rest) ⌝ }
+    ensures { λ r. ⌜ r
+        ≡ framedAs 5 (Call.ControllerWrite (beAt (now (rest .entry)) 7 1) (beAt (now (rest .entry)) 3 4))
+        (now (rest .entry)) room ⌝ }
+{
+    let lengths = lengths_of(9);
+    if !framed(rest, lengths.value) {
+        return unframed(rest, lengths.value);
+    }
+    if room < HEADER_LENGTH + lengths.answer {
+        return refused(ANSWER_TOO_LONG);
+    }
+    accepted(Call::ControllerWrite(byte_at(rest, 7), controller_address_at(rest)))
+}
+
+// A call without members, whose answer has so many bytes. Where there is no room it is told, because a skip's own
+// refusal comes first.
+fn bare_at(rest: &[u8], room: usize, answer: usize, call: Call) -> Decoded
+    requires { ⌜ (3 ≤ length (now rest)) × Bare call answer ⌝ }
+    ensures { λ r. ⌜ r ≡ framedAs (valueLength (tagOf call)) call (now (rest .entry)) room ⌝ }
+{
+    if !framed(rest, 0) {
+        return unframed(rest, 0);
+    }
+    if room < HEADER_LENGTH + answer {
+        return Decoded {
+            refusal: ANSWER_TOO_LONG,
+            call,
+        };
+    }
+    accepted(call)
+}
+
+// The call at the front of a list, with so much room for its answer.
+pub fn decode(rest: &[u8], room: usize) -> Decoded
+    ensures { λ r. ⌜ r ≡ decodedOf (now (rest .entry)) room ⌝ }
+{
+    if rest.len() < HEADER_LENGTH {
+        return refused(HEADER_CUT);
+    }
+    match rest[0] {
+        1 => host_time_at(rest, room),
+        2 => read_at(rest, room),
+        3 => write_at(rest, room),
+        4 => advance_at(rest, room),
+        5 => bare_at(rest, room, 25, Call::Deadline),
+        6 => bare_at(rest, room, 9, Call::Skip),
+        7 => source_at(rest, room),
+        8 => controller_read_at(rest, room),
+        9 => controller_write_at(rest, room),
+        10 => bare_at(rest, room, 2, Call::Output),
+        _ => refused(TAG_UNKNOWN),
+    }
+}
+
+// ---- answers
 
 fn put_byte(buf: &mut [u8], at: usize, value: u8)
     requires { ⌜ at + 1 ≤ length (now buf) ⌝ }
@@ -185,7 +408,7 @@ pub fn put_count(buf: &mut [u8], at: usize, count: Wide)
 }
 
 // Writes an answer's members from index at on.
-fn put_value(buf: &mut [u8], at: usize, answer: Answer)
+pub fn put_value(buf: &mut [u8], at: usize, answer: Answer)
     requires { ⌜ at + length (valueBytes answer) ≤ length (now buf) ⌝ }
     ensures { λ _. ⌜ now (buf .exit) ≡ sets (now (buf .entry)) at (valueBytes answer) ⌝ }
 {
@@ -198,13 +421,11 @@ fn put_value(buf: &mut [u8], at: usize, answer: Answer)
     }
 }
 
-// Writes an answer's record from index at on: tag, the length of its members, which is `size`, and the members that are
-// given, which may be fewer.
-pub fn put_record(buf: &mut [u8], at: usize, tag: u8, size: usize, answer: Answer)
-    requires { ⌜ at + 3 + length (valueBytes answer) ≤ length (now buf) ⌝ }
-    ensures { λ _. ⌜ now (buf .exit) ≡ sets (now (buf .entry)) at (startOf tag size (valueBytes answer)) ⌝ }
+// Writes the tag and the length of a record from index at on.
+pub fn put_header(buf: &mut [u8], at: usize, tag: u8, size: usize)
+    requires { ⌜ at + 3 ≤ length (now buf) ⌝ }
+    ensures { λ _. ⌜ now (buf .exit) ≡ sets (now (buf .entry)) at (headerBytes tag size) ⌝ }
 {
     fields::put(buf, at, tag as u64, 1);
     fields::put(buf, at + 1, size as u64, 2);
-    put_value(buf, at + HEADER_LENGTH, answer);
 }

@@ -1,9 +1,10 @@
-pub mod Turns
+pub mod Results
 mod Runs
+mod Records
 mod Advances
-mod Accepted
-pub mod Demand
+mod Calls
 pub mod TwoParts
-pub mod Rate
+pub mod Kept
+pub mod Demand
 pub mod Settings
 pub mod Skips

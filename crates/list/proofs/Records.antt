@@ -82,7 +82,7 @@ pub skip-record : (c v at : ℕ) (buf : List ℕ) →
     passedPut false v at (sets buf (at + 3) (be 8 c)) ≡ sets buf at (recordOf 6 (answerBytes 6 (c ∷ v ∷ [])))
 unfolding membersBytes
 skip-record c v at buf =
-    ap (λ (x : List ℕ). sets x (at + 11) (be 1 v)) (front (headerBytes 6 9) refl)
+    ap (λ (x : List ℕ). sets x (at + 11) (be 1 v)) (front (headerBytes 6 9) three)
     ∙ sets-then buf at 11 (headerBytes 6 9 ++ be 8 c) (be 1 v) eleven
     ∙ ap (sets buf at) (append-assoc (headerBytes 6 9) (be 8 c) (be 1 v) ∙ whole ∙ record-start 6 (c ∷ v ∷ []))
   where
@@ -90,7 +90,10 @@ skip-record c v at buf =
     front h n = rw (← n) (sets-behind buf at h (be 8 c))
 
     eleven : length (headerBytes 6 9 ++ be 8 c) ≡ 11
-    eleven = rw (length-append (headerBytes 6 9) (be 8 c), length-be 8 c) refl
+    eleven = rw (length-append (headerBytes 6 9) (be 8 c), length-be 8 c, three) refl
+
+    three : length (headerBytes 6 9) ≡ 3
+    three = rw (length-append (be 1 6) (be 2 9), length-be 1 6, length-be 2 9) refl
 
     whole : headerBytes 6 9 ++ (be 8 c ++ be 1 v) ≡ headerBytes 6 9 ++ answerBytes 6 (c ∷ v ∷ [])
     whole = ap (λ (x : List ℕ). headerBytes 6 9 ++ (be 8 c ++ x)) (sym (append-nil (be 1 v)))

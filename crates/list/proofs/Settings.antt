@@ -60,26 +60,26 @@ use Rattle.controller.specs.declared.IrqOutput.{IrqOutput}
 use Rattle.controller.specs.Bits.{withBit, without}
 use Rattle.controller.specs.Controller.{sourceSet, outputOf, lowestFrom, controllerWritten, pendingCleared}
 use Rattle.board.specs.declared.Board.{Board}
+use Rattle.board.specs.declared.calls.Call.the-variants.{Read, Write, Skip, ControllerWrite}
 use Rattle.board.specs.Loops.{mapFrom, foldFrom}
 use Rattle.board.specs.Fields.{freshBoardAt, freshBoard, withTimers, withTimerEnable, withClock}
 use Rattle.board.specs.Board.{line, exactDeadline, wired, soundParts, sound}
 use Rattle.board.specs.Calls.{
+  effectOf,
   boardAfter,
   answerOf,
+  addressRefusal,
   movedBoard,
   advancedBoard,
-  advanceCall,
-  skipCall,
-  controllerWriteCall,
+  advanceBy,
   freshOf,
 }
 use Rattle.board.specs.Demand.{source3}
 use Rattle.board.specs.RegisterWords.{timerWord, clockWord, liveWord}
 use Rattle.board.specs.RegisterReads.{readLive, readCountHigh, readChannel, secondsLatched, readLow, readHigh, readAt}
 use Rattle.board.specs.RegisterWrites.{timerWritten, clockWritten, writtenAt}
-use Rattle.registers.specs.Calls.{addressRefusal, readCall, writeCall}
-use Rattle.format.specs.Format.{membersAt, frameRefusal, membersBytes, recordOf}
-use Rattle.perform.specs.Calls.{callOf, refusalAt}
+use Rattle.format.specs.Format.{membersAt, membersBytes, recordOf}
+use Rattle.format.specs.Codec.{frameRefusal, callOf, refusalAt}
 use Rattle.list.specs.Run.{resultOf, stepped, Run, runOn, runOf}
 
 -- ---- boards
@@ -165,11 +165,11 @@ settingH enable = outputOf (record { pending = 0x0220; enable = enable; levels =
 
 -- the board after an accepted write
 abbrev written : ℕ → ℕ → Board → Board
-written address v b = boardAfter (writeCall address v b)
+written address v b = boardAfter (Write v address) b
 
 -- the byte of an accepted read
 abbrev readByte : ℕ → Board → ℕ
-readByte address b = getD (readCall address b .members) 0 0
+readByte address b = getD (effectOf (Read address) b .members) 0 0
 
 -- byte i of the eight seconds bytes is i + 1
 seconds : List ℕ → Board → Board
@@ -185,7 +185,7 @@ settingJ = runOf freshBoard [] 0
 -- the low count's byte 0 is read, then its last byte is written
 lowCount : Board
 lowCount =
-    written 0x28B 0xFF (boardAfter (readCall 0x288 (running (withCounter 0x0102_0304_0506_0708 freshTimer))))
+    written 0x28B 0xFF (boardAfter (Read 0x288) (running (withCounter 0x0102_0304_0506_0708 freshTimer)))
 
 -- mode 1 with its match behind it, and enable clear
 abbrev resting : HardwareTimer
@@ -193,7 +193,7 @@ resting = timerControl 9 (withCounter 10 (withCompare 4 (withReload 4 freshTimer
 
 -- the line is high, and the pending bit of source 3 that it latched is cleared
 steady : Board
-steady = boardAfter (controllerWriteCall 1 8 (advancedBoard 30 settingA))
+steady = boardAfter (ControllerWrite 8 1) (advancedBoard 30 settingA)
 
 -- document 01's worked run
 worked : Run
@@ -231,29 +231,29 @@ settings =
     && gives (exactDeadline (running (withPrescaler (2 ^ 32 - 1) timerD))) (2 ^ 96)
     -- S-2: a skip is accepted at D 2^64 − 1, passes that and ends with the line high; its answer has 12 bytes
     && gives (exactDeadline (away (2 ^ 64 - 1))) (2 ^ 64 - 1)
-    && eqb (answerOf skipCall (away (2 ^ 64 - 1)) .refusal) 0
-    && line (answerOf skipCall (away (2 ^ 64 - 1)) .board)
-    && same (answerOf skipCall (away (2 ^ 64 - 1)) .members) ((2 ^ 64 - 1) ∷ 1 ∷ [])
+    && eqb (answerOf Skip (away (2 ^ 64 - 1)) .refusal) 0
+    && line (answerOf Skip (away (2 ^ 64 - 1)) .board)
+    && same (answerOf Skip (away (2 ^ 64 - 1)) .members) ((2 ^ 64 - 1) ∷ 1 ∷ [])
     && eqb (skipped (2 ^ 64 - 1) 12 .outcome .calls) 1
     && eqb (skipped (2 ^ 64 - 1) 11 .outcome .refusal) 11
     -- at D 2^64 it is refused with 13, in a run too, where 13 comes before 11, and nothing moves
-    && eqb (answerOf skipCall (away 0) .refusal) 13
-    && eqb (channel0 (answerOf skipCall (away 0) .board) .counter) 0
-    && same (answerOf skipCall (away 0) .members) []
+    && eqb (answerOf Skip (away 0) .refusal) 13
+    && eqb (channel0 (answerOf Skip (away 0) .board) .counter) 0
+    && same (answerOf Skip (away 0) .members) []
     && eqb (skipped 0 12 .outcome .refusal) 13
     && eqb (skipped 0 11 .outcome .refusal) 13
     && eqb (skipped 0 12 .outcome .calls) 0
     && eqb (channel0 (skipped 0 12 .outcome .board) .counter) 0
     -- S-4: the advance of setting B meets 3 compare points, the line being high after it; in parts of 9, 1 and 9 ticks
     -- they are 0, 1 and 2. A jump over 2^64 points counts 2^64. Refused, the line and the counts are 0
-    && same (answerOf (advanceCall 19) settingB .members) (1 ∷ 3 ∷ 0 ∷ 0 ∷ 0 ∷ [])
-    && same (answerOf (advanceCall 9) settingB .members) (0 ∷ 0 ∷ 0 ∷ 0 ∷ 0 ∷ [])
-    && same (answerOf (advanceCall 1) (advancedBoard 9 settingB) .members) (1 ∷ 1 ∷ 0 ∷ 0 ∷ 0 ∷ [])
-    && same (answerOf (advanceCall 9) (advancedBoard 1 (advancedBoard 9 settingB)) .members)
+    && same (answerOf (advanceBy 19) settingB .members) (1 ∷ 3 ∷ 0 ∷ 0 ∷ 0 ∷ [])
+    && same (answerOf (advanceBy 9) settingB .members) (0 ∷ 0 ∷ 0 ∷ 0 ∷ 0 ∷ [])
+    && same (answerOf (advanceBy 1) (advancedBoard 9 settingB) .members) (1 ∷ 1 ∷ 0 ∷ 0 ∷ 0 ∷ [])
+    && same (answerOf (advanceBy 9) (advancedBoard 1 (advancedBoard 9 settingB)) .members)
     (1 ∷ 2 ∷ 0 ∷ 0 ∷ 0 ∷ [])
-    && same (answerOf (advanceCall (2 ^ 64 - 1)) (running (withReload 1 (inMode 1))) .members)
+    && same (answerOf (advanceBy (2 ^ 64 - 1)) (running (withReload 1 (inMode 1))) .members)
     (1 ∷ 2 ^ 64 ∷ 0 ∷ 0 ∷ 0 ∷ [])
-    && same (answerOf (advanceCall 1) unsound .members) []
+    && same (answerOf (advanceBy 1) unsound .members) []
     -- F, G and poll at document 01's rate, and by S-7 at the two others
     && atRate 48_000_000 96_000_000 48_000
     && atRate 12_000_000 24_000_000 12_000
@@ -266,8 +266,8 @@ settings =
     && eqb (freshOf 24_000_000 .refusal) 15
     && eqb (freshOf 24_000_000 .board .clock .rate) 48_000_000
     -- a board that carries another rate is refused with 1, by a call and by a run, and comes back as it was
-    && eqb (answerOf (advanceCall 1) (freshBoardAt 24_000_000) .refusal) 1
-    && eqb (answerOf (advanceCall 1) (freshBoardAt 24_000_000) .board .clock .rate) 24_000_000
+    && eqb (answerOf (advanceBy 1) (freshBoardAt 24_000_000) .refusal) 1
+    && eqb (answerOf (advanceBy 1) (freshBoardAt 24_000_000) .board .clock .rate) 24_000_000
     && eqb (runOf (freshBoardAt 24_000_000) [] 0 .outcome .refusal) 1
     -- H pending bits 5 and 9, enable 0x0200: 9; 0x0220: 5
     && settingH 0x0200 .valid

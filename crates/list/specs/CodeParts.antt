@@ -52,13 +52,13 @@ use Rattle.list.specs.declared.parts.Changes.{Changes}
 -- a register of this offset is read, or a byte written to it
 pub record Reads (call : Call) (offset : ℕ) : Type 0 where
   pub address : ℕ
-  pub call : call ≡ Read address
-  pub offset : offset ≡ address + base
+  pub is : call ≡ Read address
+  pub at : offset ≡ address + base
 
 pub record Writes (call : Call) (byte offset : ℕ) : Type 0 where
   pub address : ℕ
-  pub call : call ≡ Write byte address
-  pub offset : offset ≡ address + base
+  pub is : call ≡ Write byte address
+  pub at : offset ≡ address + base
 
 -- cycles pass: of an advance, or of a skip that makes one
 abbrev pub Passes : Call → Board → Bool → ℕ → Type 0

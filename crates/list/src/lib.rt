@@ -34,7 +34,7 @@ pub struct Outcome {
 }
 
 // A run's result.
-fn outcome(board: Board, calls: usize, used: usize, written: usize, refusal: u8) -> Outcome
+fn stopped(board: Board, calls: usize, used: usize, written: usize, refusal: u8) -> Outcome
     ensures { λ r. ⌜ r
         ≡ record { board = board; calls = calls; used = used; written = written; refusal = refusal } ⌝ }
 {
@@ -54,7 +54,7 @@ pub fn run(board: Board, list: &[u8], answers: &mut [u8]) -> Outcome
         ≡ over (runOf board (now (list .entry)) (length (now (answers .entry))) .answers) (now (answers .entry)) ⌝ }
 {
     if !board.sound() {
-        return outcome(board, 0, 0, 0, Board::NOT_SOUND);
+        return stopped(board, 0, 0, 0, Board::NOT_SOUND);
     }
     let mut b = board;
     let mut calls = 0;
@@ -66,7 +66,7 @@ pub fn run(board: Board, list: &[u8], answers: &mut [u8]) -> Outcome
         let mut size = 0;
         let mut moved = false; // whether the line can have moved
         match step {
-            Step::Refused(refusal) => return outcome(b, calls, used, written, refusal),
+            Step::Refused(refusal) => return stopped(b, calls, used, written, refusal),
             Step::Read(offset) => {
                 let i = reads::channel_index(offset);
                 let timer = b.timers[i]; // here: an array that is passed on to be indexed is copied
@@ -144,7 +144,7 @@ pub fn run(board: Board, list: &[u8], answers: &mut [u8]) -> Outcome
                 b.clock.host.nanoseconds = c.host.nanoseconds;
                 let after = c.controller;
                 b.controller = after;
-                parts::put_other(answers, written, step, c.answer);
+                parts::put_other(answers, written, step, c);
                 used += parts::call_length(step);
                 size = parts::record_length(step);
             }
@@ -156,5 +156,5 @@ pub fn run(board: Board, list: &[u8], answers: &mut [u8]) -> Outcome
         calls += 1;
         written += size;
     }
-    outcome(b, calls, used, written, 0)
+    stopped(b, calls, used, written, 0)
 }

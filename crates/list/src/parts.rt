@@ -275,11 +275,13 @@ pub fn put_passed(buf: &mut [u8], at: usize, counted: bool, line: bool)
     }
 }
 
-// The record of another call.
-pub fn put_other(buf: &mut [u8], at: usize, step: Step, answer: Answer)
-    requires { ⌜ at + 3 + length (valueBytes answer) ≤ length (now buf) ⌝ }
-    ensures { λ _. ⌜ now (buf .exit) ≡ otherPut (tagOf (otherCall step)) at (valueBytes answer) (now (buf .entry)) ⌝ }
+// The record of another call, by what it changes.
+pub fn put_other(buf: &mut [u8], at: usize, step: Step, changes: Changes)
+    requires { ⌜ at + 3 + length (valueBytes (changes .answer)) ≤ length (now buf) ⌝ }
+    ensures { λ _. ⌜ now (buf .exit)
+        ≡ otherPut (tagOf (otherCall step)) at (valueBytes (changes .answer)) (now (buf .entry)) ⌝ }
 {
+    let answer = changes.answer;
     let tag = tag_of(step);
     let lengths = format::lengths_of(tag);
     format::put_header(buf, at, tag, lengths.answer);

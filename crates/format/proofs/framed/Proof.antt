@@ -1,0 +1,27 @@
+-- `framed` meets its contract. Assumes nothing.
+use mathlib.Core.Path.{sym, _∙_}
+use Rattle.format.proofs.Decoding.{framed-wrong, framed-right}
+use borrow.Author.Needs.{needs}
+use Rattle.format.proofs.framed.Statement.{statement}
+use Rattle.format.proofs.framed.Tie as tie
+
+length-wrong-requires : tie.Need-length-wrong-requires
+length-wrong-requires c κs = search needs
+
+returns : tie.Need-returns
+returns c = framed-wrong _ _ (sym (c .before .length-wrong .ensures) ∙ c .if1 .taken)
+
+add-result : tie.Need-add-result
+add-result c = search needs
+
+returns-2 : tie.Need-returns-2
+returns-2 c = framed-right _ _ (sym (c .before .length-wrong .ensures) ∙ c .if1 .left)
+
+pub framed-spec : {M : Type 1} → statement M
+framed-spec =
+    tie.close
+    (tie.spec
+    length-wrong-requires
+    returns
+    add-result
+    returns-2)

@@ -1,0 +1,113 @@
+-- Not document 01's sentences: what the code finds of the call at the front of a list, with so much room for its
+-- answer. The rules are `frameRefusal`, `callAt` and `refusalAt` of Codec, and proofs/Decoding.antt shows that these
+-- are they.
+use Prim.Native.Nat.{ℕ, _+_, _-_}
+use mathlib.Core.Path.{_≡_}
+use mathlib.Core.List.{List}
+use mathlib.Core.Bool.{Bool, true, false, cond, _&&_, not}
+use lib.ListN.{length}
+use lib.Dec.{leb, ltb, eqb}
+use Rattle.wide.specs.Fields.{beAt}
+use Rattle.board.specs.declared.Board.{Board}
+use Rattle.board.specs.declared.calls.Call.{Call}
+use Rattle.board.specs.declared.calls.Call.the-variants.{
+  HostTime,
+  Read,
+  Write,
+  Advance,
+  Deadline,
+  Skip,
+  Source,
+  ControllerRead,
+  ControllerWrite,
+  Output,
+}
+use Rattle.board.specs.Calls.{hostTimeRefusal, addressRefusal, sourceRefusal, effectOf}
+use Rattle.format.specs.declared.Decoded.{Decoded}
+use Rattle.format.specs.Format.{lengthWrong, valueCut, answerTooLong, lengthsOf, headerLength}
+use Rattle.format.specs.Codec.{tagOf, frameRefusal, callAt, recordLength, firstOf}
+
+-- what the members of a call decide of its own refusal: of a skip nothing, of another call all
+abbrev pub valueRefusal : Call → ℕ
+valueRefusal (HostTime nanoseconds seconds) =
+    hostTimeRefusal (record { seconds = seconds; nanoseconds = nanoseconds })
+valueRefusal (Read address) = addressRefusal address
+valueRefusal (Write byte address) = addressRefusal address
+valueRefusal (Advance c) = 0
+valueRefusal Deadline = 0
+valueRefusal Skip = 0
+valueRefusal (Source number level) = sourceRefusal (number .0) level
+valueRefusal (ControllerRead address) = 0
+valueRefusal (ControllerWrite byte address) = 0
+valueRefusal Output = 0
+
+-- a call that is refused before its members are looked at, or for them
+abbrev pub refusedBy : ℕ → Decoded
+refusedBy refusal = record { refusal = refusal; call = Output }
+
+-- a call whose answer has no room: one without members is told beside the refusal, because a skip's own comes first
+abbrev pub told : Call → Call
+told (HostTime nanoseconds seconds) = Output
+told (Read address) = Output
+told (Write byte address) = Output
+told (Advance c) = Output
+told Deadline = Deadline
+told Skip = Skip
+told (Source number level) = Output
+told (ControllerRead address) = Output
+told (ControllerWrite byte address) = Output
+told Output = Output
+
+abbrev pub shortOf : Call → Decoded
+shortOf call = record { refusal = answerTooLong; call = told call }
+
+-- a call without members, whose answer has so many bytes
+abbrev pub Bare : Call → ℕ → Type 0
+Bare call answer =
+    (valueRefusal call ≡ 0)
+    × ((record { known = true; value = 0; answer = answer } ≡ lengthsOf (tagOf call))
+    × (told call ≡ call))
+
+-- a call by its room
+unfoldable pub roomed : Call → ℕ → Decoded
+roomed call room = cond (ltb room (recordLength call)) (shortOf call) (record { refusal = 0; call = call })
+
+-- by its members
+unfoldable pub valued : Call → ℕ → Decoded
+valued call room = cond (eqb (valueRefusal call) 0) (roomed call room) (refusedBy (valueRefusal call))
+
+-- by the length and the bytes of its value, which is to have so many
+unfoldable pub framedAs : ℕ → Call → List ℕ → ℕ → Decoded
+framedAs value call l room =
+    cond (not (eqb (beAt l 1 2) value)) (refusedBy lengthWrong)
+    (cond (ltb (length l - headerLength) value) (refusedBy valueCut)
+    (valued call room))
+
+-- the two tests as one
+abbrev pub isFramed : ℕ → List ℕ → Bool
+isFramed value l = eqb (beAt l 1 2) value && leb (headerLength + value) (length l)
+
+-- what is found where they fail, whatever the call and the room
+abbrev pub Unframed : ℕ → List ℕ → Decoded → Type 0
+Unframed value l r = isFramed value l ≡ false → (call : Call) (room : ℕ) → r ≡ framedAs value call l room
+
+-- by its frame
+unfoldable pub decodedOf : List ℕ → ℕ → Decoded
+decodedOf l room = cond (eqb (frameRefusal l) 0) (valued (callAt l) room) (refusedBy (frameRefusal l))
+
+-- what a board decides of a call's own refusal: of a skip all, of another call nothing
+abbrev pub boardRefusal : Call → Board → ℕ
+boardRefusal (HostTime nanoseconds seconds) b = 0
+boardRefusal (Read address) b = 0
+boardRefusal (Write byte address) b = 0
+boardRefusal (Advance c) b = 0
+boardRefusal Deadline b = 0
+boardRefusal Skip b = effectOf Skip b .refusal
+boardRefusal (Source number level) b = 0
+boardRefusal (ControllerRead address) b = 0
+boardRefusal (ControllerWrite byte address) b = 0
+boardRefusal Output b = 0
+
+-- the refusal of a call that is found refused, on a board
+abbrev pub firstRefusal : Board → Decoded → ℕ
+firstRefusal b d = firstOf (boardRefusal (d .call) b) (d .refusal)
