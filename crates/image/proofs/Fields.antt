@@ -1,5 +1,5 @@
 -- The fields of an image one behind another: their lengths, and how they are stored. Assumes nothing.
-use Prim.Native.Nat.{ℕ, _+_, _-_, _^_, _≤_, _<_}
+use Prim.Native.Nat.{ℕ, _+_, _-_, _≤_}
 use native.Mathlib.Nat.{zero-add}
 use native.Mathlib.Omega.{arith}
 use mathlib.Core.Path.{_≡_, refl, sym, ap, ap₂, _∙_, subst}
@@ -15,8 +15,8 @@ use Rattle.board.specs.declared.Latch.the-variants.{Empty}
 use Rattle.board.specs.declared.Latch.{Latch}
 use Rattle.board.specs.declared.CountLatch.{CountLatch}
 use Rattle.board.specs.declared.Board.{Board}
-use Rattle.board.specs.Loops.{All}
 use Rattle.board.specs.Board.{heldOf, heldValue}
+use Rattle.board.proofs.Loops.{by-four}
 use Rattle.wide.specs.Bits.{flagOf}
 use Rattle.image.specs.Image.{
   Field,
@@ -50,24 +50,12 @@ use Rattle.image.specs.CodeTables.{
   frontBytes,
   frontLength,
 }
-use Rattle.image.specs.Words.{CountWord, LatchWords}
-
--- ---- four elements
 
 -- a list of four is its four elements
-pub four-is : {A : Type 0} (d : A) (xs : List A) → length xs ≡ 4 →
+four-is : {A : Type 0} (d : A) (xs : List A) → length xs ≡ 4 →
     xs ≡ getD xs 0 d ∷ getD xs 1 d ∷ getD xs 2 d ∷ getD xs 3 d ∷ []
-four-is d [] e = absurd (omega (arith, e))
-four-is d (a ∷ []) e = absurd (omega (arith, e))
-four-is d (a ∷ b ∷ []) e = absurd (omega (arith, e))
-four-is d (a ∷ b ∷ c ∷ []) e = absurd (omega (arith, e))
-four-is d (a ∷ b ∷ c ∷ h ∷ []) e = refl
-four-is d (a ∷ b ∷ c ∷ h ∷ x ∷ xs) e = absurd (omega (arith, e))
-
--- what holds of each holds of all
-pub four-all : {A : Type 0} (P : A → Type 0) (d : A) (xs : List A) → length xs ≡ 4 → P (getD xs 0 d) →
-    P (getD xs 1 d) → P (getD xs 2 d) → P (getD xs 3 d) → All P xs
-four-all P d xs e p q r s = subst (All P) (sym (four-is d xs e)) (p, (q, (r, (s, tt))))
+four-is d =
+    by-four (λ xs. xs ≡ getD xs 0 d ∷ getD xs 1 d ∷ getD xs 2 d ∷ getD xs 3 d ∷ []) (λ _ _ _ _. refl)
 
 -- ---- lengths
 
@@ -220,32 +208,18 @@ held cs k = flagOf (heldOf (getD cs k none .high))
 abbrev valued : List CountLatch → ℕ → ℕ
 valued cs k = heldValue (getD cs k none .high)
 
-fit : {v w : ℕ} → v ≡ w → v < 2 ^ 32 → w < 2 ^ 32
-fit e h = subst (λ (n : ℕ). n < 2 ^ 32) e h
-
--- its members are those of six latches, of which each value fits; the result of the code is a field of these
+-- its members are those of six latches; the result of the code is a field of these
 pub latches-stored : (cs : List CountLatch) → length cs ≡ 4 → (low high : Latch) (x y : List ℕ)
     {a1 v1 a2 v2 a3 v3 a4 v4 a5 v5 a6 v6 : ℕ} →
-    a1 ≡ held cs 0 → (v1 ≡ valued cs 0) × (v1 < 2 ^ 32) → a2 ≡ held cs 1 → (v2 ≡ valued cs 1) × (v2 < 2 ^ 32) →
-    a3 ≡ held cs 2 → (v3 ≡ valued cs 2) × (v3 < 2 ^ 32) → a4 ≡ held cs 3 → (v4 ≡ valued cs 3) × (v4 < 2 ^ 32) →
-    a5 ≡ flagOf (heldOf low) → (v5 ≡ heldValue low) × (v5 < 2 ^ 32) →
-    a6 ≡ flagOf (heldOf high) → (v6 ≡ heldValue high) × (v6 < 2 ^ 32) →
+    a1 ≡ held cs 0 → v1 ≡ valued cs 0 → a2 ≡ held cs 1 → v2 ≡ valued cs 1 →
+    a3 ≡ held cs 2 → v3 ≡ valued cs 2 → a4 ≡ held cs 3 → v4 ≡ valued cs 3 →
+    a5 ≡ flagOf (heldOf low) → v5 ≡ heldValue low → a6 ≡ flagOf (heldOf high) → v6 ≡ heldValue high →
     y ≡ sets x latchesAt (fieldBytes latchesField
     (a1 ∷ v1 ∷ a2 ∷ v2 ∷ a3 ∷ v3 ∷ a4 ∷ v4 ∷ a5 ∷ v5 ∷ a6 ∷ v6 ∷ [])) →
-    (y ≡ sets x latchesAt (fieldBytes latchesField (latchesMembers (record { counts = cs; low = low; high = high }))))
-    × LatchWords (record { counts = cs; low = low; high = high })
-latches-stored cs four low high x y h1 w1 h2 w2 h3 w3 h4 w4 h5 w5 h6 w6 e = (
-  rw (h1, w1 .0, h2, w2 .0, h3, w3 .0, h4, w4 .0, h5, w5 .0, h6, w6 .0) at e
-      ∙ ap
-      (λ (xs : List CountLatch).
-      sets x latchesAt (fieldBytes latchesField (latchesMembers (record { counts = xs; low = low; high = high }))))
-      (sym (four-is none cs four)),
-  record {
-    four = four;
-    counts =
-        four-all CountWord none cs four (fit (w1 .0) (w1 .1)) (fit (w2 .0) (w2 .1)) (fit (w3 .0) (w3 .1))
-        (fit (w4 .0) (w4 .1));
-    low = fit (w5 .0) (w5 .1);
-    high = fit (w6 .0) (w6 .1);
-  },
-)
+    y ≡ sets x latchesAt (fieldBytes latchesField (latchesMembers (record { counts = cs; low = low; high = high })))
+latches-stored cs four low high x y h1 w1 h2 w2 h3 w3 h4 w4 h5 w5 h6 w6 e =
+    rw (h1, w1, h2, w2, h3, w3, h4, w4, h5, w5, h6, w6) at e
+    ∙ ap
+    (λ (xs : List CountLatch).
+    sets x latchesAt (fieldBytes latchesField (latchesMembers (record { counts = xs; low = low; high = high }))))
+    (sym (four-is none cs four))

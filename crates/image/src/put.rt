@@ -1,20 +1,18 @@
-// The bytes of a board's image, field by field. The contracts also say that the words that are put are words.
+// The bytes of a board's image, field by field.
 ghost use mathlib.Core.Path.{_≡_};
 ghost use mathlib.Core.List.{[], _∷_};
-ghost use Prim.Native.Nat.{_+_, _≤_, _<_, _^_};
+ghost use Prim.Native.Nat.{_+_, _≤_};
 ghost use lib.ListN.{length};
 ghost use lib.Seq.{sets};
 ghost use Rattle.wide.specs.Bits.{flagOf};
 ghost use Rattle.format.specs.Format.{sum, membersBytes, recordOf};
-ghost use Rattle.board.specs.Loops.{All};
-ghost use Rattle.board.specs.Board.{BoardFits, heldOf, heldValue};
+ghost use Rattle.board.specs.Board.{heldOf, heldValue};
 ghost use Rattle.image.specs.CodeTables.{Laid, channelsBytes, clockAt, latchesAt, controllerAt};
 ghost use Rattle.image.specs.CodeTables.{frontBytes, frontLength};
 ghost use Rattle.image.specs.Image.{channelField, clockField, latchesField, controllerField, rateField};
 ghost use Rattle.image.specs.Image.{timerMembers, clockMembers, latchesMembers, controllerMembers};
 ghost use Rattle.image.specs.Image.{fieldLength, imageLength, fieldBytes, imageOf};
 ghost use Rattle.image.specs.declared.Form.the-variants.{Old};
-ghost use Rattle.image.specs.Words.{TimerWords, ClockWords, LatchWords, ControllerWords, BoardWords};
 use crate::CHANNEL_LENGTH;
 use crate::CHANNEL_SIZE;
 use crate::CHANNEL_TAG;
@@ -77,7 +75,6 @@ fn put_field(buf: &mut [u8], at: usize, tag: u8, size: usize, widths: &[usize], 
 fn put_channel(buf: &mut [u8], at: usize, timer: HardwareTimer)
     requires { ⌜ at + fieldLength channelField ≤ length (now buf) ⌝ }
     ensures { λ _. ⌜ now (buf .exit) ≡ sets (now (buf .entry)) at (fieldBytes channelField (timerMembers timer)) ⌝ }
-    ensures { λ _. ⌜ TimerWords timer ⌝ }
 {
     let members = [
         timer.control as u64,
@@ -103,7 +100,6 @@ fn put_clock(buf: &mut [u8], timer_enable: u8, clock: Clock)
     requires { ⌜ latchesAt ≤ length (now buf) ⌝ }
     ensures { λ _. ⌜ now (buf .exit)
         ≡ sets (now (buf .entry)) clockAt (fieldBytes clockField (clockMembers «timer_enable» clock)) ⌝ }
-    ensures { λ _. ⌜ ClockWords clock ⌝ }
 {
     let members = [
         timer_enable as u64,
@@ -147,7 +143,7 @@ fn held(latch: Latch) -> u64
 
 // A latch's value, 0 where it is empty.
 fn value(latch: Latch) -> u64
-    ensures { λ r. ⌜ (r ≡ heldValue latch) × (r < 2 ^ 32) ⌝ }
+    ensures { λ r. ⌜ r ≡ heldValue latch ⌝ }
 {
     match latch {
         Latch::Empty => 0,
@@ -159,7 +155,6 @@ fn put_latches(buf: &mut [u8], counts: [CountLatch; 4], low: Latch, high: Latch)
     requires { ⌜ controllerAt ≤ length (now buf) ⌝ }
     ensures { λ _. ⌜ now (buf .exit) ≡ sets (now (buf .entry)) latchesAt
         (fieldBytes latchesField (latchesMembers (record { counts = counts; low = low; high = high }))) ⌝ }
-    ensures { λ _. ⌜ LatchWords (record { counts = counts; low = low; high = high }) ⌝ }
 {
     let first = counts[0];
     let a = first.high;
@@ -197,7 +192,6 @@ fn put_controller(buf: &mut [u8], controller: IrqController)
     requires { ⌜ imageLength Old ≤ length (now buf) ⌝ }
     ensures { λ _. ⌜ now (buf .exit)
         ≡ sets (now (buf .entry)) controllerAt (fieldBytes controllerField (controllerMembers controller)) ⌝ }
-    ensures { λ _. ⌜ ControllerWords controller ⌝ }
 {
     let members = [
         controller.pending as u64,
@@ -217,7 +211,6 @@ fn put_controller(buf: &mut [u8], controller: IrqController)
 fn put_channels(buf: &mut [u8], timers: [HardwareTimer; 4])
     requires { ⌜ clockAt ≤ length (now buf) ⌝ }
     ensures { λ _. ⌜ now (buf .exit) ≡ sets (now (buf .entry)) 0 (channelsBytes timers) ⌝ }
-    ensures { λ _. ⌜ (length timers ≡ 4) × All TimerWords timers ⌝ }
 {
     put_channel(buf, 0, timers[0]);
     put_channel(buf, CHANNEL_SIZE, timers[1]);
@@ -229,7 +222,6 @@ fn put_channels(buf: &mut [u8], timers: [HardwareTimer; 4])
 fn put_old(buf: &mut [u8], board: Board)
     requires { ⌜ imageLength Old ≤ length (now buf) ⌝ }
     ensures { λ _. ⌜ now (buf .exit) ≡ sets (now (buf .entry)) 0 (imageOf Old board) ⌝ }
-    ensures { λ _. ⌜ (BoardFits board → BoardWords board) ⌝ }
 {
     let timers = board.timers;
     put_channels(buf, timers);
@@ -273,7 +265,6 @@ fn put_front(buf: &mut [u8], form: Form, rate: u32) -> usize
 pub fn put_image(buf: &mut [u8], form: Form, board: Board)
     requires { ⌜ imageLength form ≤ length (now buf) ⌝ }
     ensures { λ _. ⌜ now (buf .exit) ≡ sets (now (buf .entry)) 0 (imageOf form board) ⌝ }
-    ensures { λ _. ⌜ (BoardFits board → BoardWords board) ⌝ }
 {
     let at = put_front(buf, form, board.clock.rate);
     put_old(&mut buf[at..], board);

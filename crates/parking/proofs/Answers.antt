@@ -16,6 +16,7 @@ use Rattle.board.specs.declared.Board.{Board}
 use Rattle.board.specs.Fields.{freshBoard}
 use Rattle.board.specs.Board.{sound}
 use Rattle.board.specs.Calls.{notSound, anotherRate}
+use Rattle.board.proofs.Answers.{accepted-sound}
 use Rattle.image.specs.Image.{
   Field,
   channelField,
@@ -184,9 +185,7 @@ module _ (f : Form) (b : Board) (old : List ℕ) (r : ℕ) (told : r ≡ writing
 
     -- then the board is sound, the form takes its rate, and there is room
     pub writing-sound : sound b ≡ true
-    writing-sound =
-        either (sound b) (λ s. s)
-        (λ s. let one : _≡_ {A = ℕ} 1 0 = rw s at (sym told ∙ z) in absurd (omega (arith, one)))
+    writing-sound = accepted-sound b (parkingRefusal f (rateOf (b .clock)) (length old)) (sym told ∙ z)
 
     pub writing-rate : formTakes f (rateOf (b .clock)) ≡ true
     writing-rate =

@@ -1,5 +1,5 @@
 -- A board and its members, there and back: the members of a sound board fit the layout and say that board, and members
--- that fit the layout are those of the board that they say. Assumes nothing.
+-- that fit the layout are those of the board that they say, which is within its widths. Assumes nothing.
 use Prim.Native.Nat.{ℕ, zero, suc, _+_, _^_, _≤_, _<_}
 use native.Mathlib.Nat.{lt-of-lt-of-le}
 use native.Mathlib.Omega.{arith}
@@ -12,23 +12,26 @@ use lib.Dec.{leb, ltb, eqb}
 use borrow.Author.Tests.{ltb-true, leb-true, le-leb, eqb-true}
 use Rattle.wide.specs.Bits.{flagOf}
 use Rattle.wide.proofs.Choices.{choose, and-parts, and-join}
+use Rattle.wide.proofs.Forms.{flag-back}
 use Rattle.channel.specs.declared.HardwareTimer.{HardwareTimer}
-use Rattle.channel.specs.Channel.{TimerFits, freshTimer, soundTimer}
-use Rattle.channel.proofs.Sound.{sound-control, sound-phase}
+use Rattle.channel.specs.Channel.{TimerFits}
+use Rattle.channel.proofs.Sound.{GoodTimer}
 use Rattle.clock.specs.declared.Clock.{Clock}
 use Rattle.clock.specs.Clock.{rateOf, nanosPerSecond, pollLimit}
 use Rattle.clock.specs.Sound.{ClockFits, soundRate}
 use Rattle.clock.proofs.Rate.{of-three, rate-fits}
-use Rattle.clock.proofs.Soundness.{OwnSound}
+use Rattle.clock.proofs.Soundness.{GoodClock}
 use Rattle.controller.specs.declared.IrqController.{IrqController}
+use Rattle.controller.specs.Controller.{ControllerFits}
 use Rattle.board.specs.declared.Latch.{Latch}
 use Rattle.board.specs.declared.Latch.the-variants.{Empty, Held}
 use Rattle.board.specs.declared.CountLatch.{CountLatch}
 use Rattle.board.specs.declared.Latches.{Latches}
 use Rattle.board.specs.declared.Board.{Board}
-use Rattle.board.specs.Loops.{All, foldFrom}
-use Rattle.board.specs.Board.{heldOf, heldValue, sound}
-use Rattle.board.proofs.Soundness.{sound-facts, clock-facts}
+use Rattle.board.specs.Loops.{All}
+use Rattle.board.specs.Board.{heldOf, heldValue, LatchFits, CountFits, LatchesFit, BoardFits}
+use Rattle.board.proofs.Loops.{by-four}
+use Rattle.board.proofs.Good.{GoodParts}
 use Rattle.image.specs.Image.{
   number,
   flag,
@@ -54,26 +57,13 @@ use Rattle.image.specs.Image.{
   latchFrom,
   latchesFrom,
   emptiesHold0,
+  controllerFrom,
   boardFrom,
 }
-use Rattle.image.specs.Words.{
-  TimerWords,
-  ClockWords,
-  LatchWord,
-  CountWord,
-  LatchWords,
-  ControllerWords,
-  BoardWords,
-}
-use Rattle.image.proofs.Fields.{four-is}
-use Rattle.parking.proofs.Stored.{ended, _▸_, each-length, each-at, Below, flag-at, FieldFit, FieldsFit}
+use Rattle.parking.proofs.Stored.{ended, _▸_, each-length, each-at, Below}
+use Rattle.parking.proofs.Stored.{flag-at, FieldFit, FieldsFit}
 
 -- ---- flags
-
--- a flag as a number, and back
-flag-back : (v : Bool) → flagIs (flagOf v) ≡ v
-flag-back true = refl
-flag-back false = refl
 
 flag-most : (v : Bool) → flagOf v ≤ 1
 flag-most true = omega arith
@@ -104,8 +94,8 @@ latch-members zero value h e = ap (λ (v : ℕ). 0 ∷ v ∷ []) (sym (eqb-true 
 latch-members (suc zero) value h e = refl
 latch-members (suc (suc n)) value h e = absurd (omega (arith, h))
 
-latch-word : (held value : ℕ) → value < 2 ^ 32 → LatchWord (latchFrom held value)
-latch-word held value h = choose LatchWord (flagIs held) {x = Held value} {y = Empty} (λ _. h) (λ _. omega arith)
+latch-fits : (held value : ℕ) → value < 2 ^ 32 → LatchFits (latchFrom held value)
+latch-fits held value h = choose LatchFits (flagIs held) {x = Held value} {y = Empty} (λ _. h) (λ _. omega arith)
 
 latch-empty : (l : Latch) → (flagIs (flagOf (heldOf l)) || eqb (heldValue l) 0) ≡ true
 latch-empty Empty = refl
@@ -180,6 +170,49 @@ latches-members ms fit e =
     at k n f h =
         latch-members (getD ms k 0) (getD ms n 0) (flag-at (latchesField .members) ms (fit .flags) k f) h
 
+-- ---- and that part is within its widths
+
+timer-fits : (ms : List ℕ) → FieldFit channelField ms → TimerFits (timerFrom ms)
+timer-fits ms fit =
+    record {
+      counter = word channelField ms fit 1 refl;
+      compare = word channelField ms fit 2 refl;
+      reload = word channelField ms fit 3 refl;
+      prescaler = word channelField ms fit 4 refl;
+    }
+
+clock-fits : (rate : ℕ) (ms : List ℕ) → FieldFit clockField ms → ClockFits (clockFrom rate ms)
+clock-fits rate ms fit =
+    record {
+      seconds = word clockField ms fit 2 refl;
+      offset = word clockField ms fit 5 refl;
+      alarm = word clockField ms fit 8 refl;
+      shadow = word clockField ms fit 11 refl;
+      alarmShadow = word clockField ms fit 14 refl;
+      host = word clockField ms fit 16 refl;
+    }
+
+latches-fits : (ms : List ℕ) → FieldFit latchesField ms → LatchesFit (latchesFrom ms)
+latches-fits ms fit =
+    record {
+      four = refl;
+      counts = (at 0 refl refl, (at 2 refl refl, (at 4 refl refl, (at 6 refl refl, tt))));
+      low = at 8 refl refl;
+      high = at 10 refl refl;
+    }
+  where
+    at : (k : ℕ) → ltb (suc k) 12 ≡ true → getD (widthsOf (latchesField .members)) (suc k) 0 ≡ 4 →
+        LatchFits (latchFrom (getD ms k 0) (getD ms (suc k) 0))
+    at k h e = latch-fits (getD ms k 0) (getD ms (suc k) 0) (rw e at (word latchesField ms fit (suc k) h))
+
+controller-fits : (ms : List ℕ) → FieldFit controllerField ms → ControllerFits (controllerFrom ms)
+controller-fits ms fit =
+    record {
+      pending = word controllerField ms fit 0 refl;
+      enable = word controllerField ms fit 1 refl;
+      levels = word controllerField ms fit 2 refl;
+    }
+
 -- ---- and so of the whole layout
 
 module _ (rate : ℕ) (mss : List (List ℕ)) (fit : FieldsFit layout mss) where
@@ -201,60 +234,19 @@ module _ (rate : ℕ) (mss : List (List ℕ)) (fit : FieldsFit layout mss) where
       (ap (λ (ms : List ℕ). ms ∷ []) (all-kept controllerField (part 6) (at 6 refl))))))))
       ∙ elements-are [] mss 0 7 (omega (arith, each-length FieldFit layout mss fit))
 
--- ---- the words of the board that they say
-
-timer-fits : (ms : List ℕ) → FieldFit channelField ms → TimerFits (timerFrom ms)
-timer-fits ms fit = record { counter = word channelField ms fit 1 refl; compare = word channelField ms fit 2 refl }
-
-timer-words : (ms : List ℕ) → FieldFit channelField ms → TimerWords (timerFrom ms)
-timer-words ms fit = record { reload = word channelField ms fit 3 refl; prescaler = word channelField ms fit 4 refl }
-
-clock-fits : (rate : ℕ) (ms : List ℕ) → FieldFit clockField ms → ClockFits (clockFrom rate ms)
-clock-fits rate ms fit =
-    record {
-      seconds = word clockField ms fit 2 refl;
-      alarm = word clockField ms fit 8 refl;
-      shadow = word clockField ms fit 11 refl;
-      alarmShadow = word clockField ms fit 14 refl;
-    }
-
-latch-words : (ms : List ℕ) → FieldFit latchesField ms → LatchWords (latchesFrom ms)
-latch-words ms fit =
-    record {
-      four = refl;
-      counts = (at 0 refl refl, (at 2 refl refl, (at 4 refl refl, (at 6 refl refl, tt))));
-      low = at 8 refl refl;
-      high = at 10 refl refl;
-    }
-  where
-    at : (k : ℕ) → ltb (suc k) 12 ≡ true → getD (widthsOf (latchesField .members)) (suc k) 0 ≡ 4 →
-        LatchWord (latchFrom (getD ms k 0) (getD ms (suc k) 0))
-    at k h e = latch-word (getD ms k 0) (getD ms (suc k) 0) (rw e at (word latchesField ms fit (suc k) h))
-
-module _ (rate : ℕ) (mss : List (List ℕ)) (fit : FieldsFit layout mss) where
-  pub board-words : BoardWords (boardFrom rate mss)
+  pub from-fits : BoardFits (boardFrom rate mss)
   unfolding boardFrom
-  board-words =
-      let c0 : FieldFit channelField (getD mss 0 []) = at rate mss fit 0 refl in
-      let c1 : FieldFit channelField (getD mss 1 []) = at rate mss fit 1 refl in
-      let c2 : FieldFit channelField (getD mss 2 []) = at rate mss fit 2 refl in
-      let c3 : FieldFit channelField (getD mss 3 []) = at rate mss fit 3 refl in
-      let k : FieldFit clockField (getD mss 4 []) = at rate mss fit 4 refl in
-      let q : FieldFit controllerField (getD mss 6 []) = at rate mss fit 6 refl in
+  from-fits =
+      let a = timer-fits (part 0) (at 0 refl) in
+      let b = timer-fits (part 1) (at 1 refl) in
+      let c = timer-fits (part 2) (at 2 refl) in
+      let d = timer-fits (part 3) (at 3 refl) in
       record {
-        fits = record {
-          four = refl;
-          timers = (timer-fits _ c0, (timer-fits _ c1, (timer-fits _ c2, (timer-fits _ c3, tt))));
-          clock = clock-fits rate _ k;
-        };
-        timers = (timer-words _ c0, (timer-words _ c1, (timer-words _ c2, (timer-words _ c3, tt))));
-        clock = record { offset = word clockField _ k 5 refl; host = word clockField _ k 16 refl };
-        latches = latch-words (getD mss 5 []) (at rate mss fit 5 refl);
-        controller = record {
-          pending = word controllerField _ q 0 refl;
-          enable = word controllerField _ q 1 refl;
-          levels = word controllerField _ q 2 refl;
-        };
+        four = refl;
+        timers = (a, (b, (c, (d, tt))));
+        clock = clock-fits rate (part 4) (at 4 refl);
+        latches = latches-fits (part 5) (at 5 refl);
+        controller = controller-fits (part 6) (at 6 refl);
       }
 
 -- ---- the members of a sound board fit the layout
@@ -263,99 +255,74 @@ module _ (rate : ℕ) (mss : List (List ℕ)) (fit : FieldsFit layout mss) where
 below : {v : ℕ} (a b : ℕ) → v < a → leb a b ≡ true → v < b
 below {v} a b h e = omega (arith, h, leb-true a b e)
 
-timer-fit : (h : HardwareTimer) → TimerFits h → TimerWords h → soundTimer h ≡ true →
-    FieldFit channelField (timerMembers h)
+timer-fit : (h : HardwareTimer) → GoodTimer h → FieldFit channelField (timerMembers h)
 unfolding flagsHold
-timer-fit h f w s =
-    let phase : h .phase < 2 ^ 32 = omega (arith, sound-phase h s, w .prescaler) in
+timer-fit h g =
+    let f = g .fits in
+    let phase : h .phase < 2 ^ 32 = omega (arith, g .phase, f .prescaler) in
     record {
       header = refl;
       members =
-          below 16 256 (sound-control h s) refl ▸ f .counter ▸ f .compare ▸ w .reload ▸ w .prescaler ▸ phase
+          below 16 256 (g .control) refl ▸ f .counter ▸ f .compare ▸ f .reload ▸ f .prescaler ▸ phase
           ▸ flag-fits (h .pending) ▸ flag-fits (h .armed) ▸ ended;
-      flags = and-join _ _ (flag-holds (h .pending)) (and-join _ true (flag-holds (h .armed)) refl);
+      flags = simp flag-holds;
     }
 
--- the channels ahead of other fields, k being the number of the first
-channels-fit : (k : ℕ) (ts : List HardwareTimer) → All TimerFits ts → All TimerWords ts →
-    foldFrom (λ _ h. soundTimer h) _&&_ true k ts ≡ true → (fs : List Field) (mss : List (List ℕ)) → FieldsFit fs mss →
-    FieldsFit (replicate (length ts) channelField ++ fs) (map timerMembers ts ++ mss)
-unfolding foldFrom
-channels-fit k [] f w s fs mss fit = fit
-channels-fit k (t ∷ ts) f w s fs mss fit =
-    let p = and-parts (soundTimer t) (foldFrom (λ _ h. soundTimer h) _&&_ true (suc k) ts) s in
-    timer-fit t (f .0) (w .0) (p .0) ▸ channels-fit (suc k) ts (f .1) (w .1) (p .1) fs mss fit
+-- the channels ahead of other fields
+channels-fit : (ts : List HardwareTimer) → All GoodTimer ts → (fs : List Field) (mss : List (List ℕ)) →
+    FieldsFit fs mss → FieldsFit (replicate (length ts) channelField ++ fs) (map timerMembers ts ++ mss)
+channels-fit [] g fs mss fit = fit
+channels-fit (t ∷ ts) g fs mss fit = timer-fit t (g .0) ▸ channels-fit ts (g .1) fs mss fit
 
 -- poll's limit is no more than the rate
 limit-fits : (rate : ℕ) → rate ≤ 2 ^ 32 → pollLimit rate ≤ 2 ^ 32
 limit-fits rate h = omega arith
 
-clock-fit : (enable : ℕ) (k : Clock) → enable < 16 → soundRate (rateOf k) ≡ true → OwnSound k → ClockWords k →
+clock-fit : (rate enable : ℕ) (k : Clock) → soundRate rate ≡ true → enable < 16 → GoodClock rate k →
     FieldFit clockField (clockMembers enable k)
 unfolding flagsHold
-clock-fit enable k e r s w =
-    let p = s .parts in
-    let fits = rate-fits (rateOf k) r in
+clock-fit rate enable k r e g =
+    let p = g .parts in
+    let fits = rate-fits rate r in
     record {
       header = refl;
       members =
           below 16 256 e refl ▸ below 8 256 (p .control) refl ▸ p .seconds
           ▸ lt-of-lt-of-le (p .subsecond) fits
-          ▸ flag-fits (k .offset .negative) ▸ w .offset ▸ below nanosPerSecond (2 ^ 32) (p .offset .small) refl
+          ▸ flag-fits (k .offset .negative) ▸ p .offset .word ▸ below nanosPerSecond (2 ^ 32) (p .offset .small) refl
           ▸ below 2 256 (p .alarm .enable) refl ▸ p .alarm .word
           ▸ flag-fits (k .alarm .pending) ▸ flag-fits (k .alarm .armed)
           ▸ p .shadow .word ▸ below 255 256 (p .shadow .mask) refl
-          ▸ lt-of-lt-of-le (p .poll) (limit-fits (rateOf k) fits)
+          ▸ lt-of-lt-of-le (p .poll) (limit-fits rate fits)
           ▸ p .alarmShadow .word ▸ below 255 256 (p .alarmShadow .mask) refl
-          ▸ w .host ▸ below nanosPerSecond (2 ^ 32) (p .host) refl ▸ ended;
-      flags =
-          and-join _ _ (flag-holds (k .offset .negative))
-          (and-join _ _ (flag-holds (k .alarm .pending)) (and-join _ true (flag-holds (k .alarm .armed)) refl));
+          ▸ p .host .word ▸ below nanosPerSecond (2 ^ 32) (p .host .small) refl ▸ ended;
+      flags = simp flag-holds;
     }
 
--- no latch
-abbrev none : CountLatch
-none = record { high = Empty }
-
--- the latches of four channels and of the clock
-six-fit : (a b c d e f : Latch) → LatchWord a → LatchWord b → LatchWord c → LatchWord d → LatchWord e → LatchWord f →
-    FieldFit latchesField
-    (latchMembers a ++ (latchMembers b ++ (latchMembers c ++ (latchMembers d ++ (latchMembers e ++ latchMembers f)))))
+latches-fit : (ls : Latches) → LatchesFit ls → FieldFit latchesField (latchesMembers ls)
 unfolding flagsHold
-six-fit a b c d e f p q r s t u =
-    record {
+latches-fit ls f =
+    by-four
+    (λ cs. All CountFits cs →
+    FieldFit latchesField (countMembers cs ++ (latchMembers (ls .low) ++ latchMembers (ls .high))))
+    (λ a b c d w. record {
       header = refl;
       members =
-          flag-fits (heldOf a) ▸ p ▸ flag-fits (heldOf b) ▸ q ▸ flag-fits (heldOf c) ▸ r ▸ flag-fits (heldOf d) ▸ s
-          ▸ flag-fits (heldOf e) ▸ t ▸ flag-fits (heldOf f) ▸ u ▸ ended;
-      flags =
-          and-join _ _ (flag-holds (heldOf a))
-          (and-join _ _ (flag-holds (heldOf b))
-          (and-join _ _ (flag-holds (heldOf c))
-          (and-join _ _ (flag-holds (heldOf d))
-          (and-join _ _ (flag-holds (heldOf e)) (and-join _ true (flag-holds (heldOf f)) refl)))));
-    }
-
-latches-fit : (ls : Latches) → LatchWords ls → FieldFit latchesField (latchesMembers ls)
-latches-fit ls w =
-    let is = four-is none (ls .counts) (w .four) in
-    let ws = subst (All CountWord) is (w .counts) in
-    subst
-    (λ (cs : List CountLatch).
-    FieldFit latchesField (countMembers cs ++ (latchMembers (ls .low) ++ latchMembers (ls .high))))
-    (sym is)
-    (six-fit (of 0) (of 1) (of 2) (of 3) (ls .low) (ls .high)
-    (ws .0) (ws .1 .0) (ws .1 .1 .0) (ws .1 .1 .1 .0) (w .low) (w .high))
+          held a ▸ w .0 ▸ held b ▸ w .1 .0 ▸ held c ▸ w .1 .1 .0 ▸ held d ▸ w .1 .1 .1 .0
+          ▸ flag-fits (heldOf (ls .low)) ▸ f .low ▸ flag-fits (heldOf (ls .high)) ▸ f .high ▸ ended;
+      flags = simp flag-holds;
+    })
+    (ls .counts) (f .four) (f .counts)
   where
-    of : ℕ → Latch
-    of k = getD (ls .counts) k none .high
+    held : (c : CountLatch) → flagOf (heldOf (c .high)) < 256
+    held c = flag-fits (heldOf (c .high))
 
-controller-fit : (q : IrqController) → ControllerWords q → FieldFit controllerField (controllerMembers q)
+controller-fit : (q : IrqController) → ControllerFits q → FieldFit controllerField (controllerMembers q)
 unfolding flagsHold
-controller-fit q w =
+controller-fit q f =
     record {
       header = refl;
-      members = w .pending ▸ w .enable ▸ w .levels ▸ ended;
+      members = f .pending ▸ f .enable ▸ f .levels ▸ ended;
       flags = refl;
     }
 
@@ -369,18 +336,15 @@ rate-fit rate r =
       flags = refl;
     }
 
-module _ (b : Board) (w : BoardWords b) (s : sound b ≡ true) where
-  pub members-fit : FieldsFit layout (membersOf b)
-  members-fit =
-      let f = w .fits in
-      let facts = sound-facts b s in
-      let others = clockField ∷ latchesField ∷ controllerField ∷ [] in
-      subst (λ (n : ℕ). FieldsFit (replicate n channelField ++ others) (membersOf b)) (f .four)
-      (channels-fit 0 (b .timers) (f .timers) (w .timers) (facts .timers) _ _
-      (clock-fit (b .«timer_enable») (b .clock) (facts .enable) (facts .rate) (clock-facts b (f .clock) s) (w .clock)
-      ▸ latches-fit (b .latches) (w .latches)
-      ▸ controller-fit (b .controller) (w .controller)
-      ▸ ended))
+pub members-fit : {rate : ℕ} (b : Board) → GoodParts rate b → FieldsFit layout (membersOf b)
+members-fit {rate} b p =
+    let others = clockField ∷ latchesField ∷ controllerField ∷ [] in
+    subst (λ (n : ℕ). FieldsFit (replicate n channelField ++ others) (membersOf b)) (p .four)
+    (channels-fit (b .timers) (p .timers) _ _
+    (clock-fit rate (b .«timer_enable») (b .clock) (p .known) (p .enable) (p .clock)
+    ▸ latches-fit (b .latches) (p .latches)
+    ▸ controller-fit (b .controller) (p .controller)
+    ▸ ended))
 
 -- ---- and say that board
 
@@ -391,52 +355,46 @@ clock-back : (enable : ℕ) (k : Clock) → clockFrom (rateOf k) (clockMembers e
 clock-back enable k =
     rw (flag-back (k .offset .negative), flag-back (k .alarm .pending), flag-back (k .alarm .armed))
 
-six-back : (a b c d : CountLatch) (low high : Latch) →
-    latchesFrom (latchesMembers (record { counts = a ∷ b ∷ c ∷ d ∷ []; low = low; high = high }))
-    ≡ record { counts = a ∷ b ∷ c ∷ d ∷ []; low = low; high = high }
-six-back a b c d low high =
+latches-back : (ls : Latches) → length (ls .counts) ≡ 4 → latchesFrom (latchesMembers ls) ≡ ls
+latches-back ls =
+    by-four
+    (λ cs.
+    latchesFrom (latchesMembers (record { counts = cs; low = ls .low; high = ls .high }))
+    ≡ record { counts = cs; low = ls .low; high = ls .high })
+    (λ a b c d.
     rw (
       latch-back (a .high),
       latch-back (b .high),
       latch-back (c .high),
       latch-back (d .high),
-      latch-back low,
-      latch-back high,
-    )
+      latch-back (ls .low),
+      latch-back (ls .high),
+    ))
+    (ls .counts)
 
-latches-back : (ls : Latches) → length (ls .counts) ≡ 4 → latchesFrom (latchesMembers ls) ≡ ls
-latches-back ls four =
-    subst
-    (λ (cs : List CountLatch).
-    latchesFrom (latchesMembers (record { counts = cs; low = ls .low; high = ls .high }))
-    ≡ record { counts = cs; low = ls .low; high = ls .high })
-    (sym (four-is none (ls .counts) four))
-    (six-back _ _ _ _ (ls .low) (ls .high))
-
-abbrev made : List HardwareTimer → ℕ → Clock → Latches → IrqController → Board
-made ts enable k ls q = record { timers = ts; «timer_enable» = enable; clock = k; latches = ls; controller = q }
-
-four-back : (t u v w : HardwareTimer) (enable : ℕ) (k : Clock) (ls : Latches) (q : IrqController) →
-    latchesFrom (latchesMembers ls) ≡ ls →
-    boardFrom (rateOf k) (membersOf (made (t ∷ u ∷ v ∷ w ∷ []) enable k ls q)) ≡ made (t ∷ u ∷ v ∷ w ∷ []) enable k ls q
+pub board-back : (b : Board) → BoardFits b → boardFrom (rateOf (b .clock)) (membersOf b) ≡ b
 unfolding boardFrom
-four-back t u v w enable k ls q e =
-    ap₂ (λ (ts : List HardwareTimer) (c : Clock). made ts enable c (latchesFrom (latchesMembers ls)) q)
+board-back b f =
+    by-four
+    (λ ts.
+    boardFrom (rateOf (b .clock)) (membersOf (made ts (b .clock) (b .latches))) ≡ made ts (b .clock) (b .latches))
+    (λ t u v w.
+    ap₂ (λ (ts : List HardwareTimer) (k : Clock). made ts k (latchesFrom (latchesMembers (b .latches))))
     (ap₂ _∷_ (timer-back t)
     (ap₂ _∷_ (timer-back u) (ap₂ _∷_ (timer-back v) (ap (λ (h : HardwareTimer). h ∷ []) (timer-back w)))))
-    (clock-back enable k)
-    ∙ ap (λ (l : Latches). made (t ∷ u ∷ v ∷ w ∷ []) enable k l q) e
-
-pub board-back : (b : Board) → BoardWords b → boardFrom (rateOf (b .clock)) (membersOf b) ≡ b
-board-back b w =
-    let four = w .fits .four in
-    subst
-    (λ (ts : List HardwareTimer).
-    boardFrom (rateOf (b .clock)) (membersOf (made ts (b .«timer_enable») (b .clock) (b .latches) (b .controller)))
-    ≡ made ts (b .«timer_enable») (b .clock) (b .latches) (b .controller))
-    (sym (four-is freshTimer (b .timers) four))
-    (four-back _ _ _ _ (b .«timer_enable») (b .clock) (b .latches) (b .controller)
-    (latches-back (b .latches) (w .latches .four)))
+    (clock-back (b .«timer_enable») (b .clock))
+    ∙ ap (made (t ∷ u ∷ v ∷ w ∷ []) (b .clock)) (latches-back (b .latches) (f .latches .four)))
+    (b .timers) (f .four)
+  where
+    made : List HardwareTimer → Clock → Latches → Board
+    made ts k ls =
+        record {
+          timers = ts;
+          «timer_enable» = b .«timer_enable»;
+          clock = k;
+          latches = ls;
+          controller = b .controller;
+        }
 
 -- an empty latch of a board holds 0
 counts-empty : (cs : List CountLatch) (ms : List ℕ) → emptiesHold0 ms ≡ true →
@@ -453,8 +411,7 @@ latches-empty ls =
 sixth : (ts : List HardwareTimer) → length ts ≡ 4 → (x y : List ℕ) (zs : List (List ℕ)) →
     getD (map timerMembers ts ++ (x ∷ y ∷ zs)) 5 [] ≡ y
 sixth ts four x y zs =
-    subst (λ (us : List HardwareTimer). getD (map timerMembers us ++ (x ∷ y ∷ zs)) 5 [] ≡ y)
-    (sym (four-is freshTimer ts four)) refl
+    by-four (λ us. getD (map timerMembers us ++ (x ∷ y ∷ zs)) 5 [] ≡ y) (λ _ _ _ _. refl) ts four
 
-pub board-empties : (b : Board) → BoardWords b → emptiesHold0 (getD (membersOf b) 5 []) ≡ true
-board-empties b w = rw (sixth (b .timers) (w .fits .four)) (latches-empty (b .latches))
+pub board-empties : (b : Board) → BoardFits b → emptiesHold0 (getD (membersOf b) 5 []) ≡ true
+board-empties b f = rw (sixth (b .timers) (f .four)) (latches-empty (b .latches))

@@ -27,9 +27,9 @@ use Rattle.image.specs.Image.{
 use Rattle.parking.specs.CodeReads.{FitFrom, heldFlags, emptyHolds0, sixHold0}
 
 -- members that were taken out of bytes fit their widths
-pub members-fit : (l ms : List ℕ) (at : ℕ) (ws : List ℕ) → ((i : ℕ) → getD l i 0 < 256) → ms ≡ membersAt l at ws →
+pub taken-fit : (l ms : List ℕ) (at : ℕ) (ws : List ℕ) → ((i : ℕ) → getD l i 0 < 256) → ms ≡ membersAt l at ws →
     FitFrom 0 ws ms
-members-fit l ms at ws bytes e =
+taken-fit l ms at ws bytes e =
     from 0 ws (λ i j p. rw (e, p, zero-add) (members-below l bytes at ws i))
   where
     from : (k : ℕ) (vs : List ℕ) → ((i j : ℕ) → j ≡ k + i → getD ms j 0 < 256 ^ getD vs i 0) → FitFrom k vs ms

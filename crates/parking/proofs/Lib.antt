@@ -6,6 +6,5 @@ pub mod Stored
 pub mod BoardMembers
 pub mod RoundTrip
 pub mod MovedImages
-pub mod Words
 pub mod Parkings
 pub mod Settings

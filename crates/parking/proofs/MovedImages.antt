@@ -12,11 +12,10 @@ use borrow.Author.Tests.{eqb-true, eqb-false, ne-eqb, le-ltb}
 use Rattle.wide.proofs.Choices.{either}
 use Rattle.clock.specs.Clock.{rateOf}
 use Rattle.board.specs.declared.Board.{Board}
-use Rattle.board.specs.Board.{sound}
+use Rattle.board.specs.Board.{BoardFits, sound}
 use Rattle.image.specs.declared.Form.{Form}
 use Rattle.image.specs.declared.Form.the-variants.{Old, New}
 use Rattle.image.specs.Image.{rateField, fieldLength, imageLength, fieldBytes, imageOf, boardFrom}
-use Rattle.image.specs.Words.{BoardWords}
 use Rattle.image.proofs.Fields.{field-length, front-image}
 use Rattle.parking.specs.declared.Reading.{Reading}
 use Rattle.parking.specs.declared.Writing.{Writing}
@@ -34,7 +33,7 @@ use Rattle.parking.specs.Moves.{otherForm, moveRefusal, movedImage, move
 use Rattle.parking.proofs.Stored.{Bytes}
 use Rattle.parking.proofs.RoundTrip.{
   in-sound,
-  in-words,
+  in-fits,
   only-in,
   form-took,
   image-accepted,
@@ -123,14 +122,14 @@ module _ (to : Form) (l : List ℕ) (bytes : Bytes l) (room : ℕ) (e : moveRefu
   moved-sound : sound moved ≡ true
   moved-sound = in-sound (otherForm to) l (a .image)
 
-  moved-words : BoardWords moved
-  moved-words = in-words (otherForm to) l bytes (a .image)
+  moved-fits : BoardFits moved
+  moved-fits = in-fits (otherForm to) l bytes (a .image)
 
   -- what is read of the moved image is the image's board, in the form that it was moved to
   pub moved-read :
       readingOf (movedImage to l) ≡ record { board = readingOf l .board; form = to; refusal = 0 }
   moved-read =
-      read-back to moved moved-sound (a .takes) moved-words
+      read-back to moved moved-sound (a .takes) moved-fits
       ∙ ap (λ (b : Board). record { board = b; form = to; refusal = 0 })
       (sym (ap (λ (r : Reading). r .board) (read-as (otherForm to) l (a .image))))
 
@@ -140,10 +139,10 @@ module _ (to : Form) (l : List ℕ) (bytes : Bytes l) (room : ℕ) (e : moveRefu
       × (movedImage (otherForm to) (movedImage to l) ≡ l)
   unfolding moveRefusal
   there-and-back back h =
-      let said : boardIn to (movedImage to l) ≡ moved = board-said to moved moved-sound (a .takes) moved-words in (
+      let said : boardIn to (movedImage to l) ≡ moved = board-said to moved moved-sound (a .takes) moved-fits in (
         rw (
           twice to,
-          image-accepted to moved moved-sound (a .takes) moved-words,
+          image-accepted to moved moved-sound (a .takes) moved-fits,
           said,
           form-took (otherForm to) l,
           le-ltb back (imageLength (otherForm to)) h,

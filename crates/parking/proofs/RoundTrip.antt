@@ -14,8 +14,8 @@ use Rattle.format.specs.Format.{membersAt}
 use Rattle.clock.specs.Clock.{rateOf}
 use Rattle.clock.specs.Fields.{freshRate}
 use Rattle.board.specs.declared.Board.{Board}
-use Rattle.board.specs.Board.{sound}
-use Rattle.board.proofs.Soundness.{sound-facts}
+use Rattle.board.specs.Board.{BoardFits, sound}
+use Rattle.board.proofs.Good.{GoodParts, good, good-parts}
 use Rattle.image.specs.declared.Form.{Form}
 use Rattle.image.specs.declared.Form.the-variants.{Old, New}
 use Rattle.parking.specs.declared.Reading.{Reading}
@@ -34,7 +34,6 @@ use Rattle.image.specs.Image.{
   boardMembers,
   rateFrom,
 }
-use Rattle.image.specs.Words.{BoardWords}
 use Rattle.parking.specs.Parking.{
   formTakes,
   said,
@@ -47,9 +46,8 @@ use Rattle.parking.specs.Parking.{
   readingRefusal,
   readingOf,
 }
+use Rattle.parking.proofs.Stored.{Bytes, _▸_}
 use Rattle.parking.proofs.Stored.{
-  Bytes,
-  _▸_,
   headersFit,
   FieldsFit,
   fields-formed,
@@ -60,7 +58,7 @@ use Rattle.parking.proofs.Stored.{
 }
 use Rattle.parking.proofs.BoardMembers.{
   board-members,
-  board-words,
+  from-fits,
   members-fit,
   rate-fit,
   board-back,
@@ -70,9 +68,9 @@ use Rattle.parking.proofs.BoardMembers.{
 -- ---- an image in a form, written and read back
 
 -- the members of a sound board fit each form
-form-fit : (f : Form) (b : Board) → BoardWords b → sound b ≡ true → FieldsFit (layoutOf f) (formMembers f b)
-form-fit Old b w s = members-fit b w s
-form-fit New b w s = rate-fit (rateOf (b .clock)) (sound-facts b s .rate) ▸ members-fit b w s
+form-fit : (f : Form) (b : Board) → GoodParts (rateOf (b .clock)) b → FieldsFit (layoutOf f) (formMembers f b)
+form-fit Old b p = members-fit b p
+form-fit New b p = rate-fit (rateOf (b .clock)) (p .known) ▸ members-fit b p
 
 -- and have those of S-1's fields among them, and the rate
 form-members : (f : Form) (b : Board) → boardMembers f (formMembers f b) ≡ membersOf b
@@ -95,9 +93,9 @@ unfolding readingIn
 read-in f l e = rw e
 
 module _ (f : Form) (b : Board) (s : sound b ≡ true) (t : formTakes f (rateOf (b .clock)) ≡ true)
-    (w : BoardWords b) where
+    (w : BoardFits b) where
   fit : FieldsFit (layoutOf f) (formMembers f b)
-  fit = form-fit f b w s
+  fit = form-fit f b (good-parts (good b w s))
 
   members-said : said f (imageOf f b) ≡ formMembers f b
   unfolding imageOf
@@ -186,8 +184,8 @@ module _ (f : Form) (l : List ℕ) (bytes : Bytes l) (e : formRefusal f l ≡ 0)
   said-fit : FieldsFit layout (boardMembers f (said f l))
   said-fit = seven-fit f l (fields-fit l bytes 0 (layoutOf f) (headers-fit f) (accepted f l e .form))
 
-  pub in-words : BoardWords (boardIn f l)
-  in-words = board-words (rateFrom f (said f l)) (boardMembers f (said f l)) said-fit
+  pub in-fits : BoardFits (boardIn f l)
+  in-fits = from-fits (rateFrom f (said f l)) (boardMembers f (said f l)) said-fit
 
   -- it is the only one of its board
   pub only-in : l ≡ imageOf f (boardIn f l)
@@ -220,7 +218,7 @@ unfolding readingOf readingRefusal readingIn
 refusal-is l r e = ap (λ (x : Reading). x .refusal) e
 
 -- written in a form and read back
-pub read-back : (f : Form) (b : Board) → sound b ≡ true → formTakes f (rateOf (b .clock)) ≡ true → BoardWords b →
+pub read-back : (f : Form) (b : Board) → sound b ≡ true → formTakes f (rateOf (b .clock)) ≡ true → BoardFits b →
     readingOf (imageOf f b) ≡ record { board = b; form = f; refusal = 0 }
 unfolding readingOf
 read-back f b s t w =
@@ -228,7 +226,7 @@ read-back f b s t w =
     ∙ read-back-in f b s t w
 
 -- in the new form a sound board of any of the three rates
-pub any-rate-back : (b : Board) → sound b ≡ true → BoardWords b →
+pub any-rate-back : (b : Board) → sound b ≡ true → BoardFits b →
     readingOf (imageOf New b) ≡ record { board = b; form = New; refusal = 0 }
 any-rate-back b s w = read-back New b s refl w
 
@@ -261,8 +259,8 @@ module _ (l : List ℕ) (e : readingOf l .refusal ≡ 0) where
   accepted-rate = rw read (form-took (formOf l) l)
 
 module _ (l : List ℕ) (bytes : Bytes l) (e : readingOf l .refusal ≡ 0) where
-  pub accepted-words : BoardWords (readingOf l .board)
-  accepted-words = rw (read l e) (in-words (formOf l) l bytes (read-of l e .0))
+  pub accepted-fits : BoardFits (readingOf l .board)
+  accepted-fits = rw (read l e) (in-fits (formOf l) l bytes (read-of l e .0))
 
   -- an accepted image is the only image of its board in its form
   pub only-image : l ≡ imageOf (readingOf l .form) (readingOf l .board)

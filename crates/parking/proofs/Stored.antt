@@ -33,6 +33,8 @@ use Rattle.image.specs.Image.{
 }
 use Rattle.image.proofs.Fields.{field-length}
 
+-- (moves to crates/format/proofs/Members.antt)
+
 -- the elements of a machine's bytes
 abbrev pub Bytes : List ℕ → Type 0
 Bytes l = (i : ℕ) → getD l i 0 < 256
@@ -95,6 +97,8 @@ members-of l bytes at (w ∷ ws) h =
     ap₂ _++_ (be-of l bytes at w (omega (arith, h)))
     (members-of l bytes (at + w) ws (omega (arith, h)) ∙ ap (take (sum ws)) (sym (drop-drop w at l)))
     ∙ sym (take-add w (sum ws) (drop at l))
+
+-- ---- flags
 
 -- a member that is a flag, where flags hold
 pub flag-at : (ks : List Member) (ms : List ℕ) → flagsHold ks ms ≡ true → (k : ℕ) → getD ks k (number 0) ≡ flag →

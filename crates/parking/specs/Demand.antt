@@ -1,15 +1,16 @@
 -- S-1: 'Demand 3 holds too where the board is written and read back between calls of the list.' The lists of the
 -- deadline's promise with parkings among their calls.
-use Prim.Native.Nat.{ℕ, _+_, _^_, _<_}
+use Prim.Native.Nat.{ℕ, _+_}
 use mathlib.Core.Path.{_≡_}
 use mathlib.Core.Bool.{Bool, true, false, cond}
 use mathlib.Core.List.{List, [], _∷_}
 use lib.Dec.{eqb}
 use Rattle.clock.specs.Clock.{fromHost}
 use Rattle.board.specs.declared.Board.{Board}
+use Rattle.board.specs.declared.calls.Call.{Call}
 use Rattle.board.specs.Loops.{All}
 use Rattle.board.specs.Board.{line, sound}
-use Rattle.board.specs.Demand.{DemandCall, advance, hostTime, after, adds, PromiseAfter}
+use Rattle.board.specs.Demand.{PassesTime, after, adds, PromiseAfter}
 use Rattle.image.specs.declared.Form.{Form}
 use Rattle.image.specs.Image.{imageLength, imageOf}
 use Rattle.parking.specs.Parking.{writingOf, readingOf}
@@ -20,10 +21,15 @@ parkedAndRead f b =
     cond (eqb (writingOf f b (imageLength f) .refusal) 0) (readingOf (imageOf f b) .board)
     (writingOf f b (imageLength f) .board)
 
--- an advance or a host-time call, or a parking
+-- a call, or a parking in a form
 pub data ParkingCall : Type 0 where
-  call : DemandCall → ParkingCall
+  call : Call → ParkingCall
   parking : Form → ParkingCall
+
+-- of the promise's lists: an advance, a host-time call or a parking
+abbrev pub PassesOrParks : ParkingCall → Type 0
+PassesOrParks (call a) = PassesTime a
+PassesOrParks (parking f) = Unit {0}
 
 unfoldable pub afterParking : ParkingCall → Board → Board
 afterParking (call a) b = after a b
@@ -38,23 +44,13 @@ unfoldable pub afterParkings : List ParkingCall → Board → Board
 afterParkings [] b = b
 afterParkings (a ∷ calls) b = afterParkings calls (afterParking a b)
 
-unfoldable pub totalParkings : List ParkingCall → Board → ℕ
-totalParkings [] b = 0
-totalParkings (a ∷ calls) b = addsParking a b + totalParkings calls (afterParking a b)
-
--- what the type of a host time says: its seconds are a word
-abbrev pub HostWord : DemandCall → Type 0
-HostWord (advance c) = Unit {0}
-HostWord (hostTime h) = h .seconds < 2 ^ 64
-
--- what the types say of such a call
-abbrev pub CallWords : ParkingCall → Type 0
-CallWords (call a) = HostWord a
-CallWords (parking f) = Unit {0}
+unfoldable pub cyclesWithParkings : List ParkingCall → Board → ℕ
+cyclesWithParkings [] b = 0
+cyclesWithParkings (a ∷ calls) b = addsParking a b + cyclesWithParkings calls (afterParking a b)
 
 -- the deadline's promise, over these lists
 abbrev pub ParkingPromise : Board → Bool → ℕ → ℕ → Type 0
 ParkingPromise b present d word =
     sound b ≡ true → line b ≡ false → fromHost (b .clock .control) ≡ false →
-    (calls : List ParkingCall) → All CallWords calls →
-    PromiseAfter present d word b (totalParkings calls b) (afterParkings calls b)
+    (calls : List ParkingCall) → All PassesOrParks calls →
+    PromiseAfter present d word b (cyclesWithParkings calls b) (afterParkings calls b)

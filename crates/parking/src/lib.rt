@@ -6,7 +6,6 @@ ghost use lib.ListN.{length};
 ghost use Rattle.board.specs.Fields.{freshBoard};
 ghost use Rattle.image.specs.declared.Form.the-variants.{Old};
 ghost use Rattle.image.specs.Image.{imageOf, formed};
-ghost use Rattle.image.specs.Words.{BoardWords};
 ghost use Rattle.parking.specs.Parking.{defaultForm, formTakes, parkingRefusal};
 ghost use Rattle.parking.specs.Parking.{writingOf, bufferAfter, said, readingIn, readingOf};
 ghost use Rattle.parking.specs.CodeReads.{membersRead};
@@ -68,12 +67,12 @@ fn parking_refusal(form: Form, rate: u32, room: usize) -> u8
 }
 
 // Writes a board's image in a form at the start of a lent buffer. Where that is accepted, reading the image gives the
-// board and the form: this rests on the board's words being words, which the contract says too.
+// board and the form.
 pub fn write_in(form: Form, board: Board, buffer: &mut [u8]) -> Writing
     ensures { λ r. ⌜ r ≡ writingOf form board (length (now (buffer .entry))) ⌝ }
     ensures { λ _. ⌜ now (buffer .exit) ≡ bufferAfter form board (now (buffer .entry)) ⌝ }
-    ensures { λ r. ⌜ (r .refusal ≡ 0 → BoardWords board
-        × (readingOf (imageOf form board) ≡ record { board = board; form = form; refusal = 0 })) ⌝ }
+    ensures { λ r. ⌜ (r .refusal ≡ 0
+        → readingOf (imageOf form board) ≡ record { board = board; form = form; refusal = 0 }) ⌝ }
 {
     let refusal = board.refusal_of(parking_refusal(form, board.clock.rate, buffer.len()));
     if refusal != 0 {
@@ -95,8 +94,8 @@ pub fn write_in(form: Form, board: Board, buffer: &mut [u8]) -> Writing
 pub fn write(board: Board, buffer: &mut [u8]) -> Writing
     ensures { λ r. ⌜ r ≡ writingOf defaultForm board (length (now (buffer .entry))) ⌝ }
     ensures { λ _. ⌜ now (buffer .exit) ≡ bufferAfter defaultForm board (now (buffer .entry)) ⌝ }
-    ensures { λ r. ⌜ (r .refusal ≡ 0 → BoardWords board
-        × (readingOf (imageOf defaultForm board) ≡ record { board = board; form = defaultForm; refusal = 0 })) ⌝ }
+    ensures { λ r. ⌜ (r .refusal ≡ 0
+        → readingOf (imageOf defaultForm board) ≡ record { board = board; form = defaultForm; refusal = 0 }) ⌝ }
 {
     write_in(Form::New, board, buffer)
 }

@@ -14,12 +14,15 @@ use Rattle.wide.specs.Deadline.{due}
 use Rattle.wide.proofs.Choices.{either}
 use Rattle.clock.specs.Clock.{fromHost}
 use Rattle.board.specs.declared.Board.{Board}
+use Rattle.board.specs.declared.calls.Call.{Call}
 use Rattle.board.specs.declared.calls.Passing.{Passing}
+use Rattle.board.specs.Loops.{All}
 use Rattle.board.specs.Board.{BoardFits, line, exactDeadline, sound}
 use Rattle.board.specs.Calls.{advancedBoard, skipLength}
 use Rattle.board.specs.CodeCalls.{passingOf}
-use Rattle.board.specs.Demand.{DemandCall, afterAll, total}
-use Rattle.board.proofs.Steps.{good, boardDue, line-due, advance-step}
+use Rattle.board.specs.Demand.{PassesTime, afterAll, cyclesPassed}
+use Rattle.board.proofs.Good.{good}
+use Rattle.board.proofs.Steps.{boardDue, line-due, advance-step}
 use Rattle.board.proofs.Demand3.{line-after}
 
 module _ (b : Board) (f : BoardFits b) (s : sound b ≡ true) (o : fromHost (b .clock .control) ≡ false) (t : ℕ) where
@@ -40,12 +43,12 @@ module _ (b : Board) (f : BoardFits b) (s : sound b ≡ true) (o : fromHost (b .
   pub none-shows : line b ≡ false → exactDeadline b ≡ none → line (advancedBoard t b) ≡ false
   none-shows low e = advance-shows ∙ rw (low, e) refl
 
--- from a low line, what any list of advances and host-time calls shows is what one advance of their total shows
+-- from a low line, what any list of advances and host-time calls shows is what one advance of their cycles shows
 pub any-list-shows : (b : Board) → BoardFits b → sound b ≡ true → line b ≡ false →
-    fromHost (b .clock .control) ≡ false → (calls : List DemandCall) →
-    line (afterAll calls b) ≡ line (advancedBoard (total calls b) b)
-any-list-shows b f s low o calls =
-    line-after b f s low o calls ∙ sym (advance-shows b f s o (total calls b) ∙ rw low refl)
+    fromHost (b .clock .control) ≡ false → (calls : List Call) → All PassesTime calls →
+    line (afterAll calls b) ≡ line (advancedBoard (cyclesPassed calls b) b)
+any-list-shows b f s low o calls w =
+    line-after b f s low o calls w ∙ sym (advance-shows b f s o (cyclesPassed calls b) ∙ rw low refl)
 
 -- ---- the same by the advance that a skip would make
 

@@ -23,8 +23,8 @@ use wide::flags;
 // The refusal of a preview of a board whose clock runs from host time, by the number of S-6.
 pub const CLOCK_IN_REALTIME: u8 = 14;
 
-// The refusal of a preview but for 1, 0 for none: by whether the clock runs from host time, the number of totals and the
-// bytes of the buffer.
+// The refusal of a preview but for 1, 0 for none: by whether the clock runs from host time, the number of totals and
+// the bytes of the buffer.
 fn own_refusal(from_host: bool, count: usize, room: usize) -> u8
     ensures { λ r. ⌜ r ≡ cond «from_host» clockInRealtime (cond (ltb room count) bufferShort 0) ⌝ }
 {

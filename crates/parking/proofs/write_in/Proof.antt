@@ -64,15 +64,12 @@ returns-2 c =
     let old = start .args .buffer .now in
     let told : _ ≡ writingRefusal f b (length old) =
     at-refusal-of .refusal-of .ensures .0 ∙ ap (refusalOf b) (at-parking-refusal .parking-refusal .ensures) in
-    let z = at-if1 .if1 .left in
-    let words = at-put-image .put-image .ensures .1 (at-refusal-of .refusal-of .ensures .1) in (
+    let z = at-if1 .if1 .left in (
       rw (c .image-length .ensures) (writing-accepted f b old _ told z),
       (
-        buffer-written f b old _ told z _ (at-put-image .put-image .ensures .0),
-        λ _. (
-          words,
-          read-back f b (writing-sound f b old _ told z) (writing-rate f b old _ told z) words,
-        ),
+        buffer-written f b old _ told z _ (at-put-image .put-image .ensures),
+        λ _. read-back f b (writing-sound f b old _ told z) (writing-rate f b old _ told z)
+            (at-refusal-of .refusal-of .ensures .1),
       ),
     )
 

@@ -45,14 +45,7 @@ returns : tie.Need-returns
 unfolding fieldBytes
 returns c =
     let at-flag2 = c .before .before .before .before .before .before in
-    let at-flag = at-flag2 .before in
-    let start = at-flag .before .before .before .before .before in (
-      rw (
-        at-flag .flag .ensures,
-        at-flag2 .flag2 .ensures,
-      ) at (c .before .before .put-field .ensures),
-      record { reload = omega (arith, start .good); prescaler = omega (arith, start .good) },
-    )
+    rw (at-flag2 .before .flag .ensures, at-flag2 .flag2 .ensures) at (c .before .before .put-field .ensures)
 
 pub put-channel-spec : {M : Type 1} → statement M
 put-channel-spec =

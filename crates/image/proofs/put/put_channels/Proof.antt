@@ -1,9 +1,7 @@
 -- `put::put_channels` meets its contract. Assumes nothing.
 use mathlib.Core.Path.{_≡_}
 use lib.ListN.{length}
-use Rattle.channel.specs.Channel.{freshTimer}
-use Rattle.image.specs.Words.{TimerWords}
-use Rattle.image.proofs.Fields.{four-all, channels-stored}
+use Rattle.image.proofs.Fields.{channels-stored}
 use borrow.Author.Needs.{needs}
 use Rattle.image.proofs.put.put_channels.Statement.{statement}
 use Rattle.image.proofs.put.put_channels.Tie as tie
@@ -48,19 +46,11 @@ returns c =
     let at-put-channel = at-put-channel2 .before .before .before .before .before in
     let start = at-put-channel .before .before .before .before in
     let ts = start .args .t2 in
-    let four : length ts ≡ 4 = search needs in (
-      channels-stored ts four _ _ _ _ _ (at-put-channel .put-channel .ensures .0)
-          (at-put-channel2 .put-channel2 .ensures .0)
-          (at-put-channel3 .put-channel3 .ensures .0)
-          (c .before .before .put-channel4 .ensures .0),
-      (
-        four,
-        four-all TimerWords freshTimer ts four (at-put-channel .put-channel .ensures .1)
-            (at-put-channel2 .put-channel2 .ensures .1)
-            (at-put-channel3 .put-channel3 .ensures .1)
-            (c .before .before .put-channel4 .ensures .1),
-      ),
-    )
+    let four : length ts ≡ 4 = search needs in
+    channels-stored ts four _ _ _ _ _ (at-put-channel .put-channel .ensures)
+    (at-put-channel2 .put-channel2 .ensures)
+    (at-put-channel3 .put-channel3 .ensures)
+    (c .before .before .put-channel4 .ensures)
 
 pub put-channels-spec : {M : Type 1} → statement M
 put-channels-spec =

@@ -73,14 +73,11 @@ returns c =
     let at-flag3 = c .before .before .before .before .before .before .before .before .before .before in
     let at-flag2 = at-flag3 .before in
     let at-flag = at-flag2 .before .before .before in
-    let start = at-flag .before .before .before .before in (
-      rw (
-        at-flag .flag .ensures,
-        at-flag2 .flag2 .ensures,
-        at-flag3 .flag3 .ensures,
-      ) at (c .before .before .put-field .ensures),
-      record { offset = omega (arith, start .good); host = omega (arith, start .good) },
-    )
+    rw (
+      at-flag .flag .ensures,
+      at-flag2 .flag2 .ensures,
+      at-flag3 .flag3 .ensures,
+    ) at (c .before .before .put-field .ensures)
 
 pub put-clock-spec : {M : Type 1} → statement M
 put-clock-spec =

@@ -31,15 +31,7 @@ same-length c = search needs
 
 returns : tie.Need-returns
 unfolding fieldBytes
-returns c =
-    let start = c .before .before .before .before .before .before .before .before .before .before in (
-      c .before .before .put-field .ensures,
-      record {
-        pending = omega (arith, start .good);
-        enable = omega (arith, start .good);
-        levels = omega (arith, start .good);
-      },
-    )
+returns c = c .before .before .put-field .ensures
 
 pub put-controller-spec : {M : Type 1} → statement M
 put-controller-spec =

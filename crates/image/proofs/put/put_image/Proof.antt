@@ -36,11 +36,9 @@ returns c =
     let stored = c .before .before .put-old .ensures in
     let at-put-front = c .before .before .before .before .before .before in
     let front = at-put-front .put-front in
-    let start = at-put-front .before .before .before in (
-      image-stored (start .args .form) (start .args .board) _ _ (start .pre) _ (front .ensures .0) (front .ensures .1) _
-          (stored .0),
-      stored .1,
-    )
+    let start = at-put-front .before .before .before in
+    image-stored (start .args .form) (start .args .board) _ _ (start .pre) _ (front .ensures .0) (front .ensures .1) _
+    stored
 
 pub put-image-spec : {M : Type 1} → statement M
 put-image-spec =

@@ -80,7 +80,8 @@ returns c =
     let p = c .before .before .before .before .before .before in
     let q = p .before .before .before .before in
     let r = q .before .before .before .before in
-    latches-stored (r .before .before .before .before .before .before .before .before .before .args .t2) four _ _ _ _
+    let a = r .before .before .before .before .before .before .before .before .before .args in
+    latches-stored (a .t2) four (a .low) (a .high) _ _
     (r .before .before .before .held .ensures) (r .before .before .value .ensures)
     (r .before .held2 .ensures) (r .value2 .ensures)
     (q .before .before .before .held3 .ensures) (q .before .before .value3 .ensures)

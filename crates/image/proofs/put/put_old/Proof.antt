@@ -1,4 +1,5 @@
 -- `put::put_old` meets its contract. Assumes nothing.
+use Rattle.board.proofs.Widths.{board-fits}
 use Rattle.image.proofs.Fields.{old-stored}
 use borrow.Author.Needs.{needs}
 use Rattle.image.proofs.put.put_old.Statement.{statement}
@@ -23,19 +24,11 @@ returns : tie.Need-returns
 returns c =
     let at-put-latches = c .before .before .before .before .before .before .before in
     let at-put-clock = at-put-latches .before .before .before .before .before .before in
-    let at-put-channels = at-put-clock .before .before .before .before .before in (
-      old-stored _ (at-put-channels .put-channels .ensures .1 .0) _ _ _ _ _
-          (at-put-channels .put-channels .ensures .0) (at-put-clock .put-clock .ensures .0)
-          (at-put-latches .put-latches .ensures .0)
-          (c .before .before .put-controller .ensures .0),
-      λ f. record {
-        fits = f;
-        timers = at-put-channels .put-channels .ensures .1 .1;
-        clock = at-put-clock .put-clock .ensures .1;
-        latches = at-put-latches .put-latches .ensures .1;
-        controller = c .before .before .put-controller .ensures .1;
-      },
-    )
+    let at-put-channels = at-put-clock .before .before .before .before .before in
+    let start = at-put-channels .before .before .before .before in
+    old-stored _ (board-fits (start .args .board) _ (start .good .1 .0) .four) _ _ _ _ _
+    (at-put-channels .put-channels .ensures) (at-put-clock .put-clock .ensures)
+    (at-put-latches .put-latches .ensures) (c .before .before .put-controller .ensures)
 
 pub put-old-spec : {M : Type 1} → statement M
 put-old-spec =

@@ -71,10 +71,11 @@ array-read-t45 c = search needs
 returns : tie.Need-returns
 returns c =
     let at-get-members = c .before .before .before .before in
-    let start = at-get-members .before .before .before .before in (
+    let start = at-get-members .before .before .before .before in
+    let taken = at-get-members .get-members .ensures .0 in (
       field-formed _ _ channelField (omega (arith, start .pre)) _ _ _ (c .before .before .has-header .ensures)
-          (c .before .both .ensures ∙ channel-flags _ _ _ (at-get-members .get-members .ensures .0)) (c .both2 .ensures),
-      ap timerFrom (at-get-members .get-members .ensures .0),
+          (c .before .both .ensures ∙ channel-flags _ _ _ taken) (c .both2 .ensures),
+      ap timerFrom taken,
     )
 
 pub channel-at-spec : {M : Type 1} → statement M

@@ -3,7 +3,7 @@ use Prim.Native.Nat.{_-_}
 use native.Mathlib.Omega.{arith}
 use lib.ListN.{length}
 use Rattle.image.proofs.Tables.{width-most}
-use Rattle.parking.proofs.Forms.{members-fit}
+use Rattle.parking.proofs.Forms.{taken-fit}
 use Rattle.parking.proofs.Taken.{Taking, taking-begun, taking-room, taking-more, taking-ended}
 use Rattle.parking.proofs.get.get_members.Statement.{statement}
 use Rattle.parking.proofs.get.get_members.Tie as tie
@@ -67,7 +67,7 @@ returns : tie.Need-returns Inv-loop μ-loop
 returns c =
     let taken = taking-ended _ _ _ _ _ _ (c .before .loop .inv) (c .loop-test .left) in
     let bytes = c .before .before .before .before .shared-slice-known in
-    (taken, members-fit _ _ _ _ (λ i. omega (arith, bytes .given i)) taken)
+    (taken, taken-fit _ _ _ _ (λ i. omega (arith, bytes .given i)) taken)
 
 pub get-members-spec : {M : Type 1} → statement M
 get-members-spec =
