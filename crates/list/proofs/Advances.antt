@@ -6,7 +6,7 @@ use mathlib.Core.Path.{_≡_, refl, sym, ap, _∙_, subst}
 use mathlib.Core.Bool.{Bool, true, false}
 use mathlib.Core.List.{List, [], _∷_}
 use lib.ListN.{length, getD, set}
-use lib.Seq.{sets, set-getD}
+use lib.Seq.{sets, length-sets, set-getD}
 use Rattle.wide.specs.Bits.{bit}
 use Rattle.wide.specs.Fields.{be}
 use Rattle.channel.specs.declared.HardwareTimer.{HardwareTimer}
@@ -36,6 +36,7 @@ use Rattle.board.proofs.Loops.{
   given-ends,
 }
 use Rattle.board.proofs.Phases.{phase-next}
+use Rattle.format.specs.CodeAnswers.{wides}
 use Rattle.list.specs.CodeParts.{countsAt, begunPut, countPut}
 use Rattle.list.proofs.Records.{countsPut, counts-length, counts-goes, counts-zero, counts-over}
 
@@ -117,8 +118,14 @@ abbrev noCounts : List ℕ
 noCounts = 0 ∷ 0 ∷ 0 ∷ 0 ∷ []
 
 -- buf₀ is the buffer that the pass begins with
+pub begun-length : (v : Bool) (c at : ℕ) (buf buf₀ : List ℕ) → buf₀ ≡ begunPut v c at buf → length buf₀ ≡ length buf
+unfolding begunPut
+begun-length true c at buf buf₀ e = ap length e ∙ length-sets buf (countsAt at) (wides noCounts)
+begun-length false c at buf buf₀ e = ap length e ∙ length-sets buf (at + 3) (be 8 c)
+
 pub counts-begin : (enable c : ℕ) (v : Bool) (at : ℕ) (b : Board) → length (b .timers) ≡ 4 → (buf buf₀ : List ℕ) →
     buf₀ ≡ begunPut v c at buf → Counted enable c 0 v at b buf₀ buf₀
+unfolding begunPut countsPut
 counts-begin enable c true at b n buf buf₀ e =
     rw (← given-starts (λ k h. matchesOf (bit k enable) c h) 0 0 (b .timers) n, e)
     (sym (counts-over true at buf noCounts noCounts refl))

@@ -1,15 +1,17 @@
 -- The calls that a run carries out, each by a law of its name: the board that the code's way leaves, whether source 3 is
 -- still to be set to the line, and the record that it puts. Assumes nothing.
-use Prim.Native.Nat.{ℕ, _+_}
+use Prim.Native.Nat.{ℕ, _+_, _≤_}
 use native.Mathlib.Omega.{arith}
-use mathlib.Core.Path.{_≡_, refl, sym, ap, _∙_}
+use mathlib.Core.Path.{_≡_, refl, sym, ap, _∙_, subst}
 use mathlib.Core.Bool.{Bool, true, false, true≢false, false≢true, cond}
 use mathlib.Core.Option.{Option, none, some}
 use mathlib.Core.List.{List, [], _∷_, append-nil}
+use mathlib.Core.Logic.{inl, inr}
 use lib.ListN.{length}
 use lib.Seq.{sets}
 use lib.Dec.{eqb, ltb}
-use borrow.Author.Tests.{eqb-true}
+use types.Run.{OneOf}
+use denote.Enum.Declared as Declared
 use Rattle.wide.specs.Bits.{bit, flagOf}
 use Rattle.wide.proofs.Choices.{choose, either}
 use Rattle.channel.specs.Registers.{byteWritten}
@@ -41,6 +43,7 @@ use Rattle.board.specs.Channels.{matchesAll}
 use Rattle.board.specs.Calls.{
   effectOf,
   boardAfter,
+  orZero,
   advanceBy,
   movedBoard,
   skipLength,
@@ -60,9 +63,10 @@ use Rattle.registers.proofs.CodeReads.{read-parts}
 use Rattle.registers.proofs.CodeWrites.{written-is}
 use Rattle.registers.proofs.Latches.{plain-latches}
 use Rattle.registers.proofs.Line.{write-still, read-still, still-wired}
-use Rattle.format.specs.Format.{membersBytes, answerBytes, recordOf}
-use Rattle.format.specs.Codec.{tagOf, callAt, answerRecord, refusalAt}
-use Rattle.format.proofs.Decoding.{clear}
+use Rattle.format.specs.Format.{membersBytes, answerBytes, valueBytes, recordOf}
+use Rattle.format.specs.CodeAnswers.{headerBytes}
+use Rattle.format.specs.Codec.{tagOf, callLength, answerRecord, recordLength}
+use Rattle.format.proofs.Frames.{answer-length}
 use Rattle.list.specs.declared.parts.Step.{Step}
 use Rattle.list.specs.declared.parts.Step.the-variants.{
   Refused,
@@ -94,7 +98,23 @@ use Rattle.list.specs.CodeParts.{
   passedPut,
   otherPut,
 }
-use Rattle.list.proofs.Records.{countsPut, other-record, advance-record, skip-record}
+use Rattle.list.proofs.parts.Step.{the-type}
+use Rattle.list.proofs.Advances.{begun-length}
+use Rattle.list.proofs.Records.{countsPut, counts-over, other-record, advance-record, skip-record}
+
+-- the number of a step's case, as the enum counts them
+abbrev pub kindOf : Step → ℕ
+kindOf (Refused refusal) = 0
+kindOf (ReadStep offset) = 1
+kindOf (WriteStep byte offset) = 2
+kindOf (Pass counted c) = 3
+kindOf (HostTimeStep nanoseconds seconds) = 4
+kindOf Stay = 5
+kindOf DeadlineStep = 6
+kindOf (SourceStep number level) = 7
+kindOf (ControllerReadStep address) = 8
+kindOf (ControllerWriteStep byte address) = 9
+kindOf OutputStep = 10
 
 -- what a way of the code leaves of a call: the board y, on which source 3 is to be set where `moved` says so, and the
 -- buffer buf′, with the call's record from index at on
@@ -171,9 +191,9 @@ module _ (b : Board) (s : sound b ≡ true) (at : ℕ) (buf : List ℕ) where
 
   pub write-carried : (call : Call) (byte offset : ℕ) → Writes call byte offset → (part : WritePart) →
       part ≡ partOf offset → (y : Board) → y ≡ writtenBy part offset byte b → (moved : Bool) →
-      moved ≡ movesLine part offset → (buf′ : List ℕ) → buf′ ≡ sets buf at (recordOf 3 []) →
+      moved ≡ movesLine part offset → (buf′ : List ℕ) → buf′ ≡ sets buf at (headerBytes 3 0) →
       Carried call b at buf y moved buf′
-  unfolding membersBytes
+  unfolding membersBytes recordOf
   write-carried call byte offset w part e y f moved h buf′ p =
       rw (w .is)
       (by-effect (Write byte (w .address)) y moved buf′
@@ -181,4 +201,236 @@ module _ (b : Board) (s : sound b ≡ true) (at : ℕ) (buf : List ℕ) where
       ∙ rw (w .at))
       (λ n. still-wired b y s (ap line f ∙ write-still part offset byte b (sym h ∙ n))
       (ap (λ (x : Board). x .controller) f ∙ controller-kept part offset byte))
-      p)
+      (p ∙ ap (sets buf at) (sym (append-nil (headerBytes 3 0)))))
+
+  -- ---- advance, and a skip that makes one
+
+  abbrev noCounts : List ℕ
+  noCounts = 0 ∷ 0 ∷ 0 ∷ 0 ∷ []
+
+  -- z is the board with the cycles passed, v its line, and buf₁ and buf₂ the buffer ahead of them and with the counts
+  module _ (c : ℕ) (z : Board) (m : z ≡ movedBoard c b) (v : Bool) (e : v ≡ line z) (q : IrqController)
+      (f : q ≡ sourceSet (z .controller) 3 v) (y : Board) (g : y ≡ withController q z) where
+    set-moved : y ≡ wired (movedBoard c b)
+    unfolding wired
+    set-moved = rw (g, f, e, m)
+
+    pub pass-carried : (call : Call) (counted : Bool) → Passes call b counted c → length (b .timers) ≡ 4 →
+        (moved : Bool) → moved ≡ false → (buf₁ buf₂ buf′ : List ℕ) → buf₁ ≡ begunPut counted c at buf →
+        buf₂ ≡ countsPut counted at (matchesAll (b .«timer_enable») c (b .timers)) buf₁ →
+        buf′ ≡ passedPut counted (flagOf v) at buf₂ → Carried call b at buf y moved buf′
+    unfolding begunPut countsPut
+    pass-carried call true p n moved o buf₁ buf₂ buf′ h i j =
+        record {
+          set = λ t. absurd (true≢false (sym t ∙ o));
+          still = λ _. set-moved ∙ ap (λ (x : Call). boardAfter x b) (sym (p .advance refl));
+          put =
+              j
+              ∙ ap (passedPut true (flagOf v) at)
+              (i ∙ ap (countsPut true at ns) h ∙ counts-over true at buf noCounts ns (sym four))
+              ∙ advance-record (flagOf v) at ns buf four
+              ∙ ap (λ (w : Bool). sets buf at (recordOf 4 (answerBytes 4 (flagOf w ∷ ns)))) (e ∙ ap line m)
+              ∙ ap (λ (x : Call). sets buf at (answerRecord x b)) (sym (p .advance refl));
+        }
+      where
+        ns : List ℕ
+        ns = matchesAll (b .«timer_enable») c (b .timers)
+
+        four : length ns ≡ 4
+        four = map-length (λ k t. matchesOf (bit k (b .«timer_enable»)) c t) 0 (b .timers) ∙ n
+    pass-carried call false p n moved o buf₁ buf₂ buf′ h i j =
+        record {
+          set = λ t. absurd (true≢false (sym t ∙ o));
+          still = λ _. set-moved ∙ ap (λ (l : Option ℕ). wired (movedBy l b)) (sym (p .skip refl .1))
+              ∙ ap (λ (x : Call). boardAfter x b) (sym (p .skip refl .0));
+          put =
+              j
+              ∙ ap (passedPut false (flagOf v) at) (i ∙ h)
+              ∙ skip-record c (flagOf v) at buf
+              ∙ ap (λ (w : Bool). sets buf at (recordOf 6 (answerBytes 6 (c ∷ flagOf w ∷ [])))) (e ∙ ap line m)
+              ∙ ap (λ (l : Option ℕ). sets buf at
+              (recordOf 6 (answerBytes 6 (orZero l ∷ flagOf (line (movedBy l b)) ∷ [])))) (sym (p .skip refl .1))
+              ∙ ap (λ (x : Call). sets buf at (answerRecord x b)) (sym (p .skip refl .0));
+        }
+
+  -- ---- the others: they do not move the line, and leave the level of source 3
+
+  level-still : (y : Board) → line y ≡ line b → bit 3 (y .controller .levels) ≡ bit 3 (b .controller .levels) →
+      wired y ≡ y
+  unfolding wired
+  level-still y e l = rw (steady (y .controller) 3 (line y) (l ∙ sound-facts b s .level ∙ sym e))
+
+  -- the number of an accepted source is not that of the line
+  source-apart : (number level : ℕ) → sourceRefusal number level ≡ 0 → 3 ≡ number → ⊥
+  unfolding sourceRefusal
+  source-apart number level z e = let nine : _≡_ {A = ℕ} 9 0 = rw (← e) at z in omega (arith, nine)
+
+  written-levels : (q : IrqController) (address byte : ℕ) → controllerWritten q address byte .levels ≡ q .levels
+  unfolding controllerWritten pendingCleared
+  written-levels q address byte =
+      choose P (eqb address 0) (λ _. refl)
+      (λ _. choose P (eqb address 1) (λ _. refl)
+      (λ _. choose P (eqb address 4) (λ _. refl) (λ _. choose P (eqb address 5) (λ _. refl) (λ _. refl))))
+    where
+      P : IrqController → Type 0
+      P d = d .levels ≡ q .levels
+
+  pub host-time-still : (h : HostTimeOf) →
+      wired (withClock (withHost h (b .clock)) b) ≡ withClock (withHost h (b .clock)) b
+  unfolding line
+  host-time-still h = level-still (withClock (withHost h (b .clock)) b) refl refl
+
+  pub source-still : (number level : ℕ) → sourceRefusal number level ≡ 0 →
+      wired (withController (sourceSet (b .controller) number (eqb level 1)) b)
+      ≡ withController (sourceSet (b .controller) number (eqb level 1)) b
+  unfolding line
+  source-still number level z =
+      level-still (withController (sourceSet (b .controller) number (eqb level 1)) b) refl
+      (level-other (b .controller) 3 number (eqb level 1) (source-apart number level z))
+
+  pub controller-write-still : (byte address : ℕ) →
+      wired (withController (controllerWritten (b .controller) address byte) b)
+      ≡ withController (controllerWritten (b .controller) address byte) b
+  unfolding line
+  controller-write-still byte address =
+      level-still (withController (controllerWritten (b .controller) address byte) b) refl
+      (ap (bit 3) (written-levels (b .controller) address byte))
+
+  -- a call that has another's board, with source 3 where it is
+  still-so : (call other : Call) → call ≡ other → wired (effectOf other b .board) ≡ effectOf other b .board →
+      wired (effectOf call b .board) ≡ effectOf call b .board
+  still-so call other e h = rw e h
+
+  other-still : (call : Call) → effectOf call b .refusal ≡ 0 → (step : Step) → 4 ≤ kindOf step → Makes call b step →
+      wired (effectOf call b .board) ≡ effectOf call b .board
+  other-still call z (Refused refusal) k m = absurd m
+  other-still call z (ReadStep offset) k m = absurd (omega (arith, k))
+  other-still call z (WriteStep byte offset) k m = absurd (omega (arith, k))
+  other-still call z (Pass counted c) k m = absurd (omega (arith, k))
+  other-still call z (HostTimeStep nanoseconds seconds) k m =
+      still-so call (HostTime nanoseconds seconds) m
+      (host-time-still (record { seconds = seconds; nanoseconds = nanoseconds }))
+  other-still call z Stay k m = rw (m .0, m .1) (wired-sound b s)
+  other-still call z DeadlineStep k m = still-so call Deadline m (wired-sound b s)
+  other-still call z (SourceStep number level) k m =
+      still-so call (Source number level) m (source-still (number .0) level (rw m at z))
+  other-still call z (ControllerReadStep address) k m = still-so call (ControllerRead address) m (wired-sound b s)
+  other-still call z (ControllerWriteStep byte address) k m =
+      still-so call (ControllerWrite byte address) m (controller-write-still byte address)
+  other-still call z OutputStep k m = still-so call Output m (wired-sound b s)
+
+  -- the step's changes are its call's
+  pub other-changes : (call : Call) (step : Step) → 4 ≤ kindOf step → Makes call b step → (c : Changes) →
+      Changed step b c → (call ≡ otherCall step) × ChangesAre (otherCall step) b c
+  other-changes call (Refused refusal) k m c h = absurd m
+  other-changes call (ReadStep offset) k m c h = absurd (omega (arith, k))
+  other-changes call (WriteStep byte offset) k m c h = absurd (omega (arith, k))
+  other-changes call (Pass counted n) k m c h = absurd (omega (arith, k))
+  other-changes call (HostTimeStep nanoseconds seconds) k m c h = (m, h)
+  other-changes call Stay k m c h = (m .0, h (m .1))
+  other-changes call DeadlineStep k m c h = (m, h)
+  other-changes call (SourceStep number level) k m c h = (m, h)
+  other-changes call (ControllerReadStep address) k m c h = (m, h)
+  other-changes call (ControllerWriteStep byte address) k m c h = (m, h)
+  other-changes call OutputStep k m c h = (m, h)
+
+  -- the bytes of the answer are as many as the record has
+  pub other-size : (call : Call) (value ms : List ℕ) → value ≡ answerBytes (tagOf call) ms →
+      3 + length value ≡ recordLength call
+  other-size call value ms e = ap (λ (n : ℕ). 3 + n) (ap length e ∙ answer-length (tagOf call) ms)
+
+  pub other-carried : (call : Call) → effectOf call b .refusal ≡ 0 → (step : Step) → 4 ≤ kindOf step →
+      Makes call b step → (c : Changes) → Changed step b c → (y : Board) →
+      y ≡ withChanges (c .host) (c .controller) b → (moved : Bool) → moved ≡ false → (buf′ : List ℕ) →
+      buf′ ≡ otherPut (tagOf (otherCall step)) at (valueBytes (c .answer)) buf → Carried call b at buf y moved buf′
+  other-carried call z step k m c h y f moved o buf′ p =
+      let a = other-changes call step k m c h in
+      let e : y ≡ effectOf call b .board = f ∙ a .1 .0 ∙ ap (λ (x : Call). effectOf x b .board) (sym (a .0)) in
+      by-effect call y moved buf′ e (λ _. ap wired e ∙ other-still call z step k m ∙ sym e)
+      (p
+      ∙ other-record (tagOf (otherCall step)) at (valueBytes (c .answer)) (effectOf (otherCall step) b .members) buf
+      (a .1 .1)
+      ∙ ap (λ (x : Call). sets buf at (answerRecord x b)) (sym (a .0)))
+
+-- ---- the step that the code goes by
+
+-- a step that is not a refusal accepts the call at the front
+pub step-accepts : (b : Board) (l : List ℕ) (room : ℕ) (step s : Step) → step ≡ s → 1 ≤ kindOf s → StepIs b l room step →
+    Accepts b l room s
+step-accepts b l room step (Refused refusal) e k h = absurd (omega (arith, k))
+step-accepts b l room step (ReadStep offset) e k h = subst (StepIs b l room) e h
+step-accepts b l room step (WriteStep byte offset) e k h = subst (StepIs b l room) e h
+step-accepts b l room step (Pass counted c) e k h = subst (StepIs b l room) e h
+step-accepts b l room step (HostTimeStep nanoseconds seconds) e k h = subst (StepIs b l room) e h
+step-accepts b l room step Stay e k h = subst (StepIs b l room) e h
+step-accepts b l room step DeadlineStep e k h = subst (StepIs b l room) e h
+step-accepts b l room step (SourceStep number level) e k h = subst (StepIs b l room) e h
+step-accepts b l room step (ControllerReadStep address) e k h = subst (StepIs b l room) e h
+step-accepts b l room step (ControllerWriteStep byte address) e k h = subst (StepIs b l room) e h
+step-accepts b l room step OutputStep e k h = subst (StepIs b l room) e h
+
+-- a step that no arm of its own has
+at-least : (n : ℕ) → OneOf (4 ∷ 5 ∷ 6 ∷ 7 ∷ 8 ∷ 9 ∷ 10 ∷ []) n → 4 ≤ n
+at-least n (inl e) = omega (arith, e)
+at-least n (inr (inl e)) = omega (arith, e)
+at-least n (inr (inr (inl e))) = omega (arith, e)
+at-least n (inr (inr (inr (inl e)))) = omega (arith, e)
+at-least n (inr (inr (inr (inr (inl e))))) = omega (arith, e)
+at-least n (inr (inr (inr (inr (inr (inl e)))))) = omega (arith, e)
+at-least n (inr (inr (inr (inr (inr (inr e)))))) = omega (arith, e)
+
+pub other-kind : (step : Step) → OneOf (4 ∷ 5 ∷ 6 ∷ 7 ∷ 8 ∷ 9 ∷ 10 ∷ []) (Declared.tagOf the-type step) → 4 ≤ kindOf step
+other-kind (Refused refusal) h = at-least 0 h
+other-kind (ReadStep offset) h = at-least 1 h
+other-kind (WriteStep byte offset) h = at-least 2 h
+other-kind (Pass counted c) h = at-least 3 h
+other-kind (HostTimeStep nanoseconds seconds) h = omega arith
+other-kind Stay h = omega arith
+other-kind DeadlineStep h = omega arith
+other-kind (SourceStep number level) h = omega arith
+other-kind (ControllerReadStep address) h = omega arith
+other-kind (ControllerWriteStep byte address) h = omega arith
+other-kind OutputStep h = omega arith
+
+-- ---- lengths
+
+pub read-length : (call : Call) (offset : ℕ) → Reads call offset → (callLength call ≡ 5) × (recordLength call ≡ 4)
+read-length call offset r = rw (r .is) (refl, refl)
+
+pub write-length : (call : Call) (byte offset : ℕ) → Writes call byte offset →
+    (callLength call ≡ 6) × (recordLength call ≡ 3)
+write-length call byte offset w = rw (w .is) (refl, refl)
+
+pub pass-length : (call : Call) (b : Board) (counted : Bool) (c : ℕ) → Passes call b counted c →
+    (callLength call ≡ callLength (passCall counted 0)) × (recordLength call ≡ recordLength (passCall counted 0))
+pass-length call b true c p = rw (p .advance refl) (refl, refl)
+pass-length call b false c p = rw (p .skip refl .0) (refl, refl)
+
+-- the room that the parts of its record ask for
+pub pass-room : (call : Call) (b : Board) (counted : Bool) (c : ℕ) → Passes call b counted c → (at n : ℕ) →
+    at + recordLength call ≤ n → (counted ≡ true → at + 68 ≤ n) × (at + 12 ≤ n)
+pass-room call b true c p at n h = let k : at + 68 ≤ n = rw (p .advance refl) at h in (λ _. k, omega (arith, k))
+pass-room call b false c p at n h = (λ e. absurd (false≢true e), rw (p .skip refl .0) at h)
+
+-- and that they still have behind what it begins with
+pub begun-room : (call : Call) (b : Board) (counted : Bool) (c : ℕ) → Passes call b counted c → (at : ℕ)
+    (buf buf₁ : List ℕ) → buf₁ ≡ begunPut counted c at buf → at + recordLength call ≤ length buf →
+    (counted ≡ true → at + 68 ≤ length buf₁) × (at + 12 ≤ length buf₁)
+begun-room call b counted c p at buf buf₁ e h =
+    pass-room call b counted c p at (length buf₁) (omega (arith, h, begun-length counted c at buf buf₁ e))
+
+-- ---- a call that is carried out
+
+-- what an arm of the run leaves: its board and buffer, and the bytes of the call and of its record
+pub record Served (call : Call) (b : Board) (used₀ at : ℕ) (buf : List ℕ) (y : Board) (moved : Bool) (used₁ size₁ : ℕ)
+    (buf′ : List ℕ) : Type 0 where
+  pub carried : Carried call b at buf y moved buf′
+  pub used : used₁ ≡ used₀ + callLength call
+  pub size : size₁ ≡ recordLength call
+
+-- source 3 is then set, or stays
+pub set-after : (call : Call) (b : Board) (at : ℕ) (buf : List ℕ) (y : Board) (moved : Bool) (buf′ : List ℕ) →
+    Carried call b at buf y moved buf′ → moved ≡ true → (v : Bool) → v ≡ line y → (q : IrqController) →
+    q ≡ sourceSet (y .controller) 3 v → (z : Board) → z ≡ withController q y → z ≡ boardAfter call b
+unfolding wired
+set-after call b at buf y moved buf′ k m v e q f z g = let h : z ≡ wired y = rw (g, f, e) in h ∙ k .set m

@@ -301,7 +301,8 @@ module _ (b : Board) (first stretch last : List ℕ) (room : ℕ) (calls : List 
       record {
         board = ends-at e g w h;
         all = carries-all e g w h;
-        promise = demand-3 AtStart (g .fits) (good-sound g) low o CarriedOut (all-take PassesTime _ calls w);
+        promise = demand-3 AtStart (g .fits) (good-sound g) low o CarriedOut
+            (all-take PassesTime (Through .outcome .calls - Before .outcome .calls) calls w);
         goes-on = two-parts b (first ++ stretch) last room f bytes;
         ends = λ r.
             ap (λ (l : List ℕ). runOf b l room) (append-assoc first stretch last)

@@ -1,6 +1,7 @@
 pub mod Results
 mod Runs
 mod Records
+mod CallParts
 mod Advances
 mod Calls
 pub mod TwoParts

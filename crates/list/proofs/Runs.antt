@@ -5,15 +5,20 @@ use mathlib.Core.Bool.{Bool, true, false, true≢false, false≢true}
 use Prim.Native.Nat.{ℕ, zero, suc, _+_, _-_, _≤_, _<_}
 use native.Mathlib.Nat.{zero-add}
 use native.Mathlib.Omega.{arith}
-use lib.ListN.{length, drop, length-drop, length-append, drop-of-length-le}
-use lib.Seq.{sets, length-sets, drop-drop}
+use lib.Dec.{eqb}
+use lib.ListN.{length, drop, getD, length-drop, length-append, drop-of-length-le}
+use lib.Seq.{sets, length-sets, drop-drop, getD-drop}
 use Rattle.board.specs.declared.Board.{Board}
 use Rattle.clock.specs.Clock.{rateOf}
 use Rattle.board.proofs.Good.{Good}
 use Rattle.list.specs.declared.Outcome.{Outcome}
 use Rattle.list.specs.Run.{Result, done, refused, resultOf, stepped, Run, runOn, over}
-use Rattle.format.proofs.Frames.{sets-then, sets-front}
-use Rattle.list.proofs.Results.{done-fits}
+use Rattle.board.specs.Calls.{boardAfter}
+use Rattle.registers.proofs.Kept.{call-keeps}
+use Rattle.format.specs.Codec.{callAt, callLength, answerRecord, recordLength, refusalAt}
+use Rattle.format.proofs.Frames.{sets-then, sets-front, call-length, call-fits, answer-size}
+use Rattle.format.proofs.Decoding.{clear}
+use Rattle.list.proofs.Results.{result-refused, result-done, done-fits}
 
 -- whether a call was done
 abbrev pub served : Result → Bool
@@ -176,3 +181,52 @@ module _ (list buf₀ : List ℕ) (s₀ : Outcome) (buf : List ℕ) (s : Outcome
         stopped list buf₀ s₀ buf′ (stepped s (refused n)) (r .out) (r .room)
         (rw append-nil at (store-more buf₀ buf buf′ (r .out) [] (s .written) (r .counted) (r .bytes) w))
         (sym (stop-at (drop (s .used) list) (length buf₀) s (r .out) left n (here (refused n) e)) ∙ r .whole)
+
+-- ---- the call at the front of l, which is what is left of the list
+
+pub rest-bytes : (list l : List ℕ) (used : ℕ) → l ≡ drop used list → ((i : ℕ) → getD list i 0 < 256) →
+    (i : ℕ) → getD l i 0 < 256
+rest-bytes list l used e h i = rw (e, getD-drop used list i 0) (h (used + i))
+
+module _ (list buf₀ : List ℕ) (s₀ : Outcome) (buf : List ℕ) (b : Board) (calls used written : ℕ)
+    (r : Running list buf₀ s₀ buf (stateOf b calls used written)) (inside : used < length list)
+    (l : List ℕ) (rest : l ≡ drop used list) where
+  at-front : (t : Result) → resultOf b l (length buf - written) ≡ t →
+      resultOf b (drop used list) (length buf - written) ≡ t
+  at-front t e = ap (λ (m : List ℕ). resultOf b m (length buf - written)) (sym rest) ∙ e
+
+  -- it is refused
+  pub ends : (n : ℕ) → n ≡ refusalAt b l (length buf - written) → eqb n 0 ≡ false →
+      Ran list buf₀ s₀ buf (record { board = b; calls = calls; used = used; written = written; refusal = n })
+  unfolding stepped bytesOf
+  ends n p q =
+      stops list buf₀ s₀ buf (stateOf b calls used written) r inside buf (refused n)
+      (at-front (refused n) (result-refused b l (length buf - written) n p q)) refl refl
+
+  module _ (z : refusalAt b l (length buf - written) ≡ 0) where
+    -- it is accepted: the numbers of the call are inside the list and the buffer
+    pub used-inside : used + callLength (callAt l) ≤ length list
+    used-inside =
+        omega (
+          arith,
+          call-length l (clear b l (length buf - written) z .frame),
+          ap length rest,
+          length-drop used list,
+          r .used-in,
+        )
+
+    pub written-inside : written + recordLength (callAt l) ≤ length buf
+    written-inside = omega (arith, clear b l (length buf - written) z .fits, r .counted, r .room, r .same)
+
+    -- the run goes on behind it
+    pub goes-on : ((i : ℕ) → getD l i 0 < 256) → (b′ : Board) → b′ ≡ boardAfter (callAt l) b → (buf′ : List ℕ) →
+        buf′ ≡ sets buf written (answerRecord (callAt l) b) → (used′ size : ℕ) → used′ ≡ used + callLength (callAt l) →
+        size ≡ recordLength (callAt l) → Running list buf₀ s₀ buf′ (stateOf b′ (calls + 1) used′ (written + size))
+    unfolding stepped bytesOf
+    goes-on bytes b′ e buf′ w used′ size p q =
+        let room = length buf - written in
+        let t = done (boardAfter (callAt l) b) (callLength (callAt l)) (answerRecord (callAt l) b) in
+        rw (p, q, e, ← answer-size (callAt l) b)
+        (more list buf₀ s₀ buf (stateOf b calls used written) r inside buf′ t (at-front t (result-done b l room z)) w
+        refl
+        (call-keeps (callAt l) (rateOf (s₀ .board .clock)) b (call-fits l bytes) (r .good) (clear b l room z .own)) .0)

@@ -61,9 +61,9 @@ pub record Writes (call : Call) (byte offset : ℕ) : Type 0 where
   pub at : offset ≡ address + base
 
 -- cycles pass: of an advance, or of a skip that makes one
-abbrev pub Passes : Call → Board → Bool → ℕ → Type 0
-Passes call b true c = call ≡ advanceBy c
-Passes call b false c = (call ≡ Skip) × (skipLength b ≡ some c)
+pub record Passes (call : Call) (b : Board) (counted : Bool) (c : ℕ) : Type 0 where
+  pub advance : counted ≡ true → call ≡ advanceBy c
+  pub skip : counted ≡ false → (call ≡ Skip) × (skipLength b ≡ some c)
 
 -- the call that a step is of
 abbrev pub Makes : Call → Board → Step → Type 0
@@ -164,17 +164,17 @@ abbrev pub countsAt : ℕ → ℕ
 countsAt at = at + 4
 
 -- ahead of the advance: counts of 0, or the cycles passed
-abbrev pub begunPut : Bool → ℕ → ℕ → List ℕ → List ℕ
+unfoldable pub begunPut : Bool → ℕ → ℕ → List ℕ → List ℕ
 begunPut true c at buf = sets buf (countsAt at) (wides (0 ∷ 0 ∷ 0 ∷ 0 ∷ []))
 begunPut false c at buf = sets buf (at + 3) (be 8 c)
 
 -- the count n of channel i
-abbrev pub countPut : Bool → ℕ → ℕ → ℕ → List ℕ → List ℕ
+unfoldable pub countPut : Bool → ℕ → ℕ → ℕ → List ℕ → List ℕ
 countPut true at i n buf = sets buf (countsAt at + 16 * i) (be 16 n)
 countPut false at i n buf = buf
 
 -- behind it: the header and the line
-abbrev pub passedPut : Bool → ℕ → ℕ → List ℕ → List ℕ
+unfoldable pub passedPut : Bool → ℕ → ℕ → List ℕ → List ℕ
 passedPut true v at buf = sets buf at (headerBytes 4 65 ++ be 1 v)
 passedPut false v at buf = sets (sets buf at (headerBytes 6 9)) (at + 11) (be 1 v)
 

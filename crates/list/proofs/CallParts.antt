@@ -1,0 +1,308 @@
+-- The parts of one call of a run: the step that is made of the call at the front, what it changes, and the stores of
+-- its record. Assumes nothing.
+use Prim.Native.Nat.{ℕ, _+_, _<_}
+use native.Mathlib.Omega.{arith}
+use mathlib.Core.Path.{_≡_, refl, sym, ap, _∙_}
+use mathlib.Core.Bool.{Bool, true, false, false≢true}
+use mathlib.Core.List.{List, [], _∷_, _++_}
+use lib.ListN.{length-append}
+use lib.Dec.{eqb}
+use lib.Seq.{sets}
+use types.Run.{OneOf, miss}
+use denote.Enum.Declared.{tagOf as variantOf}
+use borrow.Author.Tests.{ne-eqb}
+use Rattle.wide.specs.Bits.{bit, flagOf}
+use Rattle.wide.specs.Fields.{be}
+use Rattle.wide.proofs.Forms.{wide-value}
+use Rattle.wide.proofs.BigEndian.{length-be}
+use Rattle.controller.specs.declared.IrqController.{IrqController}
+use Rattle.controller.specs.declared.IrqOutput.{IrqOutput}
+use Rattle.controller.specs.declared.SourceNumber.{SourceNumber}
+use Rattle.controller.specs.Controller.{sourceSet, controllerRead, controllerWritten, outputOf}
+use Rattle.board.specs.declared.Board.{Board}
+use Rattle.board.specs.declared.calls.Call.{Call}
+use Rattle.board.specs.declared.calls.Call.the-variants.{
+  HostTime,
+  Read,
+  Write,
+  Advance,
+  Deadline,
+  Skip,
+  Source,
+  ControllerRead,
+  ControllerWrite,
+  Output,
+}
+use Rattle.board.specs.declared.calls.Passing.{Passing}
+use Rattle.board.specs.declared.calls.DeadlineMembers.{DeadlineMembers}
+use Rattle.board.specs.Board.{line, exactDeadline, sound}
+use Rattle.board.specs.Calls.{effectOf, skipLength}
+use Rattle.board.specs.CodeCalls.{deadlineGiven, passingOf}
+use Rattle.board.proofs.Answers.{passing-refusal, passing-some, passing-none}
+use Rattle.board.proofs.Soundness.{sound-facts}
+use Rattle.board.proofs.calls.Call as C
+use Rattle.format.specs.declared.Answer.the-variants.{Empty, Byte, Deadline as DeadlineBytes, Skip as SkipBytes, Pair}
+use Rattle.format.specs.declared.Decoded.{Decoded}
+use Rattle.format.specs.declared.Lengths.{Lengths}
+use Rattle.format.specs.Format.{lengthsOf, headerLength, membersBytes, answerBytes, valueBytes, recordOf}
+use Rattle.format.specs.Codec.{tagOf, callLength, callAt, recordLength, firstOf, refusalAt}
+use Rattle.format.specs.CodeAnswers.{headerBytes}
+use Rattle.format.specs.CodeDecode.{valueRefusal, decodedOf, boardRefusal, firstRefusal}
+use Rattle.format.proofs.Frames.{value-below, answer-below, sets-then}
+use Rattle.format.proofs.Decoding.{value-of, answer-of, decoded-accepted, first-refusal, accepted-refusal}
+use Rattle.list.specs.declared.parts.Step.{Step}
+use Rattle.list.specs.declared.parts.Step.the-variants.{
+  Refused,
+  Read as ReadStep,
+  Write as WriteStep,
+  Pass,
+  HostTime as HostTimeStep,
+  Stay,
+  Deadline as DeadlineStep,
+  Source as SourceStep,
+  ControllerRead as ControllerReadStep,
+  ControllerWrite as ControllerWriteStep,
+  Output as OutputStep,
+}
+use Rattle.list.specs.CodeParts.{Makes, SkipIs, Accepts, StepIs, otherCall, Changed, passedPut, otherPut}
+use Rattle.list.proofs.parts.Step as S
+
+-- ---- arms of several cases, by the positions of the variants
+
+-- the calls that are no skip
+abbrev noSkip : List ℕ
+noSkip = 0 ∷ 1 ∷ 2 ∷ 3 ∷ 4 ∷ 6 ∷ 7 ∷ 8 ∷ 9 ∷ []
+
+abbrev NoSkip : Call → Type 0
+NoSkip call = OneOf noSkip (variantOf C.the-type call)
+
+-- the steps that no arm names: a skip that stays, and those that are not of such a call
+abbrev rest : List ℕ
+rest = 0 ∷ 1 ∷ 2 ∷ 3 ∷ 5 ∷ []
+
+abbrev Rest : Step → Type 0
+Rest step = OneOf rest (variantOf S.the-type step)
+
+-- ---- the refusal
+
+-- of a call that is no skip the board decides nothing
+pub first-other : (call : Call) (b : Board) (n : ℕ) → NoSkip call → n ≡ firstOf (boardRefusal call b) n
+first-other (HostTime nanoseconds seconds) b n o = refl
+first-other (Read address) b n o = refl
+first-other (Write byte address) b n o = refl
+first-other (Advance c) b n o = refl
+first-other Deadline b n o = refl
+first-other Skip b n o = absurd (miss noSkip 5 tt o)
+first-other (Source number level) b n o = refl
+first-other (ControllerRead address) b n o = refl
+first-other (ControllerWrite byte address) b n o = refl
+first-other Output b n o = refl
+
+-- of a skip it decides all: p is the advance that is made of it
+module _ (b : Board) (p : Passing) (e : p ≡ passingOf (skipLength b)) where
+  own-skip : p .refusal ≡ effectOf Skip b .refusal
+  own-skip = passing-refusal p (skipLength b) e
+
+  module _ (call : Call) (k : call ≡ Skip) (n : ℕ) where
+    pub first-skip : (p .refusal ≡ 0 → ⊥) → p .refusal ≡ firstOf (boardRefusal call b) n
+    first-skip f = rw (k, ← own-skip, ne-eqb (p .refusal) 0 f)
+
+    pub first-room : p .refusal ≡ 0 → n ≡ firstOf (boardRefusal call b) n
+    first-room z = rw (k, ← own-skip, z)
+
+  pub skip-refuses : (p .refusal ≡ 0 → ⊥) → SkipIs b (Refused (p .refusal))
+  skip-refuses f = (own-skip, ne-eqb (p .refusal) 0 f)
+
+  module _ (z : p .refusal ≡ 0) where
+    pub skip-passes : p .made ≡ true → SkipIs b (Pass false (p .cycles .0))
+    skip-passes m = (sym own-skip ∙ z, (refl, passing-some p (skipLength b) e m))
+
+    pub skip-stays : p .made ≡ false → SkipIs b Stay
+    skip-stays m = (sym own-skip ∙ z, passing-none p (skipLength b) e z m .0)
+
+-- ---- the step: d is what is found of the call at the front
+
+module _ (b : Board) (l : List ℕ) (room : ℕ) (d : Decoded) (e : d ≡ decodedOf l room) where
+  pub step-refused : (n : ℕ) → n ≡ firstRefusal b d → (d .refusal ≡ 0 → ⊥) →
+      (n ≡ refusalAt b l room) × (eqb n 0 ≡ false)
+  step-refused n q f =
+      let p = first-refusal b l room (rw e at (ne-eqb (d .refusal) 0 f)) in
+      let r : n ≡ refusalAt b l room = q ∙ ap (firstRefusal b) e ∙ p .0 in
+      (r, rw r (p .1))
+
+  module _ (z : d .refusal ≡ 0) (call : Call) (k : d .call ≡ call) where
+    found : decodedOf l room .refusal ≡ 0
+    found = rw e at z
+
+    there : callAt l ≡ call
+    there = sym (decoded-accepted l room found .0) ∙ ap (λ (x : Decoded). x .call) (sym e) ∙ k
+
+    -- of a call whose members decide its own refusal
+    pub step-accepted : effectOf call b .refusal ≡ valueRefusal call → (step : Step) → Makes call b step →
+        Accepts b l room step
+    step-accepted v step m =
+        record {
+          accepted =
+              accepted-refusal b l room found
+              ∙ ap (λ (x : Call). effectOf x b .refusal) there
+              ∙ v
+              ∙ ap valueRefusal (sym there)
+              ∙ decoded-accepted l room found .1 .1 .0;
+          makes = rw there m;
+        }
+
+  module _ (z : d .refusal ≡ 0) (k : d .call ≡ Skip) where
+    own : refusalAt b l room ≡ effectOf Skip b .refusal
+    own = accepted-refusal b l room (rw e at z) ∙ ap (λ (x : Call). effectOf x b .refusal) (there z Skip k)
+
+    pub step-skips : (step : Step) → SkipIs b step → StepIs b l room step
+    step-skips (Refused refusal) s = (s .0 ∙ sym own, s .1)
+    step-skips (ReadStep offset) s = absurd s
+    step-skips (WriteStep byte offset) s = absurd s
+    step-skips (Pass counted c) s =
+        record {
+          accepted = own ∙ s .0;
+          makes = record {
+            advance = λ e. absurd (false≢true (sym (s .1 .0) ∙ e));
+            skip = λ _. (there z Skip k, s .1 .1);
+          };
+        }
+    step-skips (HostTimeStep nanoseconds seconds) s = absurd s
+    step-skips Stay s = record { accepted = own ∙ s .0; makes = (there z Skip k, s .1) }
+    step-skips DeadlineStep s = absurd s
+    step-skips (SourceStep number level) s = absurd s
+    step-skips (ControllerReadStep address) s = absurd s
+    step-skips (ControllerWriteStep byte address) s = absurd s
+    step-skips OutputStep s = absurd s
+
+-- ---- the calls that change host time or the controller at most
+
+-- a property of the rest, step by step
+rest-cases : (P : Step → Type 0) → ((refusal : ℕ) → P (Refused refusal)) → ((offset : ℕ) → P (ReadStep offset)) →
+    ((byte offset : ℕ) → P (WriteStep byte offset)) → ((counted : Bool) (c : ℕ) → P (Pass counted c)) → P Stay →
+    (step : Step) → Rest step → P step
+rest-cases P p0 p1 p2 p3 p5 (Refused refusal) o = p0 refusal
+rest-cases P p0 p1 p2 p3 p5 (ReadStep offset) o = p1 offset
+rest-cases P p0 p1 p2 p3 p5 (WriteStep byte offset) o = p2 byte offset
+rest-cases P p0 p1 p2 p3 p5 (Pass counted c) o = p3 counted c
+rest-cases P p0 p1 p2 p3 p5 (HostTimeStep nanoseconds seconds) o = absurd (miss rest 4 tt o)
+rest-cases P p0 p1 p2 p3 p5 Stay o = p5
+rest-cases P p0 p1 p2 p3 p5 DeadlineStep o = absurd (miss rest 6 tt o)
+rest-cases P p0 p1 p2 p3 p5 (SourceStep number level) o = absurd (miss rest 7 tt o)
+rest-cases P p0 p1 p2 p3 p5 (ControllerReadStep address) o = absurd (miss rest 8 tt o)
+rest-cases P p0 p1 p2 p3 p5 (ControllerWriteStep byte address) o = absurd (miss rest 9 tt o)
+rest-cases P p0 p1 p2 p3 p5 OutputStep o = absurd (miss rest 10 tt o)
+
+pub rest-tag : (step : Step) → Rest step → _≡_ {A = ℕ} 6 (tagOf (otherCall step))
+rest-tag =
+    rest-cases (λ step. _≡_ {A = ℕ} 6 (tagOf (otherCall step))) (λ _. refl) (λ _. refl) (λ _ _. refl) (λ _ _. refl)
+    refl
+
+-- what each changes
+module _ (b : Board) (step : Step) where
+  pub host-changes : (nanoseconds seconds : ℕ) → step ≡ HostTimeStep nanoseconds seconds →
+      Changed step b
+      (record {
+        host = record { seconds = seconds; nanoseconds = nanoseconds };
+        controller = b .controller;
+        answer = Empty;
+      })
+  unfolding membersBytes valueBytes
+  host-changes nanoseconds seconds k = rw k (refl, refl)
+
+  pub source-changes : (number : SourceNumber) (level : ℕ) → step ≡ SourceStep number level → (q : IrqController) →
+      q ≡ sourceSet (b .controller) (number .0) (eqb level 1) →
+      Changed step b (record { host = b .clock .host; controller = q; answer = Empty })
+  unfolding membersBytes valueBytes
+  source-changes number level k q e = rw (k, e) (refl, refl)
+
+  pub read-changes : (address : ℕ) → step ≡ ControllerReadStep address → (v : ℕ) →
+      v ≡ controllerRead (b .controller) address →
+      Changed step b (record { host = b .clock .host; controller = b .controller; answer = Byte v })
+  unfolding valueBytes
+  read-changes address k v e = rw (k, e) (refl, refl)
+
+  pub write-changes : (byte address : ℕ) → step ≡ ControllerWriteStep byte address → (q : IrqController) →
+      q ≡ controllerWritten (b .controller) address byte →
+      Changed step b (record { host = b .clock .host; controller = q; answer = Empty })
+  unfolding membersBytes valueBytes
+  write-changes byte address k q e = rw (k, e) (refl, refl)
+
+  pub output-changes : step ≡ OutputStep → (o : IrqOutput) → o ≡ outputOf (b .controller) → (v : ℕ) →
+      v ≡ flagOf (o .valid) →
+      Changed step b
+      (record { host = b .clock .host; controller = b .controller; answer = Pair v (o .number .0) })
+  unfolding valueBytes
+  output-changes k o e v f = rw (k, f, e) (refl, refl)
+
+  pub deadline-changes : step ≡ DeadlineStep → (m : DeadlineMembers) → m ≡ deadlineGiven (exactDeadline b) → (v : ℕ) →
+      v ≡ flagOf (m .present) →
+      Changed step b
+      (record {
+        host = b .clock .host;
+        controller = b .controller;
+        answer = DeadlineBytes v (m .exact) (m .word .0);
+      })
+  unfolding valueBytes
+  deadline-changes k m e v f = rw (k, f, e, wide-value) (refl, refl)
+
+-- a skip that stays: the level of source 3 is the line
+pub rest-changes : (b : Board) → sound b ≡ true → (step : Step) → Rest step → (level : Bool) →
+    level ≡ bit 3 (b .controller .levels) → (v : ℕ) → v ≡ flagOf level →
+    Changed step b (record { host = b .clock .host; controller = b .controller; answer = SkipBytes 0 v })
+unfolding valueBytes
+rest-changes b s step o level e v f =
+    let q : v ≡ flagOf (line b) = f ∙ ap flagOf (e ∙ sound-facts b s .level) in
+    rest-cases
+    (λ step. Changed step b (record { host = b .clock .host; controller = b .controller; answer = SkipBytes 0 v }))
+    (λ _. tt) (λ _. tt) (λ _ _. tt) (λ _ _. tt) (λ n. rw (n, q) (refl, refl)) step o
+
+-- ---- stores: m is the buffer with the header, r the buffer with the value behind it
+
+header-then : (buf m r : List ℕ) (at tag size : ℕ) (value : List ℕ) → m ≡ sets buf at (headerBytes tag size) →
+    r ≡ sets m (at + 3) value → r ≡ sets buf at (headerBytes tag size ++ value)
+header-then buf m r at tag size value e f =
+    f ∙ ap (λ (x : List ℕ). sets x (at + 3) value) e
+    ∙ sets-then buf at 3 (headerBytes tag size) value (simp (length-append, length-be))
+
+-- of a read
+byte-record : (v : ℕ) → headerBytes 2 1 ++ be 1 v ≡ recordOf 2 (answerBytes 2 (v ∷ []))
+unfolding be membersBytes recordOf
+byte-record v = refl
+
+pub byte-then : (buf m r : List ℕ) (at v : ℕ) → m ≡ sets buf at (headerBytes 2 1) → r ≡ sets m (at + 3) (be 1 v) →
+    r ≡ sets buf at (recordOf 2 (answerBytes 2 (v ∷ [])))
+byte-then buf m r at v e f = header-then buf m r at 2 1 (be 1 v) e f ∙ ap (sets buf at) (byte-record v)
+
+-- of a pass: the header, and the line behind it or behind the cycles
+module _ (counted : Bool) (buf m r : List ℕ) (at v : ℕ) (line : Bool) (f : v ≡ flagOf line) where
+  pub advance-passed : counted ≡ true → m ≡ sets buf at (headerBytes 4 65) → r ≡ sets m (at + 3) (be 1 v) →
+      r ≡ passedPut counted (flagOf line) at buf
+  unfolding passedPut
+  advance-passed t e g = rw (t, ← f) (header-then buf m r at 4 65 (be 1 v) e g)
+
+  pub skip-passed : counted ≡ false → m ≡ sets buf at (headerBytes 6 9) → r ≡ sets m (at + 11) (be 1 v) →
+      r ≡ passedPut counted (flagOf line) at buf
+  unfolding passedPut
+  skip-passed t e g = rw (t, ← f, ← e) g
+
+-- ---- lengths, and the record of another call: n are the lengths of its tag
+
+module _ (call : Call) (tag : ℕ) (t : tag ≡ tagOf call) (n : Lengths) (e : n ≡ lengthsOf tag) where
+  lengths-are : n ≡ lengthsOf (tagOf call)
+  lengths-are = e ∙ ap lengthsOf t
+
+  pub call-bytes : (n .value < 256) × (headerLength + n .value ≡ callLength call)
+  call-bytes =
+      let v = value-of (tagOf call) n lengths-are in
+      (omega (arith, v, value-below call), ap (λ (m : ℕ). headerLength + m) v)
+
+  pub record-bytes : (n .answer < 256) × (headerLength + n .answer ≡ recordLength call)
+  record-bytes =
+      let v = answer-of (tagOf call) n lengths-are in
+      (omega (arith, v, answer-below call), ap (λ (m : ℕ). headerLength + m) v)
+
+  pub other-then : (buf m r : List ℕ) (at : ℕ) (value : List ℕ) → m ≡ sets buf at (headerBytes tag (n .answer)) →
+      r ≡ sets m (at + 3) value → r ≡ otherPut (tagOf call) at value buf
+  other-then buf m r at value f g =
+      rw (← t, ← answer-of tag n e) (header-then buf m r at tag (n .answer) value f g)

@@ -1,0 +1,29 @@
+-- `call_length` meets its contract. Assumes nothing.
+use native.Mathlib.Omega.{arith}
+use Rattle.list.specs.CodeParts.{otherCall}
+use Rattle.list.proofs.CallParts.{call-bytes}
+use borrow.Author.Needs.{needs}
+use Rattle.list.proofs.parts.call_length.Statement.{statement}
+use Rattle.list.proofs.parts.call_length.Tie as tie
+
+tag-of-requires : tie.Need-tag-of-requires
+tag-of-requires c κs = search needs
+
+lengths-of-requires : tie.Need-lengths-of-requires
+lengths-of-requires c κs = search needs
+
+add-result : tie.Need-add-result
+add-result c =
+    let s = c .before .before in
+    let b = call-bytes (otherCall (s .before .args .step)) _ (s .tag-of .ensures) _
+    (c .before .lengths-of .ensures) in
+    omega (arith, b .0)
+
+returns : tie.Need-returns
+returns c =
+    let s = c .before .before in
+    call-bytes (otherCall (s .before .args .step)) _ (s .tag-of .ensures) _
+    (c .before .lengths-of .ensures) .1
+
+pub call-length-spec : {M : Type 1} → statement M
+call-length-spec = tie.close (tie.spec tag-of-requires lengths-of-requires add-result returns)

@@ -1,0 +1,30 @@
+-- `first_refusal` meets its contract. Assumes nothing.
+use Rattle.list.proofs.CallParts.{first-other, first-skip, first-room}
+use borrow.Author.Needs.{needs}
+use Rattle.list.proofs.parts.first_refusal.Statement.{statement}
+use Rattle.list.proofs.parts.first_refusal.Tie as tie
+
+enum-told : tie.Need-enum-told
+enum-told c = search needs
+
+returns : tie.Need-returns
+returns c = first-other (c .before .args .front .call) (c .before .args .board) _ (c .match .keys2)
+
+skip-length-requires : tie.Need-skip-length-requires
+skip-length-requires c κs = search needs
+
+returns-2 : tie.Need-returns-2
+returns-2 c =
+    let s = c .before .before in
+    first-skip (s .before .before .before .args .board) _ (s .skip-length .ensures) _
+    (s .before .enum-told .given .1) _ (c .if1 .taken)
+
+returns-3 : tie.Need-returns-3
+returns-3 c =
+    let s = c .before .before in
+    first-room (s .before .before .before .args .board) _ (s .skip-length .ensures) _
+    (s .before .enum-told .given .1) _ (c .if1 .left)
+
+pub first-refusal-spec : {M : Type 1} → statement M
+first-refusal-spec =
+    tie.close (tie.spec enum-told returns skip-length-requires returns-2 returns-3)

@@ -1,0 +1,48 @@
+-- `put_points` meets its contract. Assumes nothing.
+use native.Mathlib.Omega.{arith}
+use Rattle.list.specs.CodeParts.{countPut}
+use borrow.Author.Needs.{needs}
+use Rattle.list.proofs.parts.put_points.Statement.{statement}
+use Rattle.list.proofs.parts.put_points.Tie as tie
+
+add-put-count : tie.Need-add-put-count
+add-put-count c =
+    let s = c .before .before .before in
+    omega (arith, s .pre .1 (c .before .if1 .taken) .0, s .good)
+
+mul-put-count : tie.Need-mul-put-count
+mul-put-count c = search needs
+
+add-put-count-2 : tie.Need-add-put-count-2
+add-put-count-2 c =
+    let s = c .before .before .before in
+    omega (arith, s .pre .0, s .pre .1 (c .before .if1 .taken) .0, s .good)
+
+put-count-requires : tie.Need-put-count-requires
+put-count-requires c κs =
+    let s = c .before .before .before in
+    let r = s .pre .1 (c .before .if1 .taken) in
+    (omega (arith, s .pre .0, r .0), r .1)
+
+same-length : tie.Need-same-length
+same-length c = search needs
+
+returns : tie.Need-returns
+unfolding countPut
+returns c = rw (c .before .before .before .before .if1 .taken) (c .before .before .put-count .ensures)
+
+returns-2 : tie.Need-returns-2
+unfolding countPut
+returns-2 c = rw (c .if1 .left)
+
+pub put-points-spec : {M : Type 1} → statement M
+put-points-spec =
+    tie.close
+    (tie.spec
+    add-put-count
+    mul-put-count
+    add-put-count-2
+    put-count-requires
+    same-length
+    returns
+    returns-2)
