@@ -1,5 +1,5 @@
--- 'Each answer prints': every call that a run carries out has its line in the listing, and nothing else has one. Assumes
--- nothing.
+-- 'Each answer prints': every call that a run carries out has its line in the listing, and nothing else has one.
+-- Assumes nothing.
 use Prim.Native.Nat.{ℕ, zero, suc, _-_, _<_}
 use native.Mathlib.Omega.{arith}
 use mathlib.Core.Path.{_≡_, refl, sym, ap, _∙_}
@@ -8,14 +8,13 @@ use lib.ListN.{length, length-append}
 use Rattle.wide.proofs.Choices.{choose}
 use Rattle.board.specs.declared.Board.{Board}
 use Rattle.board.specs.Board.{sound}
-use Rattle.board.specs.Calls.{notSound}
-use Rattle.format.specs.Format.{tagAt, answerBytes, recordOf}
-use Rattle.format.proofs.Frames.{framed, answer-length}
-use Rattle.perform.specs.Calls.{callAt}
-use Rattle.perform.proofs.Refusals.{size-most}
+use Rattle.board.specs.Calls.{notSound, effectOf}
+use Rattle.format.specs.Format.{answerBytes, recordOf}
+use Rattle.format.specs.Codec.{tagOf, callAt}
+use Rattle.format.proofs.Frames.{tag-below, answer-below, answer-length}
 use Rattle.list.specs.declared.Outcome.{Outcome}
-use Rattle.list.specs.Run.{Turn, done, refused, turnOf, stepped, Run, runOn, nothingDone, runOf}
-use Rattle.list.proofs.Turns.{done-placed, done-answer}
+use Rattle.list.specs.Run.{Result, done, refused, resultOf, stepped, Run, runOn, nothingDone, runOf}
+use Rattle.list.proofs.Results.{done-placed}
 use Rattle.listing.specs.Listing.{answerLine, linesOn, answerLines}
 use Rattle.listing.proofs.Records.{record-listed}
 
@@ -60,24 +59,22 @@ record Given (s : Outcome) (bytes : List ℕ) : Type 0 where
 
 -- one call more
 one-more : (l : List ℕ) (s : Outcome) (out : List ℕ) (room : ℕ) (b : Board) (n : ℕ) (a : List ℕ) →
-    turnOf (s .board) l room ≡ done b n a → Given s out → Given (stepped s (done b n a)) (out ++ a)
+    resultOf (s .board) l room ≡ done b n a → Given s out → Given (stepped s (done b n a)) (out ++ a)
 unfolding stepped
 one-more l s out room b n a e g =
-    let p = done-placed (s .board) l room b n a e .0 .frame in
+    let call = callAt l in
+    let members = effectOf call (s .board) .members in
     let y : Tagged = record {
-      tag = tagAt l;
-      value = answerBytes (tagAt l) (callAt l (s .board) .members);
-      small = (
-        omega (arith, framed l p .1 .1),
-        omega (arith, size-most l p, answer-length (tagAt l) (callAt l (s .board) .members)),
-      );
+      tag = tagOf call;
+      value = answerBytes (tagOf call) members;
+      small = (tag-below call, omega (arith, answer-below call, answer-length (tagOf call) members));
     } in
     record {
       answers = g .answers ++ (y ∷ []);
       counted = omega (arith, g .counted, length-append (g .answers) (y ∷ []));
       records =
           ap (λ (o : List ℕ). o ++ a) (g .records)
-          ∙ ap (λ (o : List ℕ). recordsOf (g .answers) ++ o) (done-answer (s .board) l room b n a e)
+          ∙ ap (λ (o : List ℕ). recordsOf (g .answers) ++ o) (done-placed (s .board) l room b n a e .1 .1 .1 .1)
           ∙ sym (records-end (g .answers) y);
       written = omega (arith, g .written, length-append out a);
     }
@@ -97,7 +94,7 @@ GivenBy r = Given (r .outcome) (r .answers)
 
 next-given : (x : ℕ) (l : List ℕ) (room : ℕ) (s : Outcome) (out : List ℕ) → Given s out →
     ((k : ℕ) (o : Outcome) (a : List ℕ) → Given o a → GivenBy (runOn k l room o a)) →
-    (t : Turn) → turnOf (s .board) (x ∷ l) (room - length out) ≡ t → GivenBy (runOn 0 (x ∷ l) room s out)
+    (t : Result) → resultOf (s .board) (x ∷ l) (room - length out) ≡ t → GivenBy (runOn 0 (x ∷ l) room s out)
 unfolding runOn
 next-given x l room s out g next (done b n a) e =
     rw (e, runOn)
@@ -111,7 +108,7 @@ given-on k [] room s out g = g
 given-on (suc k) (x ∷ l) room s out g = given-on k l room s out g
 given-on zero (x ∷ l) room s out g =
     next-given x l room s out g (λ k o a. given-on k l room o a)
-    (turnOf (s .board) (x ∷ l) (room - length out)) refl
+    (resultOf (s .board) (x ∷ l) (room - length out)) refl
 
 none-given : (b : Board) (n : ℕ) → Given (nothingDone b n) []
 unfolding recordsOf

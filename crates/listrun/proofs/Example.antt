@@ -12,13 +12,12 @@ use Rattle.controller.specs.Bits.{withBit}
 use Rattle.controller.specs.Controller.{sourceSet, outputOf, lowestFrom}
 use Rattle.board.specs.Loops.{mapFrom, foldFrom}
 use Rattle.board.specs.Board.{line, exactDeadline, wired, soundParts, sound}
-use Rattle.board.specs.Calls.{movedBoard, advancedBoard}
+use Rattle.board.specs.Calls.{addressRefusal, movedBoard, advancedBoard}
 use Rattle.board.specs.RegisterWords.{clockWord, liveWord}
 use Rattle.board.specs.RegisterReads.{readLive, readAt}
-use Rattle.registers.specs.Calls.{addressRefusal}
-use Rattle.format.specs.Format.{membersAt, frameRefusal, membersBytes, recordOf}
-use Rattle.perform.specs.Calls.{callOf, refusalAt}
-use Rattle.list.specs.Run.{turnOf, stepped, runOn, runOf}
+use Rattle.format.specs.Format.{membersAt, membersBytes, recordOf}
+use Rattle.format.specs.Codec.{frameRefusal, callOf, refusalAt}
+use Rattle.list.specs.Run.{resultOf, stepped, runOn, runOf}
 use Rattle.listing.specs.Listing.{
   ascii,
   placesOf,
@@ -42,6 +41,6 @@ unfolding
     beAt be enabledOf soundTimer lineOf advanced matchesIn alarmReached checkAlarm movedTime endAdvance advanceClock
     soundRate soundOffset soundAlarm soundFields alarmAhead soundClock withBit sourceSet outputOf lowestFrom mapFrom
     foldFrom line exactDeadline wired soundParts sound movedBoard advancedBoard clockWord liveWord readLive
-    readAt addressRefusal membersAt frameRefusal membersBytes recordOf callOf refusalAt turnOf stepped runOn
+    readAt addressRefusal membersAt frameRefusal membersBytes recordOf callOf refusalAt resultOf stepped runOn
     runOf ascii placesOf decimalText bytesText valueText answerLine linesOn endLine listingOf listed printedOf
 example-printed = refl

@@ -60,7 +60,7 @@ use Rattle.image.specs.Image.{
   controllerFrom,
   boardFrom,
 }
-use Rattle.parking.proofs.Stored.{ended, _▸_, each-length, each-at, Below}
+use Rattle.format.proofs.Members.{ended, _▸_, each-length, each-at, Below}
 use Rattle.parking.proofs.Stored.{flag-at, FieldFit, FieldsFit}
 
 -- ---- flags

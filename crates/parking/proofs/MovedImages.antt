@@ -30,7 +30,7 @@ use Rattle.parking.specs.Parking.{
   readingOf,
 }
 use Rattle.parking.specs.Moves.{otherForm, moveRefusal, movedImage, moveOf, movedBuffer}
-use Rattle.parking.proofs.Stored.{Bytes}
+use Rattle.format.proofs.Members.{Bytes}
 use Rattle.parking.proofs.RoundTrip.{
   in-sound,
   in-fits,

@@ -46,7 +46,7 @@ use Rattle.parking.specs.Parking.{
   readingRefusal,
   readingOf,
 }
-use Rattle.parking.proofs.Stored.{Bytes, _▸_}
+use Rattle.format.proofs.Members.{Bytes, _▸_}
 use Rattle.parking.proofs.Stored.{
   headersFit,
   FieldsFit,

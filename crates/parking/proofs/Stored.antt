@@ -1,20 +1,19 @@
--- Members and fields there and back: stored and taken out again they are the same members, and bytes that are taken
--- out and stored again are the same bytes. By induction over the layout, whatever its fields are. Assumes nothing.
-use Prim.Native.Nat.{ℕ, zero, suc, _+_, _^_, _≤_, _<_}
+-- Fields there and back: stored and taken out again they have the same members, and bytes that are taken out and
+-- stored again are the same bytes. By induction over the layout, whatever its fields are. Assumes nothing.
+use Prim.Native.Nat.{ℕ, zero, suc, _+_, _≤_}
 use native.Mathlib.Nat.{add-zero, add-assoc}
 use native.Mathlib.Omega.{arith}
 use mathlib.Core.Path.{_≡_, refl, sym, ap, ap₂, _∙_}
 use mathlib.Core.Bool.{Bool, true, _&&_}
 use mathlib.Core.List.{List, [], _∷_, _++_, append-assoc, append-nil}
 use lib.ListN.{length, getD, take, drop, length-append, take-append-drop, drop-of-length-le}
-use lib.Seq.{take-add, drop-drop}
+use lib.Seq.{drop-drop}
 use lib.Dec.{leb, ltb, eqb}
 use borrow.Author.Tests.{ltb-true, leb-true, le-leb, eqb-true, eq-eqb}
-use Rattle.wide.specs.Fields.{beAt, be}
-use Rattle.wide.proofs.BigEndian.{length-be, be-back, be-of}
+use Rattle.wide.specs.Fields.{beAt}
 use Rattle.wide.proofs.Choices.{and-parts, and-join}
-use Rattle.format.specs.Format.{sum, headerLength, membersAt, membersBytes, recordOf}
-use Rattle.format.proofs.Frames.{members-length, members-below}
+use Rattle.format.specs.Format.{sum, headerLength, membersAt, membersBytes}
+use Rattle.format.proofs.Members.{Bytes, Each, ended, _▸_, Fit, bytes-fit, members-back, members-of, record-members}
 use Rattle.image.specs.Image.{
   Member,
   number,
@@ -32,71 +31,6 @@ use Rattle.image.specs.Image.{
   membersFrom,
 }
 use Rattle.image.proofs.Fields.{field-length}
-
--- (moves to crates/format/proofs/Members.antt)
-
--- the elements of a machine's bytes
-abbrev pub Bytes : List ℕ → Type 0
-Bytes l = (i : ℕ) → getD l i 0 < 256
-
--- ---- two lists, element by element
-
-infixr 67 _▸_
-pub data Each {A B : Type 0} (R : A → B → Type 0) : List A → List B → Type 0 where
-  ended : Each R [] []
-  _▸_ : {a : A} {b : B} {xs : List A} {ys : List B} → R a b → Each R xs ys → Each R (a ∷ xs) (b ∷ ys)
-
-module _ {A B : Type 0} (R : A → B → Type 0) where
-  pub each-length : (xs : List A) (ys : List B) → Each R xs ys → length ys ≡ length xs
-  each-length [] [] ended = refl
-  each-length (x ∷ xs) (y ∷ ys) (r ▸ rs) = ap suc (each-length xs ys rs)
-
-  pub each-at : (d : A) (e : B) (xs : List A) (ys : List B) → Each R xs ys → (k : ℕ) → k < length xs →
-      R (getD xs k d) (getD ys k e)
-  each-at d e [] [] ended k h = absurd (omega (arith, h))
-  each-at d e (x ∷ xs) (y ∷ ys) (r ▸ rs) zero h = r
-  each-at d e (x ∷ xs) (y ∷ ys) (r ▸ rs) (suc k) h = each-at d e xs ys rs k (omega (arith, h))
-
--- ---- members
-
--- a member of this width
-abbrev pub Below : ℕ → ℕ → Type 0
-Below w m = m < 256 ^ w
-
--- as many members as widths, and each fits its width
-abbrev pub Fit : List ℕ → List ℕ → Type 0
-Fit = Each Below
-
--- the members of bytes fit
-bytes-fit : (l : List ℕ) → Bytes l → (at : ℕ) (ws : List ℕ) → Fit ws (membersAt l at ws)
-unfolding membersAt
-bytes-fit l bytes at [] = ended
-bytes-fit l bytes at (w ∷ ws) = members-below l bytes at (w ∷ ws) 0 ▸ bytes-fit l bytes (at + w) ws
-
--- stored and taken out again
-members-back : (ws ms : List ℕ) → Fit ws ms → (pre post : List ℕ) →
-    membersAt (pre ++ (membersBytes ws ms ++ post)) (length pre) ws ≡ ms
-unfolding membersAt membersBytes
-members-back [] [] ended pre post = refl
-members-back (w ∷ ws) (m ∷ ms) (h ▸ fit) pre post =
-    let front = be w m in
-    let rest = membersBytes ws ms ++ post in
-    let longer : length (pre ++ front) ≡ length pre + w =
-    length-append pre front ∙ ap (λ (n : ℕ). length pre + n) (length-be w m) in
-    ap (λ (l : List ℕ). membersAt (pre ++ l) (length pre) (w ∷ ws)) (append-assoc front (membersBytes ws ms) post)
-    ∙ ap₂ _∷_ (be-back w m pre rest h)
-    (ap₂ (λ (l : List ℕ) (n : ℕ). membersAt l n ws) (sym (append-assoc pre front rest)) (sym longer)
-    ∙ members-back ws ms fit (pre ++ front) post)
-
--- taken out and stored again
-members-of : (l : List ℕ) → Bytes l → (at : ℕ) (ws : List ℕ) → at + sum ws ≤ length l →
-    membersBytes ws (membersAt l at ws) ≡ take (sum ws) (drop at l)
-unfolding membersAt membersBytes
-members-of l bytes at [] h = refl
-members-of l bytes at (w ∷ ws) h =
-    ap₂ _++_ (be-of l bytes at w (omega (arith, h)))
-    (members-of l bytes (at + w) ws (omega (arith, h)) ∙ ap (take (sum ws)) (sym (drop-drop w at l)))
-    ∙ sym (take-add w (sum ws) (drop at l))
 
 -- ---- flags
 
@@ -123,11 +57,8 @@ behind at = omega arith
 
 headed-bytes : (f : Field) (ms : List ℕ) →
     fieldBytes f ms ≡ membersBytes (headed f) (f .tag ∷ membersLength f ∷ ms)
-unfolding fieldBytes recordOf membersBytes
-headed-bytes f ms =
-    let value = membersBytes (widthsOf (f .members)) ms in
-    append-assoc (be 1 (f .tag)) (be 2 (length value)) value
-    ∙ ap (λ (n : ℕ). be 1 (f .tag) ++ (be 2 n ++ value)) (members-length (widthsOf (f .members)) ms)
+unfolding fieldBytes
+headed-bytes f ms = record-members (f .tag) (widthsOf (f .members)) ms
 
 -- tag and length of a field fit their widths
 abbrev pub headerFits : Field → Bool

@@ -10,19 +10,16 @@ use borrow.Author.Tests.{eq-eqb, ne-eqb, le-ltb}
 use Rattle.clock.specs.Clock.{rateOf}
 use Rattle.board.specs.declared.Board.{Board}
 use Rattle.board.specs.Board.{sound}
-use Rattle.board.proofs.Soundness.{facts-sound}
-use Rattle.board.proofs.Steps.{good}
 use Rattle.parking.specs.declared.Reading.{Reading}
 use Rattle.image.specs.declared.Form.{Form}
 use Rattle.image.specs.Image.{imageLength, imageOf}
 use Rattle.parking.specs.Parking.{formTakes, bufferAfter, readingRefusal, readingOf}
-use Rattle.parking.proofs.RoundTrip.{refusal-is, accepted-sound, accepted-words, accepted-long, accepted-rate}
+use Rattle.parking.proofs.RoundTrip.{refusal-is, accepted-sound, accepted-long, accepted-rate, accepted-fits}
 use Rattle.list.specs.declared.Outcome.{Outcome}
 use Rattle.list.specs.Run.{runOf, over}
-use Rattle.list.proofs.Rate.{run-rate}
+use Rattle.list.proofs.Kept.{run-sound, run-rate}
 use Rattle.resume.specs.declared.Resumed.{Resumed}
 use Rattle.resume.specs.Resumed.{runParked, resumedOf, imageAfter, answersAfter}
-use Rattle.resume.proofs.RunWords.{run-sound}
 
 -- nothing done, with a refusal
 abbrev nothing : ℕ → Resumed
@@ -61,16 +58,14 @@ module _ (image l a : List ℕ) (bytes : (i : ℕ) → getD image i 0 < 256) (li
   -- the board that the run leaves is sound
   left-sound : sound (runParked image l (length a) .outcome .board) ≡ true
   left-sound =
-      facts-sound (runParked image l (length a) .outcome .board)
-      (run-sound (readingOf image .board) l (length a)
-      (good (readingOf image .board) (accepted-words image bytes accepted .fits) (accepted-sound image accepted))
-      list-bytes .facts)
+      run-sound (readingOf image .board) l (length a) (accepted-fits image bytes accepted) list-bytes
+      (accepted-sound image accepted)
 
   -- and at the rate of the image's, which its form takes
   left-rate : formTakes (readingOf image .form) (rateOf (runParked image l (length a) .outcome .board .clock)) ≡ true
   left-rate =
       ap (formTakes (readingOf image .form))
-      (run-rate (readingOf image .board) l (length a) (accepted-words image bytes accepted .fits) list-bytes .same)
+      (run-rate (readingOf image .board) l (length a) (accepted-fits image bytes accepted) list-bytes)
       ∙ accepted-rate image accepted
 
   module _ (o : Outcome) (x w : List ℕ)

@@ -1,3 +1,2 @@
-pub mod RunWords
 pub mod Answers
 pub mod TwoRuns

@@ -1,66 +1,54 @@
 -- A list run in two parts with a parking between them, in either form, is the list run whole. Assumes nothing.
 use Prim.Native.Nat.{ℕ, _+_, _-_, _<_}
-use native.Mathlib.Omega.{arith}
 use mathlib.Core.Path.{_≡_, refl, sym, ap, _∙_}
 use mathlib.Core.Bool.{true}
 use mathlib.Core.List.{List, _++_}
 use lib.ListN.{length, getD}
 use borrow.Author.Tests.{eq-eqb}
-use Rattle.wide.proofs.Choices.{either}
 use Rattle.clock.specs.Clock.{rateOf}
 use Rattle.board.specs.declared.Board.{Board}
 use Rattle.board.specs.Fields.{freshBoardAt}
-use Rattle.board.specs.Board.{sound}
-use Rattle.board.proofs.Soundness.{facts-sound}
-use Rattle.board.proofs.Steps.{good}
+use Rattle.board.specs.Board.{BoardFits, sound}
+use Rattle.board.proofs.Kept.{fresh-fits}
 use Rattle.parking.specs.declared.Reading.{Reading}
 use Rattle.image.specs.declared.Form.{Form}
 use Rattle.image.specs.Image.{imageOf}
 use Rattle.parking.specs.Parking.{formTakes, readingRefusal, readingOf}
-use Rattle.image.specs.Words.{BoardWords}
 use Rattle.parking.specs.Demand.{parkedAndRead}
-use Rattle.parking.proofs.RoundTrip.{refusal-is, read-back, accepted-words, accepted-rate}
-use Rattle.parking.proofs.Words.{fresh-words}
+use Rattle.parking.proofs.RoundTrip.{refusal-is, read-back, accepted-rate, accepted-fits}
 use Rattle.parking.proofs.Parkings.{parked-back}
 use Rattle.list.specs.Run.{Run, runOf}
-use Rattle.list.proofs.TwoParts.{joined, run-keeps, two-parts}
-use Rattle.list.proofs.Rate.{run-rate}
+use Rattle.list.proofs.TwoParts.{joined, two-parts}
+use Rattle.list.proofs.Kept.{began-sound, run-sound, run-fits, run-rate}
 use Rattle.resume.specs.Resumed.{runParked, imageAfter}
-use Rattle.resume.proofs.RunWords.{run-words}
 
--- a run that is not refused began with a sound board
-began-sound : (b : Board) (l : List ℕ) (room : ℕ) → runOf b l room .outcome .refusal ≡ 0 → sound b ≡ true
-unfolding runOf
-began-sound b l room z =
-    either (sound b) (λ s. s) (λ s. let one : _≡_ {A = ℕ} 1 0 = rw s at z in absurd (omega (arith, one)))
-
-module _ (b : Board) (w : BoardWords b) (l m : List ℕ) (room : ℕ) (bytes : (i : ℕ) → getD l i 0 < 256)
+module _ (b : Board) (f : BoardFits b) (l m : List ℕ) (room : ℕ) (bytes : (i : ℕ) → getD l i 0 < 256)
     (z : runOf b l room .outcome .refusal ≡ 0) where
   abbrev First : Run
   First = runOf b l room
 
   left-sound : sound (First .outcome .board) ≡ true
-  left-sound = facts-sound (First .outcome .board) (run-keeps b l room (w .fits) bytes z .facts)
+  left-sound = run-sound b l room f bytes (began-sound b l room z)
 
-  left-words : BoardWords (First .outcome .board)
-  left-words = run-words b l room (good b (w .fits) (began-sound b l room z)) w bytes
+  left-fits : BoardFits (First .outcome .board)
+  left-fits = run-fits b l room f bytes
 
   -- where the first part is not refused: the whole run gives the board, the answers one after the other and the counts
   -- added up of the two, with the board written and read back between them
-  pub parked-between : (f : Form) →
+  pub parked-between : (form : Form) →
       runOf b (l ++ m) room
-      ≡ joined First (runOf (parkedAndRead f (First .outcome .board)) m (room - length (First .answers)))
-  parked-between f =
-      two-parts b l m room (w .fits) bytes z
+      ≡ joined First (runOf (parkedAndRead form (First .outcome .board)) m (room - length (First .answers)))
+  parked-between form =
+      two-parts b l m room f bytes z
       ∙ ap (λ (c : Board). joined First (runOf c m (room - length (First .answers))))
-      (sym (parked-back f (First .outcome .board) left-sound left-words))
+      (sym (parked-back form (First .outcome .board) left-sound left-fits))
 
   -- what the image of its board says is its board, in a form that takes the rate
-  pub left-back : (f : Form) → formTakes f (rateOf (b .clock)) ≡ true →
-      readingOf (imageOf f (First .outcome .board)) ≡ record { board = First .outcome .board; form = f; refusal = 0 }
-  left-back f t =
-      read-back f (First .outcome .board) left-sound
-      (ap (formTakes f) (run-rate b l room (w .fits) bytes .same) ∙ t) left-words
+  pub left-back : (form : Form) → formTakes form (rateOf (b .clock)) ≡ true →
+      readingOf (imageOf form (First .outcome .board))
+      ≡ record { board = First .outcome .board; form = form; refusal = 0 }
+  left-back form t =
+      read-back form (First .outcome .board) left-sound (ap (formTakes form) (run-rate b l room f bytes) ∙ t) left-fits
 
 -- from a fresh board of any rate, for every list
 pub fresh-in-parts : (f : Form) (rate : ℕ) (l m : List ℕ) (room : ℕ) → ((i : ℕ) → getD l i 0 < 256) →
@@ -69,7 +57,7 @@ pub fresh-in-parts : (f : Form) (rate : ℕ) (l m : List ℕ) (room : ℕ) → (
     ≡ joined (runOf (freshBoardAt rate) l room)
     (runOf (parkedAndRead f (runOf (freshBoardAt rate) l room .outcome .board)) m
     (room - length (runOf (freshBoardAt rate) l room .answers)))
-fresh-in-parts f rate l m room bytes z = parked-between (freshBoardAt rate) (fresh-words rate) l m room bytes z f
+fresh-in-parts f rate l m room bytes z = parked-between (freshBoardAt rate) (fresh-fits rate) l m room bytes z f
 
 -- the image that a run over a parked board leaves
 image-left : (image l : List ℕ) (room : ℕ) → readingRefusal image ≡ 0 →
@@ -84,8 +72,8 @@ module _ (image l m : List ℕ) (room : ℕ) (image-bytes : (i : ℕ) → getD i
   accepted : readingOf image .refusal ≡ 0
   accepted = refusal-is image (readingOf image) refl ∙ read
 
-  words : BoardWords (readingOf image .board)
-  words = accepted-words image image-bytes accepted
+  fits : BoardFits (readingOf image .board)
+  fits = accepted-fits image image-bytes accepted
 
   abbrev Left : Board
   Left = runParked image l room .outcome .board
@@ -95,7 +83,7 @@ module _ (image l m : List ℕ) (room : ℕ) (image-bytes : (i : ℕ) → getD i
       readingOf (imageAfter image l room) ≡ record { board = Left; form = readingOf image .form; refusal = 0 }
   between =
       ap readingOf (image-left image l room read)
-      ∙ left-back (readingOf image .board) words l m room bytes z (readingOf image .form) (accepted-rate image accepted)
+      ∙ left-back (readingOf image .board) fits l m room bytes z (readingOf image .form) (accepted-rate image accepted)
 
   between-read : readingRefusal (imageAfter image l room) ≡ 0
   between-read =
@@ -107,7 +95,7 @@ module _ (image l m : List ℕ) (room : ℕ) (image-bytes : (i : ℕ) → getD i
       ≡ joined (runParked image l room)
       (runParked (imageAfter image l room) m (room - length (runParked image l room .answers)))
   resumed-in-parts =
-      two-parts (readingOf image .board) l m room (words .fits) bytes z
+      two-parts (readingOf image .board) l m room fits bytes z
       ∙ ap
       (λ (c : Board). joined (runParked image l room) (runOf c m (room - length (runParked image l room .answers))))
       (sym (ap (λ (r : Reading). r .board) between))
