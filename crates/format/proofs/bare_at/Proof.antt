@@ -9,12 +9,6 @@ use borrow.Author.Needs.{needs}
 use Rattle.format.proofs.bare_at.Statement.{statement}
 use Rattle.format.proofs.bare_at.Tie as tie
 
-framed-requires : tie.Need-framed-requires
-framed-requires c κs = search needs
-
-unframed-requires : tie.Need-unframed-requires
-unframed-requires c κs = search needs
-
 returns : tie.Need-returns
 returns c =
     let s = c .before .before .before .before in
@@ -37,9 +31,6 @@ returns-2 c =
     (c .before .if1 .left) 0
     (sym (s .pre .1 .0)) refl (c .if2 .taken)
 
-accepted-requires : tie.Need-accepted-requires
-accepted-requires c κs = search needs
-
 returns-3 : tie.Need-returns-3
 returns-3 c =
     let s = c .before .before .before .before .before in
@@ -51,10 +42,10 @@ pub bare-at-spec : {M : Type 1} → statement M
 bare-at-spec =
     tie.close
     (tie.spec
-    framed-requires
-    unframed-requires
+    (λ c κs. search needs)
+    (λ c κs. search needs)
     returns
     add-if2
     returns-2
-    accepted-requires
+    (λ c κs. search needs)
     returns-3)

@@ -15,9 +15,6 @@ use Rattle.format.proofs.controller_write_at.Tie as tie
 abbrev here : List ℕ → Call
 here l = ControllerWrite (beAt l 7 1) (beAt l 3 4)
 
-lengths-of-requires : tie.Need-lengths-of-requires
-lengths-of-requires c κs = search needs
-
 framed-requires : tie.Need-framed-requires
 framed-requires c κs = (c .before .before .pre, omega (arith, value-of 9 _ (c .lengths-of .ensures)))
 
@@ -34,9 +31,6 @@ returns c =
 
 add-if2 : tie.Need-add-if2
 add-if2 c = omega (arith, answer-of 9 _ (c .before .before .before .lengths-of .ensures))
-
-refused-requires : tie.Need-refused-requires
-refused-requires c κs = search needs
 
 returns-2 : tie.Need-returns-2
 returns-2 c =
@@ -59,9 +53,6 @@ controller-address-at-requires c κs =
     let h = whole 9 _ (u .before .before .lengths-of .ensures) _ _ (u .before .framed .ensures) (u .if1 .left) in
     omega arith
 
-accepted-requires : tie.Need-accepted-requires
-accepted-requires c κs = search needs
-
 returns-3 : tie.Need-returns-3
 returns-3 c =
     let u = c .before .before .before .before .before in
@@ -77,14 +68,14 @@ pub controller-write-at-spec : {M : Type 1} → statement M
 controller-write-at-spec =
     tie.close
     (tie.spec
-    lengths-of-requires
+    (λ c κs. search needs)
     framed-requires
     unframed-requires
     returns
     add-if2
-    refused-requires
+    (λ c κs. search needs)
     returns-2
     byte-at-requires
     controller-address-at-requires
-    accepted-requires
+    (λ c κs. search needs)
     returns-3)

@@ -9,26 +9,8 @@ use borrow.Author.Needs.{needs}
 use Rattle.format.proofs.decode.Statement.{statement}
 use Rattle.format.proofs.decode.Tie as tie
 
-refused-requires : tie.Need-refused-requires
-refused-requires c κs = search needs
-
 returns : tie.Need-returns
 returns c = c .refused .ensures ∙ decoded-cut _ _ (c .before .if1 .taken)
-
-shared-slice-read-match : tie.Need-shared-slice-read-match
-shared-slice-read-match c = search needs
-
-host-time-at-requires : tie.Need-host-time-at-requires
-host-time-at-requires c κs = search needs
-
-read-at-requires : tie.Need-read-at-requires
-read-at-requires c κs = search needs
-
-write-at-requires : tie.Need-write-at-requires
-write-at-requires c κs = search needs
-
-advance-at-requires : tie.Need-advance-at-requires
-advance-at-requires c κs = search needs
 
 bare-at-requires : tie.Need-bare-at-requires
 bare-at-requires c κs = (c .before .before .if1 .left, (refl, (refl, refl)))
@@ -36,20 +18,8 @@ bare-at-requires c κs = (c .before .before .if1 .left, (refl, (refl, refl)))
 bare-at-requires-2 : tie.Need-bare-at-requires-2
 bare-at-requires-2 c κs = (c .before .before .if1 .left, (refl, (refl, refl)))
 
-source-at-requires : tie.Need-source-at-requires
-source-at-requires c κs = search needs
-
-controller-read-at-requires : tie.Need-controller-read-at-requires
-controller-read-at-requires c κs = search needs
-
-controller-write-at-requires : tie.Need-controller-write-at-requires
-controller-write-at-requires c κs = search needs
-
 bare-at-requires-3 : tie.Need-bare-at-requires-3
 bare-at-requires-3 c κs = (c .before .before .if1 .left, (refl, (refl, refl)))
-
-refused-requires-2 : tie.Need-refused-requires-2
-refused-requires-2 c κs = search needs
 
 returns-2 : tie.Need-returns-2
 unfolding callOf membersAt
@@ -124,20 +94,20 @@ pub decode-spec : {M : Type 1} → statement M
 decode-spec =
     tie.close
     (tie.spec
-    refused-requires
+    (λ c κs. search needs)
     returns
-    shared-slice-read-match
-    host-time-at-requires
-    read-at-requires
-    write-at-requires
-    advance-at-requires
+    (λ c. search needs)
+    (λ c κs. search needs)
+    (λ c κs. search needs)
+    (λ c κs. search needs)
+    (λ c κs. search needs)
     bare-at-requires
     bare-at-requires-2
-    source-at-requires
-    controller-read-at-requires
-    controller-write-at-requires
+    (λ c κs. search needs)
+    (λ c κs. search needs)
+    (λ c κs. search needs)
     bare-at-requires-3
-    refused-requires-2
+    (λ c κs. search needs)
     returns-2
     returns-3
     returns-4

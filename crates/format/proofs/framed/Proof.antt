@@ -5,14 +5,8 @@ use borrow.Author.Needs.{needs}
 use Rattle.format.proofs.framed.Statement.{statement}
 use Rattle.format.proofs.framed.Tie as tie
 
-length-wrong-requires : tie.Need-length-wrong-requires
-length-wrong-requires c κs = search needs
-
 returns : tie.Need-returns
 returns c = framed-wrong _ _ (sym (c .before .length-wrong .ensures) ∙ c .if1 .taken)
-
-add-result : tie.Need-add-result
-add-result c = search needs
 
 returns-2 : tie.Need-returns-2
 returns-2 c = framed-right _ _ (sym (c .before .length-wrong .ensures) ∙ c .if1 .left)
@@ -21,7 +15,7 @@ pub framed-spec : {M : Type 1} → statement M
 framed-spec =
     tie.close
     (tie.spec
-    length-wrong-requires
+    (λ c κs. search needs)
     returns
-    add-result
+    (λ c. search needs)
     returns-2)

@@ -6,27 +6,6 @@ use borrow.Author.Needs.{needs}
 use Rattle.format.proofs.length_wrong.Statement.{statement}
 use Rattle.format.proofs.length_wrong.Tie as tie
 
-shared-slice-read-widened : tie.Need-shared-slice-read-widened
-shared-slice-read-widened c = search needs
-
-widened-requires : tie.Need-widened-requires
-widened-requires c κs = search needs
-
-shared-slice-read-widened-2 : tie.Need-shared-slice-read-widened-2
-shared-slice-read-widened-2 c = search needs
-
-widened-requires-2 : tie.Need-widened-requires-2
-widened-requires-2 c κs = search needs
-
-mul-result : tie.Need-mul-result
-mul-result c = search needs
-
-add-result : tie.Need-add-result
-add-result c = search needs
-
-mul-result-2 : tie.Need-mul-result-2
-mul-result-2 c = search needs
-
 returns : tie.Need-returns
 returns c =
     let s = c .before .before .before .before .before in
@@ -40,11 +19,11 @@ pub length-wrong-spec : {M : Type 1} → statement M
 length-wrong-spec =
     tie.close
     (tie.spec
-    shared-slice-read-widened
-    widened-requires
-    shared-slice-read-widened-2
-    widened-requires-2
-    mul-result
-    add-result
-    mul-result-2
+    (λ c. search needs)
+    (λ c κs. search needs)
+    (λ c. search needs)
+    (λ c κs. search needs)
+    (λ c. search needs)
+    (λ c. search needs)
+    (λ c. search needs)
     returns)

@@ -10,24 +10,6 @@ use borrow.Author.Needs.{needs}
 use Rattle.format.proofs.put_deadline.Statement.{statement}
 use Rattle.format.proofs.put_deadline.Tie as tie
 
-put-requires : tie.Need-put-requires
-put-requires c κs = search needs
-
-add-put-wide : tie.Need-add-put-wide
-add-put-wide c = search needs
-
-put-wide-requires : tie.Need-put-wide-requires
-put-wide-requires c κs = search needs
-
-add-put : tie.Need-add-put
-add-put c = search needs
-
-put-requires-2 : tie.Need-put-requires-2
-put-requires-2 c κs = search needs
-
-same-length : tie.Need-same-length
-same-length c = search needs
-
 returns : tie.Need-returns
 unfolding membersBytes valueBytes
 returns c =
@@ -49,10 +31,10 @@ pub put-deadline-spec : {M : Type 1} → statement M
 put-deadline-spec =
     tie.close
     (tie.spec
-    put-requires
-    add-put-wide
-    put-wide-requires
-    add-put
-    put-requires-2
-    same-length
+    (λ c κs. search needs)
+    (λ c. search needs)
+    (λ c κs. search needs)
+    (λ c. search needs)
+    (λ c κs. search needs)
+    (λ c. search needs)
     returns)

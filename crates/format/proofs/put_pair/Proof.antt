@@ -8,18 +8,6 @@ use borrow.Author.Needs.{needs}
 use Rattle.format.proofs.put_pair.Statement.{statement}
 use Rattle.format.proofs.put_pair.Tie as tie
 
-put-requires : tie.Need-put-requires
-put-requires c κs = search needs
-
-add-put : tie.Need-add-put
-add-put c = search needs
-
-put-requires-2 : tie.Need-put-requires-2
-put-requires-2 c κs = search needs
-
-same-length : tie.Need-same-length
-same-length c = search needs
-
 returns : tie.Need-returns
 unfolding membersBytes valueBytes
 returns c =
@@ -28,4 +16,4 @@ returns c =
     (sets-then (a .buf .now) (a .at) 1 (be 1 (a .a)) (be 1 (a .b)) (length-be 1 (a .a)))
 
 pub put-pair-spec : {M : Type 1} → statement M
-put-pair-spec = tie.close (tie.spec put-requires add-put put-requires-2 same-length returns)
+put-pair-spec = tie.close (tie.spec (λ c κs. search needs) (λ c. search needs) (λ c κs. search needs) (λ c. search needs) returns)

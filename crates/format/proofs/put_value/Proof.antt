@@ -8,12 +8,6 @@ use borrow.Author.Needs.{needs}
 use Rattle.format.proofs.put_value.Statement.{statement}
 use Rattle.format.proofs.put_value.Tie as tie
 
-enum-told : tie.Need-enum-told
-enum-told c = search needs
-
-enum-known-answer : tie.Need-enum-known-answer
-enum-known-answer c = search needs
-
 put-byte-requires : tie.Need-put-byte-requires
 unfolding membersBytes valueBytes be
 put-byte-requires c κs =
@@ -21,9 +15,6 @@ put-byte-requires c κs =
     (c .before .before .before .before .before .args .buf .now) =
     rw (c .before .before .answer .given .1) at (c .before .before .before .before .before .pre) in
     omega arith
-
-enum-known-answer-2 : tie.Need-enum-known-answer-2
-enum-known-answer-2 c = search needs
 
 put-deadline-requires : tie.Need-put-deadline-requires
 unfolding membersBytes valueBytes be
@@ -33,9 +24,6 @@ put-deadline-requires c κs =
     rw (c .before .before .answer2 .given .1) at (c .before .before .before .before .before .pre) in
     omega arith
 
-enum-known-answer-3 : tie.Need-enum-known-answer-3
-enum-known-answer-3 c = search needs
-
 put-skip-requires : tie.Need-put-skip-requires
 unfolding membersBytes valueBytes be
 put-skip-requires c κs =
@@ -43,9 +31,6 @@ put-skip-requires c κs =
     (c .before .before .before .before .before .args .buf .now) =
     rw (c .before .before .answer3 .given .1) at (c .before .before .before .before .before .pre) in
     omega arith
-
-enum-known-answer-4 : tie.Need-enum-known-answer-4
-enum-known-answer-4 c = search needs
 
 put-pair-requires : tie.Need-put-pair-requires
 unfolding membersBytes valueBytes be
@@ -59,30 +44,18 @@ returns : tie.Need-returns
 unfolding valueBytes
 returns c = rw (c .enum-told .given .1)
 
-same-length : tie.Need-same-length
-same-length c = search needs
-
 returns-2 : tie.Need-returns-2
 unfolding valueBytes
 returns-2 c = rw (c .before .before .before .before .before .answer .given .1) (c .before .before .put-byte .ensures)
-
-same-length-2 : tie.Need-same-length-2
-same-length-2 c = search needs
 
 returns-3 : tie.Need-returns-3
 unfolding valueBytes
 returns-3 c =
     rw (c .before .before .before .before .before .answer2 .given .1) (c .before .before .put-deadline .ensures)
 
-same-length-3 : tie.Need-same-length-3
-same-length-3 c = search needs
-
 returns-4 : tie.Need-returns-4
 unfolding valueBytes
 returns-4 c = rw (c .before .before .before .before .before .answer3 .given .1) (c .before .before .put-skip .ensures)
-
-same-length-4 : tie.Need-same-length-4
-same-length-4 c = search needs
 
 returns-5 : tie.Need-returns-5
 unfolding valueBytes
@@ -92,21 +65,21 @@ pub put-value-spec : {M : Type 1} → statement M
 put-value-spec =
     tie.close
     (tie.spec
-    enum-told
-    enum-known-answer
+    (λ c. search needs)
+    (λ c. search needs)
     put-byte-requires
-    enum-known-answer-2
+    (λ c. search needs)
     put-deadline-requires
-    enum-known-answer-3
+    (λ c. search needs)
     put-skip-requires
-    enum-known-answer-4
+    (λ c. search needs)
     put-pair-requires
     returns
-    same-length
+    (λ c. search needs)
     returns-2
-    same-length-2
+    (λ c. search needs)
     returns-3
-    same-length-3
+    (λ c. search needs)
     returns-4
-    same-length-4
+    (λ c. search needs)
     returns-5)

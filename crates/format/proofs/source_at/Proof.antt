@@ -15,9 +15,6 @@ use Rattle.format.proofs.source_at.Tie as tie
 abbrev here : List ℕ → Call
 here l = sourceTo (beAt l 3 1) (beAt l 4 1)
 
-lengths-of-requires : tie.Need-lengths-of-requires
-lengths-of-requires c κs = search needs
-
 framed-requires : tie.Need-framed-requires
 framed-requires c κs = (c .before .before .pre, omega (arith, value-of 7 _ (c .lengths-of .ensures)))
 
@@ -43,12 +40,6 @@ byte-at-requires-2 c κs =
     (c .before .if1 .left) in
     omega arith
 
-source-refusal-requires : tie.Need-source-refusal-requires
-source-refusal-requires c κs = search needs
-
-refused-requires : tie.Need-refused-requires
-refused-requires c κs = search needs
-
 returns-2 : tie.Need-returns-2
 returns-2 c =
     let u = c .before .before in
@@ -64,9 +55,6 @@ add-if3 : tie.Need-add-if3
 add-if3 c =
     omega (arith, answer-of 7 _ (c .before .before .before .before .before .before .before .lengths-of .ensures))
 
-refused-requires-2 : tie.Need-refused-requires-2
-refused-requires-2 c κs = search needs
-
 returns-3 : tie.Need-returns-3
 returns-3 c =
     let u = c .before .before .before .before in
@@ -77,9 +65,6 @@ returns-3 c =
     (u .before .before .before .if1 .left) _
     (u .source-refusal .ensures ∙ ap₂ sourceRefusal (u .before .before .byte-at .ensures)
     (u .before .byte-at2 .ensures)) (c .before .before .before .if2 .left) (c .before .if3 .taken)
-
-accepted-requires : tie.Need-accepted-requires
-accepted-requires c κs = search needs
 
 returns-4 : tie.Need-returns-4
 returns-4 c =
@@ -97,17 +82,17 @@ pub source-at-spec : {M : Type 1} → statement M
 source-at-spec =
     tie.close
     (tie.spec
-    lengths-of-requires
+    (λ c κs. search needs)
     framed-requires
     unframed-requires
     returns
     byte-at-requires
     byte-at-requires-2
-    source-refusal-requires
-    refused-requires
+    (λ c κs. search needs)
+    (λ c κs. search needs)
     returns-2
     add-if3
-    refused-requires-2
+    (λ c κs. search needs)
     returns-3
-    accepted-requires
+    (λ c κs. search needs)
     returns-4)

@@ -5,19 +5,10 @@ use borrow.Author.Needs.{needs}
 use Rattle.format.proofs.unframed.Statement.{statement}
 use Rattle.format.proofs.unframed.Tie as tie
 
-length-wrong-requires : tie.Need-length-wrong-requires
-length-wrong-requires c κs = search needs
-
-refused-requires : tie.Need-refused-requires
-refused-requires c κs = search needs
-
 returns : tie.Need-returns
 returns c =
     unframed-length _ _ _ (sym (c .before .before .length-wrong .ensures) ∙ c .before .if1 .taken)
     (c .refused .ensures)
-
-refused-requires-2 : tie.Need-refused-requires-2
-refused-requires-2 c κs = search needs
 
 returns-2 : tie.Need-returns-2
 returns-2 c =
@@ -28,8 +19,8 @@ pub unframed-spec : {M : Type 1} → statement M
 unframed-spec =
     tie.close
     (tie.spec
-    length-wrong-requires
-    refused-requires
+    (λ c κs. search needs)
+    (λ c κs. search needs)
     returns
-    refused-requires-2
+    (λ c κs. search needs)
     returns-2)

@@ -361,12 +361,6 @@ board-set j =
 
 -- ---- the needs
 
-sound-requires : tie.Need-sound-requires Inv-loop2 μ-loop2 Inv-loop μ-loop
-sound-requires c κs = tt
-
-stopped-requires : tie.Need-stopped-requires Inv-loop2 μ-loop2 Inv-loop μ-loop
-stopped-requires c κs = tt
-
 returns : tie.Need-returns Inv-loop2 μ-loop2 Inv-loop μ-loop
 unfolding runOf over
 returns c =
@@ -394,12 +388,6 @@ sub-step-of c = omega (arith, c .before .before .loop .inv .counted, c .before .
 step-of-requires : tie.Need-step-of-requires Inv-loop2 μ-loop2 Inv-loop μ-loop
 step-of-requires c κs = good-sound (c .before .before .loop .inv .good)
 
-enum-known-step : tie.Need-enum-known-step Inv-loop2 μ-loop2 Inv-loop μ-loop
-enum-known-step c = search needs
-
-stopped-requires-2 : tie.Need-stopped-requires-2 Inv-loop2 μ-loop2 Inv-loop μ-loop
-stopped-requires-2 c κs = tt
-
 same-length : tie.Need-same-length Inv-loop2 μ-loop2 Inv-loop μ-loop
 same-length c = omega (arith, c .before .before .before .before .before .before .before .loop .inv .same)
 
@@ -414,20 +402,11 @@ returns-2 c =
     (rw (c .stopped2 .ensures)
     (ends _ _ _ _ _ _ _ _ (u .before .before .before .loop .inv) (u .before .before .loop-test .taken) _ (rest-is u) _ (r .0) (r .1)))
 
-enum-known-step-2 : tie.Need-enum-known-step-2 Inv-loop2 μ-loop2 Inv-loop μ-loop
-enum-known-step-2 c = search needs
-
-channel-index-requires : tie.Need-channel-index-requires Inv-loop2 μ-loop2 Inv-loop μ-loop
-channel-index-requires c κs = tt
-
 mul-timer : tie.Need-mul-timer Inv-loop2 μ-loop2 Inv-loop μ-loop
 mul-timer c = omega (arith, c .channel-index .ensures .1)
 
 element-copy-out-timer : tie.Need-element-copy-out-timer Inv-loop2 μ-loop2 Inv-loop μ-loop
 element-copy-out-timer c = c .channel-index .ensures .1
-
-plain-requires : tie.Need-plain-requires Inv-loop2 μ-loop2 Inv-loop μ-loop
-plain-requires c κs = tt
 
 plain-at-requires : tie.Need-plain-at-requires Inv-loop2 μ-loop2 Inv-loop μ-loop
 plain-at-requires c κs = (
@@ -454,38 +433,8 @@ add-used : tie.Need-add-used Inv-loop2 μ-loop2 Inv-loop μ-loop
 add-used c = let u = c .before .before .before .before .before .before .before in let a = accepts u _ (c .before .before .before .before .before .step2 .given .1) (omega arith) in
     omega (arith, call-inside u (a .accepted), read-length _ _ (a .makes) .0, u .before .before .before .before .before .before .before .before .good)
 
-enum-known-step-3 : tie.Need-enum-known-step-3 Inv-loop2 μ-loop2 Inv-loop μ-loop
-enum-known-step-3 c = search needs
-
-part-at-requires : tie.Need-part-at-requires Inv-loop2 μ-loop2 Inv-loop μ-loop
-part-at-requires c κs = tt
-
-enum-told : tie.Need-enum-told Inv-loop2 μ-loop2 Inv-loop μ-loop
-enum-told c = search needs
-
-enum-told-2 : tie.Need-enum-told-2 Inv-loop2 μ-loop2 Inv-loop μ-loop
-enum-told-2 c = search needs
-
-enable-after-requires : tie.Need-enable-after-requires Inv-loop2 μ-loop2 Inv-loop μ-loop
-enable-after-requires c κs = tt
-
-enum-told-3 : tie.Need-enum-told-3 Inv-loop2 μ-loop2 Inv-loop μ-loop
-enum-told-3 c = search needs
-
-acknowledged-requires : tie.Need-acknowledged-requires Inv-loop2 μ-loop2 Inv-loop μ-loop
-acknowledged-requires c κs = tt
-
-enum-told-4 : tie.Need-enum-told-4 Inv-loop2 μ-loop2 Inv-loop μ-loop
-enum-told-4 c = search needs
-
 clock-after-requires : tie.Need-clock-after-requires Inv-loop2 μ-loop2 Inv-loop μ-loop
 clock-after-requires c κs = sound-times _ (c .before .before .before .before .before .before .before .before .before .before .loop .inv .good .fits .clock) (good-sound (c .before .before .before .before .before .before .before .before .before .before .loop .inv .good))
-
-enum-told-5 : tie.Need-enum-told-5 Inv-loop2 μ-loop2 Inv-loop μ-loop
-enum-told-5 c = search needs
-
-channel-index-requires-2 : tie.Need-channel-index-requires-2 Inv-loop2 μ-loop2 Inv-loop μ-loop
-channel-index-requires-2 c κs = tt
 
 mul-timer-after : tie.Need-mul-timer-after Inv-loop2 μ-loop2 Inv-loop μ-loop
 mul-timer-after c = omega (arith, c .channel-index2 .ensures .1)
@@ -513,9 +462,6 @@ add-used-2 : tie.Need-add-used-2 Inv-loop2 μ-loop2 Inv-loop μ-loop
 add-used-2 c = let u = c .before .before .before .before .before .before .before .before .before in let a = accepts u _ (c .before .before .before .before .before .before .before .step3 .given .1) (omega arith) in
     omega (arith, call-inside u (a .accepted), write-length _ _ _ (a .makes) .0, u .before .before .before .before .before .before .before .before .good)
 
-enum-known-step-4 : tie.Need-enum-known-step-4 Inv-loop2 μ-loop2 Inv-loop μ-loop
-enum-known-step-4 c = search needs
-
 put-begun-requires : tie.Need-put-begun-requires Inv-loop2 μ-loop2 Inv-loop μ-loop
 put-begun-requires c κs = let u = c .before .before .before .before in let a = accepts u _ (c .before .before .step4 .given .1) (omega arith) in
     pass-room _ _ _ _ (a .makes) _ _ (answer-inside u (a .accepted))
@@ -534,12 +480,6 @@ element-copy-out-timer-2 c = c .loop2-test .taken
 
 cast-t84 : tie.Need-cast-t84 Inv-loop2 μ-loop2 Inv-loop μ-loop
 cast-t84 c = omega (arith, c .before .loop2-test .taken)
-
-selected-requires : tie.Need-selected-requires Inv-loop2 μ-loop2 Inv-loop μ-loop
-selected-requires c κs = tt
-
-runs-requires : tie.Need-runs-requires Inv-loop2 μ-loop2 Inv-loop μ-loop
-runs-requires c κs = tt
 
 advance-cycles-requires : tie.Need-advance-cycles-requires Inv-loop2 μ-loop2 Inv-loop μ-loop
 advance-cycles-requires c κs = next-phase _ _ _ _ _ (c .before .before .before .before .before .loop2 .inv .0) (c .before .before .before .before .loop2-test .taken)
@@ -587,12 +527,6 @@ advance-requires : tie.Need-advance-requires Inv-loop2 μ-loop2 Inv-loop μ-loop
 advance-requires c κs = let g = c .before .before .before .before .before .before .before .before .before .before .before .before .before .loop .inv .good in
     still-timed _ _ _ _ _ (c .before .before .loop2 .inv .0) (sound-times _ (g .fits .clock) (good-sound g))
 
-line-requires : tie.Need-line-requires Inv-loop2 μ-loop2 Inv-loop μ-loop
-line-requires c κs = tt
-
-controller-wired-requires : tie.Need-controller-wired-requires Inv-loop2 μ-loop2 Inv-loop μ-loop
-controller-wired-requires c κs = tt
-
 put-passed-requires : tie.Need-put-passed-requires Inv-loop2 μ-loop2 Inv-loop μ-loop
 put-passed-requires c κs = let u = c .before .before .before .before .before .before .before .before .before .before .before .before .before .before in let a = accepts u _ (c .before .before .before .before .before .before .before .before .before .before .before .before .step4 .given .1) (omega arith) in
     let l = c .before .before .before .before .before .before .loop2 in
@@ -600,16 +534,10 @@ put-passed-requires c κs = let u = c .before .before .before .before .before .b
     let m = counts-same _ _ _ _ _ _ _ (l .inv .0) _ _ (l .inv .1) in
     omega (arith, room .1, m)
 
-pass-length-requires : tie.Need-pass-length-requires Inv-loop2 μ-loop2 Inv-loop μ-loop
-pass-length-requires c κs = tt
-
 add-used-3 : tie.Need-add-used-3 Inv-loop2 μ-loop2 Inv-loop μ-loop
 add-used-3 c = let u = c .before .before .before .before .before .before .before .before .before .before .before .before .before .before .before .before .before .before in let a = accepts u _ (c .before .before .before .before .before .before .before .before .before .before .before .before .before .before .before .before .step4 .given .1) (omega arith) in
     let n = pass-length _ _ _ _ (a .makes) .0 in
     omega (arith, call-inside u (a .accepted), n, c .pass-length .ensures, u .before .before .before .before .before .before .before .before .good)
-
-pass-record-requires : tie.Need-pass-record-requires Inv-loop2 μ-loop2 Inv-loop μ-loop
-pass-record-requires c κs = tt
 
 changes-of-requires : tie.Need-changes-of-requires Inv-loop2 μ-loop2 Inv-loop μ-loop
 changes-of-requires c κs = board-sound (c .before)
@@ -621,24 +549,12 @@ put-other-requires c κs =
     let d = other-is u k (c .before .before .before .before .changes-of .result) (c .before .before .before .before .changes-of .ensures) in
     omega (arith, answer-inside u (other-accepts u k .accepted), d .put, d .bytes)
 
-call-length-requires : tie.Need-call-length-requires Inv-loop2 μ-loop2 Inv-loop μ-loop
-call-length-requires c κs = tt
-
 add-used-4 : tie.Need-add-used-4 Inv-loop2 μ-loop2 Inv-loop μ-loop
 add-used-4 c =
     let u = c .before .before .before .before .before .before .before .before .before .before in
     let k = other-kind (u .step-of .result) (c .before .before .before .before .before .before .before .before .before .match .keys5) in
     let d = other-is u k (c .before .before .before .before .before .before .before .before .changes-of .result) (c .before .before .before .before .before .before .before .before .changes-of .ensures) in
     omega (arith, call-inside u (other-accepts u k .accepted), d .called, c .call-length .ensures, u .before .before .before .before .before .before .before .before .good)
-
-record-length-requires : tie.Need-record-length-requires Inv-loop2 μ-loop2 Inv-loop μ-loop
-record-length-requires c κs = tt
-
-line-requires-2 : tie.Need-line-requires-2 Inv-loop2 μ-loop2 Inv-loop μ-loop
-line-requires-2 c κs = tt
-
-controller-wired-requires-2 : tie.Need-controller-wired-requires-2 Inv-loop2 μ-loop2 Inv-loop μ-loop
-controller-wired-requires-2 c κs = tt
 
 add-calls : tie.Need-add-calls Inv-loop2 μ-loop2 Inv-loop μ-loop
 add-calls c = let u = c .before .before in
@@ -664,9 +580,6 @@ loop-again c =
     (met-accepted m) (rest-bytes (listOf u) (restOf u) (usedOf u) (rest-is u) (λ i. omega (arith, u .before .before .before .before .before .before .before .shared-slice-known .given i))) _ (board-set (c .before)) _
     (k .carried .put) _ _ (k .used) (k .size)
 
-stopped-requires-3 : tie.Need-stopped-requires-3 Inv-loop2 μ-loop2 Inv-loop μ-loop
-stopped-requires-3 c κs = tt
-
 same-length-2 : tie.Need-same-length-2 Inv-loop2 μ-loop2 Inv-loop μ-loop
 same-length-2 c = omega (arith, c .before .before .loop .inv .same)
 
@@ -685,8 +598,8 @@ run-spec =
     μ-loop2
     Inv-loop
     μ-loop
-    sound-requires
-    stopped-requires
+    (λ c κs. tt)
+    (λ c κs. tt)
     returns
     loop-holds
     sub-rest
@@ -694,31 +607,31 @@ run-spec =
     part-rest-end
     sub-step-of
     step-of-requires
-    enum-known-step
-    stopped-requires-2
+    (λ c. search needs)
+    (λ c κs. tt)
     same-length
     returns-2
-    enum-known-step-2
-    channel-index-requires
+    (λ c. search needs)
+    (λ c κs. tt)
     mul-timer
     element-copy-out-timer
-    plain-requires
+    (λ c κs. tt)
     plain-at-requires
     put-byte-requires
     reading-at-requires
     put-byte-requires-2
     add-used
-    enum-known-step-3
-    part-at-requires
-    enum-told
-    enum-told-2
-    enable-after-requires
-    enum-told-3
-    acknowledged-requires
-    enum-told-4
+    (λ c. search needs)
+    (λ c κs. tt)
+    (λ c. search needs)
+    (λ c. search needs)
+    (λ c κs. tt)
+    (λ c. search needs)
+    (λ c κs. tt)
+    (λ c. search needs)
     clock-after-requires
-    enum-told-5
-    channel-index-requires-2
+    (λ c. search needs)
+    (λ c κs. tt)
     mul-timer-after
     element-copy-out-timer-after
     timer-after-requires
@@ -727,14 +640,14 @@ run-spec =
     at-control-requires
     put-header-requires
     add-used-2
-    enum-known-step-4
+    (λ c. search needs)
     put-begun-requires
     loop2-holds
     mul-timer-2
     element-copy-out-timer-2
     cast-t84
-    selected-requires
-    runs-requires
+    (λ c κs. tt)
+    (λ c κs. tt)
     advance-cycles-requires
     mul-timer-after-2
     element-set-from-timer-after
@@ -743,23 +656,23 @@ run-spec =
     loop2-less
     loop2-again
     advance-requires
-    line-requires
-    controller-wired-requires
+    (λ c κs. tt)
+    (λ c κs. tt)
     put-passed-requires
-    pass-length-requires
+    (λ c κs. tt)
     add-used-3
-    pass-record-requires
+    (λ c κs. tt)
     changes-of-requires
     put-other-requires
-    call-length-requires
+    (λ c κs. tt)
     add-used-4
-    record-length-requires
-    line-requires-2
-    controller-wired-requires-2
+    (λ c κs. tt)
+    (λ c κs. tt)
+    (λ c κs. tt)
     add-calls
     add-written
     loop-less
     loop-again
-    stopped-requires-3
+    (λ c κs. tt)
     same-length-2
     returns-3)

@@ -7,26 +7,8 @@ use borrow.Author.Needs.{needs}
 use Rattle.resume.proofs.run.Statement.{statement}
 use Rattle.resume.proofs.run.Tie as tie
 
-read-requires : tie.Need-read-requires
-read-requires c κs = search needs
-
-same-length : tie.Need-same-length
-same-length c = search needs
-
 returns : tie.Need-returns
 returns c = resumed-refused _ _ _ _ (c .before .before .read .ensures) (c .if1 .taken)
-
-run-requires : tie.Need-run-requires
-run-requires c κs = search needs
-
-write-in-requires : tie.Need-write-in-requires
-write-in-requires c κs = search needs
-
-same-length-2 : tie.Need-same-length-2
-same-length-2 c = search needs
-
-same-length-3 : tie.Need-same-length-3
-same-length-3 c = search needs
 
 returns-2 : tie.Need-returns-2
 returns-2 c =
@@ -47,11 +29,11 @@ pub run-spec : {M : Type 1} → statement M
 run-spec =
     tie.close
     (tie.spec
-    read-requires
-    same-length
+    (λ c κs. search needs)
+    (λ c. search needs)
     returns
-    run-requires
-    write-in-requires
-    same-length-2
-    same-length-3
+    (λ c κs. search needs)
+    (λ c κs. search needs)
+    (λ c. search needs)
+    (λ c. search needs)
     returns-2)

@@ -12,51 +12,6 @@ use borrow.Author.Needs.{needs}
 use Rattle.list.proofs.parts.changes_of.Statement.{statement}
 use Rattle.list.proofs.parts.changes_of.Tie as tie
 
-enum-known-step : tie.Need-enum-known-step
-enum-known-step c = search needs
-
-enum-known-step-2 : tie.Need-enum-known-step-2
-enum-known-step-2 c = search needs
-
-with-source-requires : tie.Need-with-source-requires
-with-source-requires c κs = search needs
-
-enum-known-step-3 : tie.Need-enum-known-step-3
-enum-known-step-3 c = search needs
-
-read-of-requires : tie.Need-read-of-requires
-read-of-requires c κs = search needs
-
-enum-known-step-4 : tie.Need-enum-known-step-4
-enum-known-step-4 c = search needs
-
-written-requires : tie.Need-written-requires
-written-requires c κs = search needs
-
-enum-told : tie.Need-enum-told
-enum-told c = search needs
-
-output-of-requires : tie.Need-output-of-requires
-output-of-requires c κs = search needs
-
-flag-requires : tie.Need-flag-requires
-flag-requires c κs = search needs
-
-enum-told-2 : tie.Need-enum-told-2
-enum-told-2 c = search needs
-
-deadline-members-requires : tie.Need-deadline-members-requires
-deadline-members-requires c κs = search needs
-
-flag-requires-2 : tie.Need-flag-requires-2
-flag-requires-2 c κs = search needs
-
-level-of-requires : tie.Need-level-of-requires
-level-of-requires c κs = search needs
-
-flag-requires-3 : tie.Need-flag-requires-3
-flag-requires-3 c κs = search needs
-
 returns : tie.Need-returns
 returns c = host-changes _ _ _ _ (c .before .step .given .1)
 
@@ -89,21 +44,21 @@ pub changes-of-spec : {M : Type 1} → statement M
 changes-of-spec =
     tie.close
     (tie.spec
-    enum-known-step
-    enum-known-step-2
-    with-source-requires
-    enum-known-step-3
-    read-of-requires
-    enum-known-step-4
-    written-requires
-    enum-told
-    output-of-requires
-    flag-requires
-    enum-told-2
-    deadline-members-requires
-    flag-requires-2
-    level-of-requires
-    flag-requires-3
+    (λ c. search needs)
+    (λ c. search needs)
+    (λ c κs. search needs)
+    (λ c. search needs)
+    (λ c κs. search needs)
+    (λ c. search needs)
+    (λ c κs. search needs)
+    (λ c. search needs)
+    (λ c κs. search needs)
+    (λ c κs. search needs)
+    (λ c. search needs)
+    (λ c κs. search needs)
+    (λ c κs. search needs)
+    (λ c κs. search needs)
+    (λ c κs. search needs)
     returns
     returns-2
     returns-3

@@ -4,14 +4,8 @@ use borrow.Author.Needs.{needs}
 use Rattle.list.proofs.parts.first_refusal.Statement.{statement}
 use Rattle.list.proofs.parts.first_refusal.Tie as tie
 
-enum-told : tie.Need-enum-told
-enum-told c = search needs
-
 returns : tie.Need-returns
 returns c = first-other (c .before .args .front .call) (c .before .args .board) _ (c .match .keys2)
-
-skip-length-requires : tie.Need-skip-length-requires
-skip-length-requires c κs = search needs
 
 returns-2 : tie.Need-returns-2
 returns-2 c =
@@ -27,4 +21,4 @@ returns-3 c =
 
 pub first-refusal-spec : {M : Type 1} → statement M
 first-refusal-spec =
-    tie.close (tie.spec enum-told returns skip-length-requires returns-2 returns-3)
+    tie.close (tie.spec (λ c. search needs) returns (λ c κs. search needs) returns-2 returns-3)

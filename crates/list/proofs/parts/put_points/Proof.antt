@@ -10,9 +10,6 @@ add-put-count c =
     let s = c .before .before .before in
     omega (arith, s .pre .1 (c .before .if1 .taken) .0, s .good)
 
-mul-put-count : tie.Need-mul-put-count
-mul-put-count c = search needs
-
 add-put-count-2 : tie.Need-add-put-count-2
 add-put-count-2 c =
     let s = c .before .before .before in
@@ -23,9 +20,6 @@ put-count-requires c κs =
     let s = c .before .before .before in
     let r = s .pre .1 (c .before .if1 .taken) in
     (omega (arith, s .pre .0, r .0), r .1)
-
-same-length : tie.Need-same-length
-same-length c = search needs
 
 returns : tie.Need-returns
 unfolding countPut
@@ -40,9 +34,9 @@ put-points-spec =
     tie.close
     (tie.spec
     add-put-count
-    mul-put-count
+    (λ c. search needs)
     add-put-count-2
     put-count-requires
-    same-length
+    (λ c. search needs)
     returns
     returns-2)

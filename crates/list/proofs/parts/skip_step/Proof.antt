@@ -4,9 +4,6 @@ use borrow.Author.Needs.{needs}
 use Rattle.list.proofs.parts.skip_step.Statement.{statement}
 use Rattle.list.proofs.parts.skip_step.Tie as tie
 
-skip-length-requires : tie.Need-skip-length-requires
-skip-length-requires c κs = search needs
-
 returns : tie.Need-returns
 returns c =
     let s = c .before .before in
@@ -24,4 +21,4 @@ returns-3 c =
     skip-stays (s .before .args .board) _ (s .skip-length .ensures) (c .before .if1 .left) (c .if2 .left)
 
 pub skip-step-spec : {M : Type 1} → statement M
-skip-step-spec = tie.close (tie.spec skip-length-requires returns returns-2 returns-3)
+skip-step-spec = tie.close (tie.spec (λ c κs. search needs) returns returns-2 returns-3)

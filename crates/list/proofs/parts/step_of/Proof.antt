@@ -6,61 +6,10 @@ use borrow.Author.Needs.{needs}
 use Rattle.list.proofs.parts.step_of.Statement.{statement}
 use Rattle.list.proofs.parts.step_of.Tie as tie
 
-decode-requires : tie.Need-decode-requires
-decode-requires c κs = search needs
-
-first-refusal-requires : tie.Need-first-refusal-requires
-first-refusal-requires c κs = search needs
-
 returns : tie.Need-returns
 returns c =
     step-refused _ _ _ _ (c .before .before .before .decode .ensures) _ (c .first-refusal .ensures)
     (c .before .if1 .taken)
-
-enum-known-call : tie.Need-enum-known-call
-enum-known-call c = search needs
-
-enum-known-call-2 : tie.Need-enum-known-call-2
-enum-known-call-2 c = search needs
-
-cast-t20 : tie.Need-cast-t20
-cast-t20 c = search needs
-
-add-t21 : tie.Need-add-t21
-add-t21 c = search needs
-
-enum-known-call-3 : tie.Need-enum-known-call-3
-enum-known-call-3 c = search needs
-
-cast-t22 : tie.Need-cast-t22
-cast-t22 c = search needs
-
-add-t23 : tie.Need-add-t23
-add-t23 c = search needs
-
-enum-known-call-4 : tie.Need-enum-known-call-4
-enum-known-call-4 c = search needs
-
-enum-told : tie.Need-enum-told
-enum-told c = search needs
-
-enum-told-2 : tie.Need-enum-told-2
-enum-told-2 c = search needs
-
-skip-step-requires : tie.Need-skip-step-requires
-skip-step-requires c κs = search needs
-
-enum-known-call-5 : tie.Need-enum-known-call-5
-enum-known-call-5 c = search needs
-
-enum-known-call-6 : tie.Need-enum-known-call-6
-enum-known-call-6 c = search needs
-
-enum-known-call-7 : tie.Need-enum-known-call-7
-enum-known-call-7 c = search needs
-
-enum-told-3 : tie.Need-enum-told-3
-enum-told-3 c = search needs
 
 returns-2 : tie.Need-returns-2
 returns-2 c =
@@ -126,24 +75,24 @@ pub step-of-spec : {M : Type 1} → statement M
 step-of-spec =
     tie.close
     (tie.spec
-    decode-requires
-    first-refusal-requires
+    (λ c κs. search needs)
+    (λ c κs. search needs)
     returns
-    enum-known-call
-    enum-known-call-2
-    cast-t20
-    add-t21
-    enum-known-call-3
-    cast-t22
-    add-t23
-    enum-known-call-4
-    enum-told
-    enum-told-2
-    skip-step-requires
-    enum-known-call-5
-    enum-known-call-6
-    enum-known-call-7
-    enum-told-3
+    (λ c. search needs)
+    (λ c. search needs)
+    (λ c. search needs)
+    (λ c. search needs)
+    (λ c. search needs)
+    (λ c. search needs)
+    (λ c. search needs)
+    (λ c. search needs)
+    (λ c. search needs)
+    (λ c. search needs)
+    (λ c κs. search needs)
+    (λ c. search needs)
+    (λ c. search needs)
+    (λ c. search needs)
+    (λ c. search needs)
     returns-2
     returns-3
     returns-4
