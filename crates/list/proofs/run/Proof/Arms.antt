@@ -1,0 +1,312 @@
+-- The run's calls where its code has them: where the step of the call at the front is known (`At`), where the arms of the
+-- match meet (`Met`), and where source 3 is set (`Set`). The laws of the calls are those of Calls. Assumes nothing.
+use mathlib.Core.Path.{_≡_, refl, sym, ap, _∙_}
+use mathlib.Core.Bool.{true}
+use mathlib.Core.Logic.{inl, inr}
+use mathlib.Core.List.{List}
+use Prim.Native.Nat.{ℕ, _+_, _-_, _≤_}
+use native.Mathlib.Omega.{arith}
+use lib.ListN.{length, take, drop}
+use Rattle.board.specs.declared.Board.{Board}
+use Rattle.board.specs.Board.{sound}
+use Rattle.board.specs.Calls.{boardAfter}
+use Rattle.board.specs.Fields.{withTimers, withTimerEnable, withClock, withChannel}
+use Rattle.board.proofs.Good.{good-sound}
+use Rattle.registers.specs.declared.writes.WritePart.{WritePart}
+use Rattle.registers.specs.declared.writes.WritePart.the-variants.{Nothing, Enable, Acknowledge, Clock as OfClock, Channel}
+use Rattle.board.specs.declared.calls.Call.{Call}
+use Rattle.format.specs.Format.{valueBytes}
+use Rattle.format.specs.Codec.{callAt, callLength, recordLength, refusalAt}
+use Rattle.format.proofs.Frames.{part-rest}
+use Rattle.format.proofs.Decoding.{clear}
+use Rattle.list.specs.declared.parts.Step.{Step}
+use Rattle.list.specs.declared.parts.Changes.{Changes}
+use Rattle.list.specs.CodeParts.{Accepts, Changed, otherCall}
+use Rattle.list.proofs.Advances.{Advancing, all-advanced, Counted, counts-end}
+use Rattle.list.proofs.Runs.{Running, stateOf, used-inside, written-inside}
+use Rattle.list.proofs.Calls.{kindOf, step-accepts, other-kind, plain-carried, read-carried, channel-written, write-carried, pass-carried, other-changes, other-size, other-carried, read-length, write-length, pass-length, Served, set-after}
+use Rattle.list.proofs.run.Tie as tie
+use Rattle.list.proofs.run.Reads as reads
+use Rattle.list.proofs.run.Lts as lts
+use Rattle.board.proofs.Board.controller_wired.Reads as controller-wired-reads
+use Rattle.board.proofs.Board.line.Reads as line-reads
+use Rattle.board.proofs.Board.sound.Reads as sound-reads
+use Rattle.channel.proofs.ChannelNumber.selected.Reads as selected-reads
+use Rattle.channel.proofs.HardwareTimer.advance_cycles.Reads as advance-cycles-reads
+use Rattle.channel.proofs.HardwareTimer.runs.Reads as runs-reads
+use Rattle.clock.proofs.Clock.advance.Reads as advance-reads
+use Rattle.format.proofs.put_header.Reads as put-header-reads
+use Rattle.list.proofs.parts.call_length.Reads as call-length-reads
+use Rattle.list.proofs.parts.changes_of.Reads as changes-of-reads
+use Rattle.list.proofs.parts.pass_length.Reads as pass-length-reads
+use Rattle.list.proofs.parts.pass_record.Reads as pass-record-reads
+use Rattle.list.proofs.parts.put_begun.Reads as put-begun-reads
+use Rattle.list.proofs.parts.put_byte.Reads as put-byte-reads
+use Rattle.list.proofs.parts.put_other.Reads as put-other-reads
+use Rattle.list.proofs.parts.put_passed.Reads as put-passed-reads
+use Rattle.list.proofs.parts.put_points.Reads as put-points-reads
+use Rattle.list.proofs.parts.record_length.Reads as record-length-reads
+use Rattle.list.proofs.parts.step_of.Reads as step-of-reads
+use Rattle.list.proofs.stopped.Reads as stopped-reads
+use Rattle.registers.proofs.reads.channel_index.Reads as channel-index-reads
+use Rattle.registers.proofs.reads.plain.Reads as plain-reads
+use Rattle.registers.proofs.reads.plain_at.Reads as plain-at-reads
+use Rattle.registers.proofs.reads.reading_at.Reads as reading-at-reads
+use Rattle.registers.proofs.writes.at_control.Reads as at-control-reads
+use Rattle.registers.proofs.writes.clock_after.Reads as clock-after-reads
+use Rattle.registers.proofs.writes.enable_after.Reads as enable-after-reads
+use Rattle.registers.proofs.writes.part_at.Reads as part-at-reads
+use Rattle.registers.proofs.writes.timer_after.Reads as timer-after-reads
+use Rattle.regmap.proofs.writes.acknowledged.Reads as acknowledged-reads
+
+abbrev pub Inv-loop2 : tie.InvT-loop2
+Inv-loop2 list answers₀ b₀ calls used written size moved counted cycles enable i₀ answers b i =
+    Advancing enable cycles i b₀ b × Counted enable cycles i counted written b₀ answers₀ answers
+
+abbrev pub μ-loop2 : tie.MeasureT-loop2
+μ-loop2 list answers₀ b₀ calls used written size moved counted cycles enable i₀ answers b i = 4 - i
+
+abbrev pub Inv-loop : tie.InvT-loop
+Inv-loop list answers₀ b₀ calls₀ used₀ written₀ answers b calls used written =
+    Running list answers₀ (stateOf b₀ calls₀ used₀ written₀) answers (stateOf b calls used written)
+
+abbrev pub μ-loop : tie.MeasureT-loop
+μ-loop list answers₀ b₀ calls₀ used₀ written₀ answers b calls used written = length list - used
+
+-- what is promised of the functions that are called
+abbrev pub claims : lts.Claims
+claims = (
+  sound-reads.Asked,
+  sound-reads.Learnt,
+  stopped-reads.Asked,
+  stopped-reads.Learnt,
+  step-of-reads.Asked,
+  step-of-reads.Learnt,
+  channel-index-reads.Asked,
+  channel-index-reads.Learnt,
+  plain-reads.Asked,
+  plain-reads.Learnt,
+  plain-at-reads.Asked,
+  plain-at-reads.Learnt,
+  put-byte-reads.Asked,
+  put-byte-reads.Learnt,
+  reading-at-reads.Asked,
+  reading-at-reads.Learnt,
+  part-at-reads.Asked,
+  part-at-reads.Learnt,
+  enable-after-reads.Asked,
+  enable-after-reads.Learnt,
+  acknowledged-reads.Asked,
+  acknowledged-reads.Learnt,
+  clock-after-reads.Asked,
+  clock-after-reads.Learnt,
+  timer-after-reads.Asked,
+  timer-after-reads.Learnt,
+  at-control-reads.Asked,
+  at-control-reads.Learnt,
+  put-header-reads.Asked,
+  put-header-reads.Learnt,
+  put-begun-reads.Asked,
+  put-begun-reads.Learnt,
+  selected-reads.Asked,
+  selected-reads.Learnt,
+  runs-reads.Asked,
+  runs-reads.Learnt,
+  advance-cycles-reads.Asked,
+  advance-cycles-reads.Learnt,
+  put-points-reads.Asked,
+  put-points-reads.Learnt,
+  advance-reads.Asked,
+  advance-reads.Learnt,
+  line-reads.Asked,
+  line-reads.Learnt,
+  controller-wired-reads.Asked,
+  controller-wired-reads.Learnt,
+  put-passed-reads.Asked,
+  put-passed-reads.Learnt,
+  pass-length-reads.Asked,
+  pass-length-reads.Learnt,
+  pass-record-reads.Asked,
+  pass-record-reads.Learnt,
+  changes-of-reads.Asked,
+  changes-of-reads.Learnt,
+  put-other-reads.Asked,
+  put-other-reads.Learnt,
+  call-length-reads.Asked,
+  call-length-reads.Learnt,
+  record-length-reads.Asked,
+  record-length-reads.Learnt,
+)
+
+-- ---- where the step is known
+
+abbrev pub At : Type 0
+At = lts.After-step-of claims reads.Pre reads.Post Inv-loop2 μ-loop2 Inv-loop μ-loop
+
+abbrev pub listOf : At → List ℕ
+listOf u = u .before .before .before .before .before .before .before .before .args .list .now
+
+abbrev pub usedOf : At → ℕ
+usedOf u = u .before .before .before .loop .used
+
+abbrev pub boardOf : At → Board
+boardOf u = u .before .before .before .loop .b
+
+abbrev pub answersOf : At → List ℕ
+answersOf u = u .before .before .before .loop .answers
+
+abbrev pub writtenOf : At → ℕ
+writtenOf u = u .before .before .before .loop .written
+
+abbrev pub restOf : At → List ℕ
+restOf u = take (length (listOf u) - usedOf u) (drop (usedOf u) (listOf u))
+
+abbrev pub roomOf : At → ℕ
+roomOf u = length (answersOf u) - writtenOf u
+
+pub rest-is : (u : At) → restOf u ≡ drop (usedOf u) (listOf u)
+rest-is u = part-rest (listOf u) (usedOf u)
+
+pub board-sound : (u : At) → sound (boardOf u) ≡ true
+board-sound u = good-sound (u .before .before .before .loop .inv .good)
+
+-- the call is accepted
+pub accepts : (u : At) (s : Step) → u .step-of .result ≡ s → 1 ≤ kindOf s → Accepts (boardOf u) (restOf u) (roomOf u) s
+accepts u s e k = step-accepts (boardOf u) (restOf u) (roomOf u) (u .step-of .result) s e k (u .step-of .ensures)
+
+module _ (u : At) (z : refusalAt (boardOf u) (restOf u) (roomOf u) ≡ 0) where
+  -- it is inside the list, and its answer inside the buffer
+  pub call-inside : usedOf u + callLength (callAt (restOf u)) ≤ length (listOf u)
+  call-inside =
+      used-inside _ _ _ _ _ _ _ _ (u .before .before .before .loop .inv) (u .before .before .loop-test .taken) _
+      (rest-is u) z
+
+  pub answer-inside : writtenOf u + recordLength (callAt (restOf u)) ≤ length (answersOf u)
+  answer-inside =
+      written-inside _ _ _ _ _ _ _ _ (u .before .before .before .loop .inv) (u .before .before .loop-test .taken) _
+      (rest-is u) z
+
+-- one of the calls without an arm of their own
+pub other-accepts : (u : At) → 4 ≤ kindOf (u .step-of .result) →
+    Accepts (boardOf u) (restOf u) (roomOf u) (u .step-of .result)
+other-accepts u k = accepts u (u .step-of .result) refl (omega (arith, k))
+
+-- its numbers
+pub record OtherIs (u : At) (c : Changes) : Type 0 where
+  pub called : callLength (callAt (restOf u)) ≡ callLength (otherCall (u .step-of .result))
+  pub put : recordLength (callAt (restOf u)) ≡ recordLength (otherCall (u .step-of .result))
+  pub bytes : 3 + length (valueBytes (c .answer)) ≡ recordLength (otherCall (u .step-of .result))
+
+pub other-is : (u : At) → 4 ≤ kindOf (u .step-of .result) → (c : Changes) → Changed (u .step-of .result) (boardOf u) c →
+    OtherIs u c
+other-is u k c h =
+    let d = other-changes (boardOf u) (board-sound u) (writtenOf u) (answersOf u) (callAt (restOf u))
+    (u .step-of .result) k (other-accepts u k .makes) c h in
+    record {
+      called = ap (λ (x : Call). callLength x) (d .0);
+      put = ap (λ (x : Call). recordLength x) (d .0);
+      bytes = other-size (boardOf u) (board-sound u) (writtenOf u) (answersOf u) (otherCall (u .step-of .result)) _ _
+          (d .1 .1);
+    }
+
+-- ---- where the arms of the match meet
+
+abbrev pub Met : Type 0
+Met = lts.At-match-came claims reads.Pre reads.Post Inv-loop2 μ-loop2 Inv-loop μ-loop
+
+-- the call is accepted
+pub met-accepted : (c : Met) → refusalAt (boardOf (c .before)) (restOf (c .before)) (roomOf (c .before)) ≡ 0
+met-accepted c = elim (c .match .came) [
+  | inl w ↦ accepts (c .before) _ (w .1 .given .1) (omega arith) .accepted
+  | inr (inl w) ↦ accepts (c .before) _ (w .1 .given .1) (omega arith) .accepted
+  | inr (inr (inl w)) ↦ accepts (c .before) _ (w .1 .given .1) (omega arith) .accepted
+  | inr (inr (inr w)) ↦ other-accepts (c .before) (other-kind (c .before .step-of .result) (w .0 .keys5)) .accepted
+]
+
+-- the board, the buffer and the numbers are those of the call
+pub served : (c : Met) →
+    Served (callAt (restOf (c .before))) (boardOf (c .before)) (usedOf (c .before)) (writtenOf (c .before))
+    (answersOf (c .before)) (c .match .b) (c .match .moved) (c .match .used) (c .match .size) (c .match .answers)
+served c =
+    let u = c .before in
+    let b = boardOf u in
+    let s = board-sound u in
+    let at = writtenOf u in
+    let buf = answersOf u in
+    let call = callAt (restOf u) in
+    elim (c .match .came) [
+      | inl w ↦
+          let a = accepts u _ (w .1 .given .1) (omega arith) .makes in
+          let n = read-length _ _ a in
+          record {
+            carried = elim (w .6 .came) [
+              | inl v ↦ plain-carried b s at buf call _ a _ _ _ (sym (w .5 .ensures) ∙ v .0 .taken) _ (v .1 .ensures)
+                  (w .8 ∙ v .9) (w .11 ∙ v .10) (w .7 ∙ v .8 ∙ v .5 .ensures)
+              | inr v ↦ read-carried b s at buf call _ a _ _ _ _ (v .1 .ensures) (w .8 ∙ v .10) (w .11 ∙ v .11)
+                  (w .7 ∙ v .9 ∙ v .6 .ensures)
+            ];
+            used = w .9 ∙ ap (λ (k : ℕ). usedOf u + k) (sym (n .0));
+            size = w .10 ∙ sym (n .1);
+          }
+      | inr (inl w) ↦
+          let a = accepts u _ (w .1 .given .1) (omega arith) .makes in
+          let n = write-length _ _ _ a in
+          let part : (x : WritePart) → w .3 .result ≡ x → x ≡ _ = λ x e. sym e ∙ w .3 .ensures in
+          let put = w .9 ∙ w .6 .ensures in
+          record {
+            carried = elim (w .4 .came) [
+              | inl v ↦ write-carried b s at buf call _ _ a Nothing (part _ (v .1 .given .1)) _ (w .10 ∙ v .2) _
+                  (w .13 ∙ v .3) _ put
+              | inr (inl v) ↦ write-carried b s at buf call _ _ a Enable (part _ (v .1 .given .1)) _
+                  (w .10 ∙ v .3 ∙ ap (λ (x : ℕ). withTimerEnable x b) (v .2 .ensures)) _ (w .13 ∙ v .4) _ put
+              | inr (inr (inl v)) ↦ write-carried b s at buf call _ _ a Acknowledge (part _ (v .1 .given .1)) _
+                  (w .10 ∙ v .4 ∙ ap (λ ts. withTimers ts b) (v .3 .ensures)) _ (w .13 ∙ v .5) _ put
+              | inr (inr (inr (inl v))) ↦ write-carried b s at buf call _ _ a OfClock (part _ (v .1 .given .1)) _
+                  (w .10 ∙ v .4 ∙ ap (λ x. withClock x b) (v .3 .ensures)) _ (w .13 ∙ v .5) _ put
+              | inr (inr (inr (inr v))) ↦ write-carried b s at buf call _ _ a Channel (part _ (v .1 .given .1)) _
+                  (w .10 ∙ v .6 ∙ ap (λ x. withChannel (v .2 .result) x b) (v .4 .ensures)
+                  ∙ channel-written b s at buf _ _ (v .2 .result) (v .2 .ensures .0)) _ (w .13 ∙ v .7 ∙ v .5 .ensures) _
+                  put
+            ];
+            used = w .11 ∙ ap (λ (k : ℕ). usedOf u + k) (sym (n .0));
+            size = w .12 ∙ sym (n .1);
+          }
+      | inr (inr (inl w)) ↦
+          let a = accepts u _ (w .1 .given .1) (omega arith) .makes in
+          let n = pass-length _ _ _ _ a in
+          let i = w .7 .inv in
+          record {
+            carried =
+                pass-carried b s at buf _ _
+                (all-advanced _ _ _ _ _ (i .0) (w .8 .left) refl (w .10 .result) (w .10 .ensures)) _ (w .11 .ensures) _
+                (w .12 .ensures) _ (w .20) call _ a (u .before .before .before .loop .inv .good .fits .four) _ (w .23)
+                _ _ _ (w .4 .ensures) (counts-end _ _ _ _ _ _ _ (i .0) _ _ (i .1) (w .8 .left))
+                (w .19 ∙ w .14 .ensures);
+            used = w .21 ∙ ap (λ (k : ℕ). usedOf u + k) (w .17 .ensures ∙ sym (n .0));
+            size = w .22 ∙ w .18 .ensures ∙ sym (n .1);
+          }
+      | inr (inr (inr w)) ↦
+          let k = other-kind (u .step-of .result) (w .0 .keys5) in
+          let a = other-accepts u k in
+          let d = other-is u k (w .1 .result) (w .1 .ensures) in
+          record {
+            carried =
+                other-carried b s at buf call (clear b (restOf u) (roomOf u) (a .accepted) .own) (u .step-of .result) k
+                (a .makes) (w .1 .result) (w .1 .ensures) _ (w .12) _ (w .15) _ (w .11 ∙ w .6 .ensures);
+            used = w .13 ∙ ap (λ (m : ℕ). usedOf u + m) (w .9 .ensures ∙ sym (d .called));
+            size = w .14 ∙ w .10 .ensures ∙ sym (d .put);
+          }
+    ]
+
+-- source 3 is set, or stays: the board is that of the accepted call
+abbrev pub Set : Type 0
+Set = lts.Joined4 claims reads.Pre reads.Post Inv-loop2 μ-loop2 Inv-loop μ-loop
+
+pub board-set : (j : Set) →
+    j .if4 .b ≡ boardAfter (callAt (restOf (j .before .before))) (boardOf (j .before .before))
+board-set j =
+    let k = served (j .before) .carried in
+    elim (j .if4 .came) [
+      | inl w ↦ set-after _ _ _ _ _ _ _ k (w .0 .taken) _ (w .1 .ensures) _ (w .2 .ensures) _ (w .3)
+      | inr w ↦ w .1 ∙ k .still (w .0 .left)
+    ]
