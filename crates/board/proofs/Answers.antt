@@ -20,7 +20,7 @@ use Rattle.board.specs.declared.calls.Call.{Call}
 use Rattle.board.specs.declared.calls.Call.the-variants.{Deadline, Skip}
 use Rattle.board.specs.declared.calls.DeadlineAnswer.{DeadlineAnswer}
 use Rattle.board.specs.declared.calls.DeadlineMembers.{DeadlineMembers}
-use Rattle.board.specs.declared.calls.Passing.{Passing}
+use Rattle.board.specs.declared.calls.SkipAdvance.{SkipAdvance}
 use Rattle.board.specs.Board.{BoardFits, line, exactDeadline, sound}
 use Rattle.board.specs.Calls.{
   advanceBy,
@@ -39,7 +39,7 @@ use Rattle.board.specs.Calls.{
   skipRefusal,
 }
 use Rattle.board.specs.Loops.{mapFrom}
-use Rattle.board.specs.CodeCalls.{deadlineGiven, matchesGiven, passingNone, passingOf}
+use Rattle.board.specs.CodeCalls.{deadlineGiven, matchesGiven, noAdvance, skipAdvanceOf}
 use Rattle.board.specs.Demand.{Promise}
 use Rattle.board.proofs.Loops.{by-four}
 use Rattle.board.proofs.Soundness.{wired-line, wired-sound}
@@ -141,51 +141,51 @@ given-some d w n e f m = rw (e, ← f, m)
 -- ---- a skip
 
 module _ (b : Board) (low : line b ≡ false) where
-  pub skips-none : exactDeadline b ≡ none → passingOf none ≡ passingOf (skipLength b)
+  pub skips-none : exactDeadline b ≡ none → skipAdvanceOf none ≡ skipAdvanceOf (skipLength b)
   skips-none e = rw (low, e)
 
   module _ (d : ℕ) (e : exactDeadline b ≡ some d) where
     pub skips-some : leb d largest ≡ true → (n : ℕ) → n ≡ min d largest →
-        record { refusal = 0; made = true; cycles = record { 0 = n } } ≡ passingOf (skipLength b)
+        record { refusal = 0; made = true; cycles = record { 0 = n } } ≡ skipAdvanceOf (skipLength b)
     skips-some l n m =
         let h = leb-true d largest l in
         let k : n ≡ d = omega arith in
         rw (low, e, le-ltb largest d h, k)
 
     pub skips-far : leb d largest ≡ false →
-        passingNone deadlineTooLarge ≡ passingOf (skipLength b)
+        noAdvance deadlineTooLarge ≡ skipAdvanceOf (skipLength b)
     skips-far l = rw (low, e, lt-ltb largest d (leb-false d largest l))
 
-pub skips-high : (b : Board) → line b ≡ true → passingOf none ≡ passingOf (skipLength b)
+pub skips-high : (b : Board) → line b ≡ true → skipAdvanceOf none ≡ skipAdvanceOf (skipLength b)
 skips-high b h = rw h
 
 -- the advance that the code makes of an optional number
-module _ (p : Passing) where
-  pub passing-refusal : (o : Option ℕ) → p ≡ passingOf o → p .refusal ≡ lengthRefusal o
-  passing-refusal o e =
+module _ (p : SkipAdvance) where
+  pub skip-advance-refusal : (o : Option ℕ) → p ≡ skipAdvanceOf o → p .refusal ≡ lengthRefusal o
+  skip-advance-refusal o e =
       either (eqb (lengthRefusal o) 0) (λ h. rw (e, h) (sym (eqb-true _ 0 h))) (λ h. rw (e, h))
 
-  pub passing-some : (o : Option ℕ) → p ≡ passingOf o → p .made ≡ true → o ≡ some (p .cycles .0)
-  passing-some none e m = absurd (false≢true (sym (ap (λ (q : Passing). q .made) e) ∙ m))
-  passing-some (some d) e m =
+  pub skip-advance-some : (o : Option ℕ) → p ≡ skipAdvanceOf o → p .made ≡ true → o ≡ some (p .cycles .0)
+  skip-advance-some none e m = absurd (false≢true (sym (ap (λ (q : SkipAdvance). q .made) e) ∙ m))
+  skip-advance-some (some d) e m =
       either (eqb (lengthRefusal (some d)) 0) (λ h. rw (e, h))
-      (λ h. absurd (false≢true (sym (ap (λ (q : Passing). q .made) (rw h at e)) ∙ m)))
+      (λ h. absurd (false≢true (sym (ap (λ (q : SkipAdvance). q .made) (rw h at e)) ∙ m)))
 
-  pub passing-none : (o : Option ℕ) → p ≡ passingOf o → p .refusal ≡ 0 → p .made ≡ false →
-      (o ≡ none) × (p ≡ passingOf none)
-  passing-none none e z m = (refl, e)
-  passing-none (some d) e z m =
-      let h = eq-eqb (lengthRefusal (some d)) 0 (sym (passing-refusal (some d) e) ∙ z) in
-      absurd (false≢true (sym m ∙ ap (λ (q : Passing). q .made) (rw h at e)))
+  pub skip-advance-none : (o : Option ℕ) → p ≡ skipAdvanceOf o → p .refusal ≡ 0 → p .made ≡ false →
+      (o ≡ none) × (p ≡ skipAdvanceOf none)
+  skip-advance-none none e z m = (refl, e)
+  skip-advance-none (some d) e z m =
+      let h = eq-eqb (lengthRefusal (some d)) 0 (sym (skip-advance-refusal (some d) e) ∙ z) in
+      absurd (false≢true (sym m ∙ ap (λ (q : SkipAdvance). q .made) (rw h at e)))
 
 -- a skip that is refused: on a board that is not sound, and by its own refusal
 pub skip-unsound : (b : Board) → sound b ≡ false →
     record { board = b; refusal = 1; passed = record { 0 = 0 }; line = false } ≡ skipAnswer (answerOf Skip b)
 skip-unsound b s = ap skipAnswer (sym (answer-refused Skip b 1 (rw s) refl))
 
-module _ (b : Board) (s : sound b ≡ true) (p : Passing) (e : p ≡ passingOf (skipLength b)) where
+module _ (b : Board) (s : sound b ≡ true) (p : SkipAdvance) (e : p ≡ skipAdvanceOf (skipLength b)) where
   own-is : p .refusal ≡ refusalOf b (skipRefusal b)
-  own-is = rw s (passing-refusal p (skipLength b) e)
+  own-is = rw s (skip-advance-refusal p (skipLength b) e)
 
   pub skip-refuses : eqb (p .refusal) 0 ≡ false →
       record { board = b; refusal = p .refusal; passed = record { 0 = 0 }; line = false }
@@ -201,12 +201,12 @@ module _ (b : Board) (s : sound b ≡ true) (p : Passing) (e : p ≡ passingOf (
     unfolding advancedBoard
     skip-moves m y v f g =
         let n = p .cycles .0 in
-        let k : skipLength b ≡ some n = passing-some p (skipLength b) e m in
+        let k : skipLength b ≡ some n = skip-advance-some p (skipLength b) e m in
         let h : v ≡ line (movedBoard n b) = g ∙ ap line f ∙ wired-line (movedBoard n b) in
         rw (answer-accepted Skip b accepted, k, flag-back, f, h)
 
     pub skip-stays : p .made ≡ false → (v : Bool) → v ≡ line b →
         record { board = b; refusal = 0; passed = p .cycles; line = v } ≡ skipAnswer (answerOf Skip b)
     skip-stays m v g =
-        let k = passing-none p (skipLength b) e z m in
+        let k = skip-advance-none p (skipLength b) e z m in
         rw (answer-accepted Skip b accepted, k .0, k .1, flag-back, wired-sound b s, g)

@@ -11,7 +11,7 @@ use Rattle.wide.specs.Number.{wideOf}
 use Rattle.channel.specs.declared.HardwareTimer.{HardwareTimer}
 use Rattle.channel.specs.Matches.{matchesOf}
 use Rattle.board.specs.declared.calls.DeadlineMembers.{DeadlineMembers}
-use Rattle.board.specs.declared.calls.Passing.{Passing}
+use Rattle.board.specs.declared.calls.SkipAdvance.{SkipAdvance}
 use Rattle.board.specs.Loops.{mapFrom}
 use Rattle.board.specs.Board.{wordDeadline}
 use Rattle.board.specs.Calls.{isPresent, orZero, lengthRefusal}
@@ -26,12 +26,12 @@ abbrev pub matchesGiven : ℕ → ℕ → List HardwareTimer → List Wide
 matchesGiven enable c = mapFrom (λ k h. wideOf (matchesOf (bit k enable) c h)) 0
 
 -- no advance, by a refusal or, where it is 0, because none is to be made
-abbrev pub passingNone : ℕ → Passing
-passingNone refusal = record { refusal = refusal; made = false; cycles = record { 0 = 0 } }
+abbrev pub noAdvance : ℕ → SkipAdvance
+noAdvance refusal = record { refusal = refusal; made = false; cycles = record { 0 = 0 } }
 
 -- the cycles of an advance, or none; where they are refused, none is made
-abbrev pub passingOf : Option ℕ → Passing
-passingOf o =
+abbrev pub skipAdvanceOf : Option ℕ → SkipAdvance
+skipAdvanceOf o =
     cond (eqb (lengthRefusal o) 0)
     (record { refusal = 0; made = isPresent o; cycles = record { 0 = orZero o } })
-    (passingNone (lengthRefusal o))
+    (noAdvance (lengthRefusal o))

@@ -7,7 +7,7 @@ ghost use Rattle.board.specs.Board.{BoardFits, sound, exactDeadline};
 ghost use Rattle.board.specs.Calls.{refusalOf, answerOf, emptyAnswer, byteAnswer, advanceAnswer};
 ghost use Rattle.board.specs.Calls.{deadlineAnswer, skipAnswer, outputAnswer, advanceBy, hostTimeTo, sourceTo};
 ghost use Rattle.board.specs.Calls.{hostTimeRefusal, addressRefusal, advancedBoard, skipLength, sourceRefusal};
-ghost use Rattle.board.specs.CodeCalls.{deadlineGiven, matchesGiven, passingNone, passingOf};
+ghost use Rattle.board.specs.CodeCalls.{deadlineGiven, matchesGiven, noAdvance, skipAdvanceOf};
 ghost use Rattle.board.specs.Demand.{Promise, SkipPromise};
 use crate::Board;
 use crate::channels::advance_all;
@@ -96,7 +96,7 @@ pub struct DeadlineMembers {
 
 // An advance that may be refused or not made: its refusal, 0 for none; whether it is made, and its cycles, 0 where it
 // is not.
-pub struct Passing {
+pub struct SkipAdvance {
     pub refusal: u8,
     pub made: bool,
     pub cycles: Cycles,
@@ -165,25 +165,25 @@ impl Board {
 
     // The advance that a skip makes: to the interrupt; with the line high or no deadline, none. It is refused where the
     // deadline is more than a word. The level of source 3 is the line.
-    pub fn skip_length(self) -> Passing
+    pub fn skip_length(self) -> SkipAdvance
         requires { ⌜ sound self ≡ true ⌝ }
-        ensures { λ r. ⌜ r ≡ passingOf (skipLength self) ⌝ }
+        ensures { λ r. ⌜ r ≡ skipAdvanceOf (skipLength self) ⌝ }
     {
         let controller = self.controller;
         if controller::level_of(controller, Self::LINE_SOURCE) {
-            return passing_none(0);
+            return no_advance(0);
         }
         let Deadline::At(exact) = self.exact_deadline() else {
-            return passing_none(0);
+            return no_advance(0);
         };
         if exact.at_most(Wide::from_word(u64::MAX)) {
-            return Passing {
+            return SkipAdvance {
                 refusal: 0,
                 made: true,
                 cycles: Cycles(exact.capped()),
             };
         }
-        passing_none(Self::DEADLINE_TOO_LARGE)
+        no_advance(Self::DEADLINE_TOO_LARGE)
     }
 
     // ---- the calls
@@ -379,10 +379,10 @@ impl Board {
 }
 
 // No advance, by a refusal or, where it is 0, because none is to be made.
-pub fn passing_none(refusal: u8) -> Passing
-    ensures { λ r. ⌜ r ≡ passingNone refusal ⌝ }
+pub fn no_advance(refusal: u8) -> SkipAdvance
+    ensures { λ r. ⌜ r ≡ noAdvance refusal ⌝ }
 {
-    Passing {
+    SkipAdvance {
         refusal,
         made: false,
         cycles: Cycles(0),

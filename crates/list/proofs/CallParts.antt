@@ -33,12 +33,12 @@ use Rattle.board.specs.declared.calls.Call.the-variants.{
   ControllerWrite,
   Output,
 }
-use Rattle.board.specs.declared.calls.Passing.{Passing}
+use Rattle.board.specs.declared.calls.SkipAdvance.{SkipAdvance}
 use Rattle.board.specs.declared.calls.DeadlineMembers.{DeadlineMembers}
 use Rattle.board.specs.Board.{line, exactDeadline, sound}
 use Rattle.board.specs.Calls.{effectOf, skipLength}
-use Rattle.board.specs.CodeCalls.{deadlineGiven, passingOf}
-use Rattle.board.proofs.Answers.{passing-refusal, passing-some, passing-none}
+use Rattle.board.specs.CodeCalls.{deadlineGiven, skipAdvanceOf}
+use Rattle.board.proofs.Answers.{skip-advance-refusal, skip-advance-some, skip-advance-none}
 use Rattle.board.proofs.Soundness.{sound-facts}
 use Rattle.board.proofs.calls.Call as C
 use Rattle.format.specs.declared.Answer.the-variants.{Empty, Byte, Deadline as DeadlineBytes, Skip as SkipBytes, Pair}
@@ -99,9 +99,9 @@ first-other (ControllerWrite byte address) b n o = refl
 first-other Output b n o = refl
 
 -- of a skip it decides all: p is the advance that is made of it
-module _ (b : Board) (p : Passing) (e : p ≡ passingOf (skipLength b)) where
+module _ (b : Board) (p : SkipAdvance) (e : p ≡ skipAdvanceOf (skipLength b)) where
   own-skip : p .refusal ≡ effectOf Skip b .refusal
-  own-skip = passing-refusal p (skipLength b) e
+  own-skip = skip-advance-refusal p (skipLength b) e
 
   module _ (call : Call) (k : call ≡ Skip) (n : ℕ) where
     pub first-skip : (p .refusal ≡ 0 → ⊥) → p .refusal ≡ firstOf (boardRefusal call b) n
@@ -115,10 +115,10 @@ module _ (b : Board) (p : Passing) (e : p ≡ passingOf (skipLength b)) where
 
   module _ (z : p .refusal ≡ 0) where
     pub skip-passes : p .made ≡ true → SkipIs b (Pass false (p .cycles .0))
-    skip-passes m = (sym own-skip ∙ z, (refl, passing-some p (skipLength b) e m))
+    skip-passes m = (sym own-skip ∙ z, (refl, skip-advance-some p (skipLength b) e m))
 
     pub skip-stays : p .made ≡ false → SkipIs b Stay
-    skip-stays m = (sym own-skip ∙ z, passing-none p (skipLength b) e z m .0)
+    skip-stays m = (sym own-skip ∙ z, skip-advance-none p (skipLength b) e z m .0)
 
 -- ---- the step: d is what is found of the call at the front
 

@@ -11,10 +11,10 @@ use Rattle.wide.specs.Bits.{flagOf}
 use Rattle.clock.specs.Clock.{fromHost}
 use Rattle.board.specs.declared.Board.{Board}
 use Rattle.board.specs.declared.calls.EmptyAnswer.{EmptyAnswer}
-use Rattle.board.specs.declared.calls.Passing.{Passing}
+use Rattle.board.specs.declared.calls.SkipAdvance.{SkipAdvance}
 use Rattle.board.specs.Board.{BoardFits, line, sound}
 use Rattle.board.specs.Calls.{refusalOf, advancedBoard, skipLength}
-use Rattle.board.specs.CodeCalls.{passingOf}
+use Rattle.board.specs.CodeCalls.{skipAdvanceOf}
 use Rattle.board.proofs.Answers.{accepted-sound}
 use Rattle.parking.specs.declared.Reading.{Reading}
 use Rattle.parking.specs.Parking.{bufferShort, readingOf, readingRefusal}
@@ -66,8 +66,8 @@ module _ (b : Board) (totals old : List ℕ) (host : Bool) (from : host ≡ from
     preview-fits = ltb-false (length old) (length totals) (no-own .1)
 
     -- p is the advance that a skip would make, and reached says whether some total can raise the line or find it high
-    module _ (f : BoardFits b) (words : (i : ℕ) → getD totals i 0 < 2 ^ 64) (p : Passing)
-        (passing : p ≡ passingOf (skipLength b)) (v : Bool) (lined : v ≡ line b) (reached : Bool)
+    module _ (f : BoardFits b) (words : (i : ℕ) → getD totals i 0 < 2 ^ 64) (p : SkipAdvance)
+        (passing : p ≡ skipAdvanceOf (skipLength b)) (v : Bool) (lined : v ≡ line b) (reached : Bool)
         (r : reached ≡ (v || p .made)) where
       byte-is : (t : ℕ) → t < 2 ^ 64 → flagOf (reached && leb (p .cycles .0) t) ≡ previewByte b t
       byte-is t l =

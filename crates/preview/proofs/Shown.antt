@@ -15,11 +15,11 @@ use Rattle.wide.proofs.Choices.{either}
 use Rattle.clock.specs.Clock.{fromHost}
 use Rattle.board.specs.declared.Board.{Board}
 use Rattle.board.specs.declared.calls.Call.{Call}
-use Rattle.board.specs.declared.calls.Passing.{Passing}
+use Rattle.board.specs.declared.calls.SkipAdvance.{SkipAdvance}
 use Rattle.board.specs.Loops.{All}
 use Rattle.board.specs.Board.{BoardFits, line, exactDeadline, sound}
 use Rattle.board.specs.Calls.{advancedBoard, skipLength}
-use Rattle.board.specs.CodeCalls.{passingOf}
+use Rattle.board.specs.CodeCalls.{skipAdvanceOf}
 use Rattle.board.specs.Demand.{PassesTime, afterAll, cyclesPassed}
 use Rattle.board.proofs.Good.{good}
 use Rattle.board.proofs.Steps.{boardDue, line-due, advance-step}
@@ -53,7 +53,7 @@ any-list-shows b f s low o calls w =
 -- ---- the same by the advance that a skip would make
 
 -- of a line and a deadline: where a word of cycles reaches the interrupt, from how many on
-reached : (high : Bool) (o : Option ℕ) (t : ℕ) → t ≤ largest → (p : Passing) → p ≡ passingOf (cond high none o) →
+reached : (high : Bool) (o : Option ℕ) (t : ℕ) → t ≤ largest → (p : SkipAdvance) → p ≡ skipAdvanceOf (cond high none o) →
     ((high || p .made) && leb (p .cycles .0) t) ≡ (high || due o t)
 reached true o t l p e = rw e (le-leb 0 t (omega arith))
 reached false none t l p e = rw e refl
@@ -62,8 +62,8 @@ reached false (some d) t l p e =
     (λ h. rw (e, h) (sym (lt-leb d t (omega (arith, l, ltb-true largest d h)))))
     (λ h. rw (e, h) refl)
 
-pub skip-shows : (b : Board) → BoardFits b → sound b ≡ true → fromHost (b .clock .control) ≡ false → (p : Passing) →
-    p ≡ passingOf (skipLength b) → (t : ℕ) → t ≤ largest →
+pub skip-shows : (b : Board) → BoardFits b → sound b ≡ true → fromHost (b .clock .control) ≡ false → (p : SkipAdvance) →
+    p ≡ skipAdvanceOf (skipLength b) → (t : ℕ) → t ≤ largest →
     ((line b || p .made) && leb (p .cycles .0) t) ≡ line (advancedBoard t b)
 skip-shows b f s o p e t l =
     reached (line b) (exactDeadline b) t l p e ∙ sym (advance-shows b f s o t)

@@ -13,12 +13,12 @@ use Rattle.board.proofs.Board.skip_length.Tie as tie
 level-of-requires : tie.Need-level-of-requires
 level-of-requires c κs = search needs
 
-passing-none-requires : tie.Need-passing-none-requires
-passing-none-requires c κs = search needs
+no-advance-requires : tie.Need-no-advance-requires
+no-advance-requires c κs = search needs
 
 returns : tie.Need-returns
 returns c = let s = c .before .before .before .before in
-    c .passing-none .ensures
+    c .no-advance .ensures
     ∙ skips-high (s .args .self)
     (sym (sound-facts (s .args .self) (s .pre) .level)
     ∙ sym (c .before .before .level-of .ensures)
@@ -33,13 +33,13 @@ enum-known-exact c = search needs
 enum-told : tie.Need-enum-told
 enum-told c = search needs
 
-passing-none-requires-2 : tie.Need-passing-none-requires-2
-passing-none-requires-2 c κs = search needs
+no-advance-requires-2 : tie.Need-no-advance-requires-2
+no-advance-requires-2 c κs = search needs
 
 returns-2 : tie.Need-returns-2
 returns-2 c = let at-if = c .before .before .before .before in
     let s = at-if .before .before .before in
-    c .passing-none2 .ensures
+    c .no-advance2 .ensures
     ∙ skips-none (s .args .self)
     (sym (sound-facts (s .args .self) (s .pre) .level) ∙ sym (at-if .before .level-of .ensures) ∙ at-if .if1 .left)
     (sym (c .before .before .before .exact-deadline .ensures) ∙ ap numberOf (c .before .enum-told .given .1))
@@ -66,8 +66,8 @@ returns-3 c = let at-word = c .before .before .before in
     ∙ c .before .if2 .taken)
     (c .capped .result) (c .capped .ensures)
 
-passing-none-requires-3 : tie.Need-passing-none-requires-3
-passing-none-requires-3 c κs = search needs
+no-advance-requires-3 : tie.Need-no-advance-requires-3
+no-advance-requires-3 c κs = search needs
 
 returns-4 : tie.Need-returns-4
 returns-4 c = let at-word = c .before .before .before in
@@ -75,7 +75,7 @@ returns-4 c = let at-word = c .before .before .before in
     let s = at-if .before .before .before in
     let exact = at-word .before .before .exact .given in
     let d = valueOf (exact .0 .0) in
-    c .passing-none3 .ensures
+    c .no-advance3 .ensures
     ∙ skips-far (s .args .self)
     (sym (sound-facts (s .args .self) (s .pre) .level) ∙ sym (at-if .before .level-of .ensures) ∙ at-if .if1 .left)
     d (sym (at-word .before .before .before .before .exact-deadline .ensures) ∙ ap numberOf (exact .1))
@@ -87,16 +87,16 @@ skip-length-spec =
     tie.close
     (tie.spec
     level-of-requires
-    passing-none-requires
+    no-advance-requires
     returns
     exact-deadline-requires
     enum-known-exact
     enum-told
-    passing-none-requires-2
+    no-advance-requires-2
     returns-2
     from-word-requires
     at-most-requires
     capped-requires
     returns-3
-    passing-none-requires-3
+    no-advance-requires-3
     returns-4)
