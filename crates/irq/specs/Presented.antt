@@ -1,17 +1,17 @@
 -- What the controller presents after the calls of `presented`, by the controller's own rules.
 use Prim.Native.Nat.{ℕ}
-use mathlib.Core.Bool.{true}
 use Rattle.controller.specs.declared.IrqController.{IrqController}
 use Rattle.controller.specs.declared.IrqOutput.{IrqOutput}
-use Rattle.controller.specs.Controller.{fresh, sourceSet, enableMaskSet, controllerRead, controllerWritten, outputOf}
+use Rattle.controller.specs.Controller.{fresh, sourceLevelsSet, enableMaskSet, controllerRead, controllerWritten}
+use Rattle.controller.specs.Controller.{outputOf}
 
--- two sources of a fresh controller rise, and the sources of the mask are enabled
-abbrev pub raised : ℕ → ℕ → ℕ → IrqController
-raised first second mask = enableMaskSet (sourceSet (sourceSet fresh first true) second true) mask
+-- the sources of `raised` rise on a fresh controller, and those of `mask` are enabled
+abbrev pub enabled : ℕ → ℕ → IrqController
+enabled raised mask = enableMaskSet (sourceLevelsSet fresh raised raised) mask
 
 -- a byte is read and written back: of pending, that clears the bits that it has
 abbrev pub acknowledged : IrqController → ℕ → IrqController
 acknowledged c address = controllerWritten c address (controllerRead c address)
 
-abbrev pub presentedBy : ℕ → ℕ → ℕ → ℕ → IrqOutput
-presentedBy first second mask address = outputOf (acknowledged (raised first second mask) address)
+abbrev pub presentedBy : ℕ → ℕ → ℕ → IrqOutput
+presentedBy raised mask address = outputOf (acknowledged (enabled raised mask) address)

@@ -4,16 +4,14 @@ ghost use mathlib.Core.Path.{_≡_};
 ghost use Rattle.irq.specs.Presented.{presentedBy};
 use controller::IrqController;
 use controller::IrqOutput;
-use controller::SourceNumber;
 
-// Two sources rise, the sources of `mask` are enabled, and the byte at `address` is read and written back: what is
-// presented then.
-fn presented(first: SourceNumber, second: SourceNumber, mask: u16, address: u32) -> IrqOutput
-    ensures { λ r. ⌜ r ≡ presentedBy (first .0) (second .0) mask address ⌝ }
+// The sources of `raised` rise, those of `mask` are enabled, and the byte at `address` is read and written back: what
+// is presented then.
+fn presented(raised: u16, mask: u16, address: u32) -> IrqOutput
+    ensures { λ r. ⌜ r ≡ presentedBy raised mask address ⌝ }
 {
     let mut controller = IrqController::new();
-    controller.set_source(first, true);
-    controller.set_source(second, true);
+    controller.set_source_levels(raised, raised);
     controller.set_enable_mask(mask);
     let byte = controller.read(address);
     controller.write(address, byte);
@@ -32,7 +30,7 @@ fn print_output(output: IrqOutput) {
 
 // Sources 9 and 5 have risen.
 fn print_presented(mask: u16, address: u32) {
-    print_output(presented(SourceNumber(9), SourceNumber(5), mask, address));
+    print_output(presented(0x0220, mask, address));
 }
 
 fn main() {
