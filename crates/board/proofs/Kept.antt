@@ -23,7 +23,7 @@ use Rattle.controller.specs.Controller.{ControllerFits, sourceSet, controllerWr
 use Rattle.controller.proofs.Widths.{fresh-controller-fits, source-fits, written-fits}
 use Rattle.board.specs.declared.Board.{Board}
 use Rattle.board.specs.declared.calls.Call.{Call}
-use Rattle.board.specs.declared.calls.Call.the-variants.{Deadline, Skip, ControllerRead, ControllerWrite, Output}
+use Rattle.board.specs.declared.calls.Call.the-variants.{Deadline, Skip, Source, ControllerRead, ControllerWrite, Output}
 use Rattle.board.specs.declared.calls.EmptyAnswer.{EmptyAnswer}
 use Rattle.board.specs.Loops.{foldFrom}
 use Rattle.board.specs.Channels.{advancedAll}
@@ -32,7 +32,6 @@ use Rattle.board.specs.Board.{BoardFits, line, wired, sound}
 use Rattle.board.specs.Calls.{
   advanceBy,
   hostTimeTo,
-  sourceTo,
   hostTimeRefusal,
   movedBoard,
   advancedBoard,
@@ -181,7 +180,7 @@ moved-good (some n) b g = advanced-good g n
 pub skip-keeps : Keeps Skip
 skip-keeps rate b f g z = moved-good (skipLength b) b g
 
-pub source-keeps : (number level : ℕ) → Keeps (sourceTo number level)
+pub source-keeps : (number level : ℕ) → Keeps (Source number level)
 source-keeps number level rate b f g z =
     controller-good g (sourceSet (b .controller) number (eqb level 1))
     (source-fits (b .controller) (g .fits .controller) number (eqb level 1))

@@ -50,9 +50,6 @@ advanceBy c = Advance (record { 0 = c })
 abbrev pub hostTimeTo : HostTimeOf → Call
 hostTimeTo h = HostTime (h .nanoseconds) (h .seconds)
 
-abbrev pub sourceTo : ℕ → ℕ → Call
-sourceTo number level = Source (record { 0 = number }) level
-
 -- ---- 01 host time
 
 abbrev pub nanosecondsTooLarge : ℕ
@@ -190,8 +187,8 @@ effectOf Skip b =
 -- '07 source: number, level → none'
 effectOf (Source number level) b =
     record {
-      refusal = sourceRefusal (number .0) level;
-      board = withController (sourceSet (b .controller) (number .0) (eqb level 1)) b;
+      refusal = sourceRefusal number level;
+      board = withController (sourceSet (b .controller) number (eqb level 1)) b;
       members = [];
     }
 -- '08 controller read: address 4 → 1'
@@ -220,7 +217,7 @@ CallFits (Write byte address) = (byte < 2 ^ 8) × (address < 2 ^ 16)
 CallFits (Advance c) = c .0 < 2 ^ 64
 CallFits Deadline = Unit {0}
 CallFits Skip = Unit {0}
-CallFits (Source number level) = (number .0 < 2 ^ 8) × (level < 2 ^ 8)
+CallFits (Source number level) = (number < 2 ^ 8) × (level < 2 ^ 8)
 CallFits (ControllerRead address) = address < 2 ^ 32
 CallFits (ControllerWrite byte address) = (byte < 2 ^ 8) × (address < 2 ^ 32)
 CallFits Output = Unit {0}

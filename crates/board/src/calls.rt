@@ -5,7 +5,7 @@ ghost use mathlib.Core.Bool.{true};
 ghost use Rattle.wide.specs.Number.{valueOf};
 ghost use Rattle.board.specs.Board.{BoardFits, sound, exactDeadline};
 ghost use Rattle.board.specs.Calls.{refusalOf, answerOf, emptyAnswer, byteAnswer, advanceAnswer};
-ghost use Rattle.board.specs.Calls.{deadlineAnswer, skipAnswer, outputAnswer, advanceBy, hostTimeTo, sourceTo};
+ghost use Rattle.board.specs.Calls.{deadlineAnswer, skipAnswer, outputAnswer, advanceBy, hostTimeTo};
 ghost use Rattle.board.specs.Calls.{hostTimeRefusal, addressRefusal, advancedBoard, skipLength, sourceRefusal};
 ghost use Rattle.board.specs.CodeCalls.{deadlineGiven, matchesGiven, noAdvance, skipAdvanceOf};
 ghost use Rattle.board.specs.Demand.{Promise, SkipPromise};
@@ -30,7 +30,7 @@ pub enum Call {
     Deadline,
     Skip,
     // a source and its level
-    Source(SourceNumber, u8),
+    Source(u8, u8),
     // an address of the controller
     ControllerRead(u32),
     // a byte and an address of the controller
@@ -304,7 +304,7 @@ impl Board {
     }
 
     pub fn source(self, number: SourceNumber, level: u8) -> EmptyAnswer
-        ensures { λ r. ⌜ r ≡ emptyAnswer (answerOf (sourceTo (number .0) level) self) ⌝ }
+        ensures { λ r. ⌜ r ≡ emptyAnswer (answerOf (Call.Source (number .0) level) self) ⌝ }
     {
         let refusal = self.refusal_of(source_refusal(number, level));
         if refusal != 0 {

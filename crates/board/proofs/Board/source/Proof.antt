@@ -1,7 +1,8 @@
 -- `Board::source` meets its contract. Assumes nothing.
 use mathlib.Core.Path.{sym, ap, _∙_}
 use borrow.Author.Tests.{ne-eqb}
-use Rattle.board.specs.Calls.{refusalOf, emptyAnswer, sourceTo}
+use Rattle.board.specs.declared.calls.Call.the-variants.{Source}
+use Rattle.board.specs.Calls.{refusalOf, emptyAnswer}
 use Rattle.board.proofs.Answers.{answer-refused, answer-accepted}
 use borrow.Author.Needs.{needs}
 use Rattle.board.proofs.Board.source.Statement.{statement}
@@ -16,7 +17,7 @@ refusal-of-requires c κs = search needs
 returns : tie.Need-returns
 returns c = ap emptyAnswer
     (sym
-    (answer-refused (sourceTo (c .before .before .before .args .number .0) (c .before .before .before .args
+    (answer-refused (Source (c .before .before .before .args .number .0) (c .before .before .before .args
     .level)) (c .before .before .before .args .self) (c .before .refusal-of .result)
     (c .before .refusal-of .ensures .0 ∙ ap (refusalOf (c .before .before .before .args .self)) (c .before .before
     .source-refusal .ensures))
@@ -37,7 +38,7 @@ returns-2 c = let a = c .before .before .before .before .before .before .before 
     ∙ sym (c .before .before .before .before .before .refusal-of .ensures .0)
     ∙ c .before .before .before .before .if1 .left in
     rw (
-      answer-accepted (sourceTo (a .number .0) (a .level)) (a .self) z,
+      answer-accepted (Source (a .number .0) (a .level)) (a .self) z,
       c .wired .ensures,
       c .before .with-controller .ensures,
       c .before .before .with-source .ensures,
