@@ -7,41 +7,13 @@ use lib.ListN.{length, getD, take, drop, length-append}
 use borrow.Author.Tests.{le-ltb, eq-eqb}
 use Rattle.wide.specs.Fields.{beAt}
 use Rattle.board.specs.declared.calls.Call.{Call}
-use Rattle.board.specs.declared.calls.Call.the-variants.{
-  HostTime,
-  Read,
-  Write,
-  Advance,
-  Deadline,
-  Skip,
-  Source,
-  ControllerRead,
-  ControllerWrite,
-  Output,
-}
+use Rattle.board.specs.declared.calls.Call.the-variants.{HostTime, Read, Write, Advance, Deadline, Skip, Source}
+use Rattle.board.specs.declared.calls.Call.the-variants.{ControllerRead, ControllerWrite, Output}
 use Rattle.board.specs.Calls.{CallFits}
 use Rattle.format.specs.Format.{sum, rowOf, valueLength, headerLength, membersAt, membersBytes, recordOf}
-use Rattle.format.specs.Codec.{
-  tagOf,
-  argumentsOf,
-  callBytes,
-  callLength,
-  tagAt,
-  frameRefusal,
-  callOf,
-  callAt,
-}
-use Rattle.format.proofs.Frames.{
-  by-tag,
-  framed,
-  told-is,
-  tag-is,
-  tag-below,
-  tag-known,
-  value-below,
-  record-length,
-  members-length,
-}
+use Rattle.format.specs.Codec.{tagOf, argumentsOf, callBytes, callLength, tagAt, frameRefusal, callOf, callAt}
+use Rattle.format.proofs.Frames.{by-tag, framed, told-is, tag-is, tag-below, tag-known, value-below}
+use Rattle.format.proofs.Frames.{record-length, members-length}
 use Rattle.format.proofs.Members.{Bytes, Fit, ended, _▸_, members-back, members-of, record-members}
 
 tag-first : (l : List ℕ) → beAt l 0 1 ≡ tagAt l

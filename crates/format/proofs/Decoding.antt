@@ -6,90 +6,33 @@ use mathlib.Core.Bool.{Bool, true, false, cond, not, false≢true}
 use mathlib.Core.List.{List}
 use lib.ListN.{length, getD}
 use lib.Dec.{leb, ltb, eqb}
-use borrow.Author.Tests.{
-  ltb-false,
-  lt-ltb,
-  le-ltb,
-  leb-true,
-  leb-false,
-  eqb-true,
-  eqb-false,
-  eq-eqb,
-  ne-eqb,
-  not-true,
-  not-false,
-}
+use borrow.Author.Tests.{ltb-false, lt-ltb, le-ltb, leb-true, leb-false, eqb-true, eqb-false, eq-eqb, ne-eqb}
+use borrow.Author.Tests.{not-true, not-false}
 use Rattle.wide.specs.Fields.{beAt}
 use Rattle.wide.proofs.Choices.{either, and-parts}
 use Rattle.board.specs.declared.Board.{Board}
 use Rattle.board.specs.declared.calls.Call.{Call}
-use Rattle.board.specs.declared.calls.Call.the-variants.{
-  HostTime,
-  Read,
-  Write,
-  Advance,
-  Deadline,
-  Skip,
-  Source,
-  ControllerRead,
-  ControllerWrite,
-  Output,
-}
+use Rattle.board.specs.declared.calls.Call.the-variants.{HostTime, Read, Write, Advance, Deadline, Skip, Source}
+use Rattle.board.specs.declared.calls.Call.the-variants.{ControllerRead, ControllerWrite, Output}
 use Rattle.board.specs.Calls.{hostTimeRefusal, addressRefusal, sourceRefusal, effectOf}
 use Rattle.format.specs.declared.Decoded.{Decoded}
 use Rattle.format.specs.declared.Lengths.{Lengths}
-use Rattle.format.specs.Format.{
-  answerTooLong,
-  rowOf,
-  known,
-  valueLength,
-  answerLength,
-  lengthsOf,
-  headerLength,
-  membersAt,
-}
-use Rattle.format.specs.Codec.{
-  tagOf,
-  tagAt,
-  frameRefusal,
-  callOf,
-  callAt,
-  recordLength,
-  firstOf,
-  refusalAt,
-}
-use Rattle.format.specs.CodeDecode.{
-  valueRefusal,
-  refusedBy,
-  told,
-  shortOf,
-  roomed,
-  valued,
-  framedAs,
-  isFramed,
-  Unframed,
-  decodedOf,
-  boardRefusal,
-  firstRefusal,
-}
+use Rattle.format.specs.Format.{answerTooLong, rowOf, known, valueLength, answerLength, lengthsOf, headerLength}
+use Rattle.format.specs.Format.{membersAt}
+use Rattle.format.specs.Codec.{tagOf, tagAt, frameRefusal, callOf, callAt, recordLength, firstOf, refusalAt}
+use Rattle.format.specs.CodeDecode.{valueRefusal, refusedBy, told, shortOf, roomed, valued, framedAs, isFramed}
+use Rattle.format.specs.CodeDecode.{Unframed, decodedOf, boardRefusal, firstRefusal}
 
 -- ---- the frame
 
 -- the header's length by the machine's order of its bytes
-same-length : (a b value : ℕ) → a < 256 → b < 256 → value < 256 →
-    eqb (a + 256 * b) (256 * value) ≡ eqb (a * 256 + b) value
-same-length a b value f g h =
-    either (eqb (a + 256 * b) (256 * value))
-    (λ e. let m = eqb-true (a + 256 * b) (256 * value) e in e ∙ sym (eq-eqb (a * 256 + b) value (omega arith)))
-    (λ e. e ∙ sym (ne-eqb (a * 256 + b) value
-    (λ n. eqb-false (a + 256 * b) (256 * value) e (omega arith))))
-
 pub told-length : (l : List ℕ) (a b value : ℕ) → a ≡ getD l 1 0 → b ≡ getD l 2 0 → a < 256 → b < 256 → value < 256 →
     eqb (a + 256 * b) (256 * value) ≡ eqb (beAt l 1 2) value
 unfolding beAt
 told-length l a b value p q f g h =
-    rw (← p, ← q, same-length a b value f g h)
-    (ap (λ (n : ℕ). eqb n value) (omega arith))
+    either (eqb (a + 256 * b) (256 * value))
+    (λ e. let m = eqb-true (a + 256 * b) (256 * value) e in e ∙ sym (eq-eqb (beAt l 1 2) value (omega arith)))
+    (λ e. e ∙ sym (ne-eqb (beAt l 1 2) value (λ n. eqb-false (a + 256 * b) (256 * value) e (omega arith))))
 
 -- the value is cut where it is not whole
 cut-is : (l : List ℕ) (value : ℕ) → headerLength ≤ length l →
@@ -122,60 +65,53 @@ module _ (value : ℕ) (l : List ℕ) (r : Decoded) where
 
 -- ---- each call: n are the lengths of its tag, q the test of its frame
 
-module _ (tag : ℕ) (n : Lengths) (e : n ≡ lengthsOf tag) where
-  pub value-of : n .value ≡ valueLength tag
-  value-of = ap (λ (m : Lengths). m .value) e
+pub value-of : (tag : ℕ) {n : Lengths} → n ≡ lengthsOf tag → n .value ≡ valueLength tag
+value-of tag e = ap (λ (m : Lengths). m .value) e
 
-  pub answer-of : n .answer ≡ answerLength tag
-  answer-of = ap (λ (m : Lengths). m .answer) e
+pub answer-of : (tag : ℕ) {n : Lengths} → n ≡ lengthsOf tag → n .answer ≡ answerLength tag
+answer-of tag e = ap (λ (m : Lengths). m .answer) e
 
-  -- header and value are whole where the test holds
-  module _ (l : List ℕ) (q : Bool) (p : q ≡ isFramed (n .value) l) (f : not q ≡ false) where
-    tests : (eqb (beAt l 1 2) (valueLength tag) ≡ true) × (leb (headerLength + valueLength tag) (length l) ≡ true)
-    tests =
-        and-parts (eqb (beAt l 1 2) (valueLength tag)) (leb (headerLength + valueLength tag) (length l))
-        (ap (λ (v : ℕ). isFramed v l) (sym value-of) ∙ sym p ∙ not-false q f)
+-- header and value are whole where the test holds
+module _ (tag : ℕ) (l : List ℕ) {n : Lengths} {q : Bool} (e : n ≡ lengthsOf tag) (p : q ≡ isFramed (n .value) l)
+    (f : not q ≡ false) where
+  tests : (eqb (beAt l 1 2) (valueLength tag) ≡ true) × (leb (headerLength + valueLength tag) (length l) ≡ true)
+  tests =
+      and-parts (eqb (beAt l 1 2) (valueLength tag)) (leb (headerLength + valueLength tag) (length l))
+      (ap (λ (v : ℕ). isFramed v l) (sym (value-of tag e)) ∙ sym p ∙ not-false q f)
 
-    pub whole : headerLength + valueLength tag ≤ length l
-    whole = leb-true (headerLength + valueLength tag) (length l) (tests .1)
+  pub whole : headerLength + valueLength tag ≤ length l
+  whole = leb-true (headerLength + valueLength tag) (length l) (tests .1)
 
-module _ (call : Call) (l : List ℕ) (room : ℕ) (n : Lengths) (e : n ≡ lengthsOf (tagOf call)) (q : Bool)
+module _ (call : Call) (l : List ℕ) (room : ℕ) {n : Lengths} {q : Bool} (e : n ≡ lengthsOf (tagOf call))
     (p : q ≡ isFramed (n .value) l) where
   abbrev here : Decoded
   here = framedAs (valueLength (tagOf call)) call l room
 
-  pub as-unframed : (r : Decoded) → Unframed (n .value) l r → not q ≡ true → r ≡ here
-  as-unframed r u f =
-      u (sym p ∙ not-true q f) call room ∙ ap (λ (v : ℕ). framedAs v call l room) (value-of (tagOf call) n e)
+  pub as-unframed : {r : Decoded} → Unframed (n .value) l r → not q ≡ true → r ≡ here
+  as-unframed u f =
+      u (sym p ∙ not-true q f) call room ∙ ap (λ (v : ℕ). framedAs v call l room) (value-of (tagOf call) e)
 
-  module _ (f : not q ≡ false) (own : ℕ) (o : own ≡ valueRefusal call) where
+  module _ (f : not q ≡ false) {own : ℕ} (o : own ≡ valueRefusal call) where
     as-framed : here ≡ valued call room
     unfolding framedAs
     as-framed =
-        let h = whole (tagOf call) n e l q p f in
-        rw (
-          tests (tagOf call) n e l q p f .0,
-          le-ltb (length l - headerLength) (valueLength (tagOf call)) (omega arith),
-        )
+        let h = whole (tagOf call) l e p f in
+        rw (tests (tagOf call) l e p f .0, le-ltb (length l - headerLength) (valueLength (tagOf call)) (omega arith))
 
     pub as-own : (own ≡ 0 → ⊥) → refusedBy own ≡ here
     unfolding valued
     as-own z = rw (as-framed, ← o, ne-eqb own 0 z)
 
     module _ (z : own ≡ 0) where
-      as-valued : here ≡ roomed call room
-      unfolding valued
-      as-valued = rw (as-framed, ← o, z)
-
       pub as-short : room < headerLength + n .answer → shortOf call ≡ here
-      unfolding roomed
-      as-short h = rw (as-valued, ← answer-of (tagOf call) n e, lt-ltb room (headerLength + n .answer) h)
+      unfolding valued roomed
+      as-short h = rw (as-framed, ← o, z, ← answer-of (tagOf call) e, lt-ltb room (headerLength + n .answer) h)
 
-      pub as-accepted : (given : Call) → given ≡ call → headerLength + n .answer ≤ room →
+      pub as-accepted : {given : Call} → given ≡ call → headerLength + n .answer ≤ room →
           record { refusal = 0; call = given } ≡ here
-      unfolding roomed
-      as-accepted given g h =
-          rw (as-valued, ← answer-of (tagOf call) n e, le-ltb room (headerLength + n .answer) h, g)
+      unfolding valued roomed
+      as-accepted g h =
+          rw (as-framed, ← o, z, ← answer-of (tagOf call) e, le-ltb room (headerLength + n .answer) h, g)
 
 -- ---- the call at the front
 
@@ -216,45 +152,22 @@ module _ (l : List ℕ) (room : ℕ) where
 first-none : (n : ℕ) → n ≡ firstOf n 0
 first-none n = either (eqb n 0) (λ e. rw e (eqb-true n 0 e)) (λ e. rw e)
 
--- what the members decide of a call's own refusal, and what the board does
-own-is : (call : Call) (b : Board) → effectOf call b .refusal ≡ firstOf (valueRefusal call) (boardRefusal call b)
-own-is (HostTime nanoseconds seconds) b =
-    first-none (hostTimeRefusal (record { seconds = seconds; nanoseconds = nanoseconds }))
-own-is (Read address) b = first-none (addressRefusal address)
-own-is (Write byte address) b = first-none (addressRefusal address)
-own-is (Advance c) b = refl
-own-is Deadline b = refl
-own-is Skip b = refl
-own-is (Source number level) b = first-none (sourceRefusal (number .0) level)
-own-is (ControllerRead address) b = refl
-own-is (ControllerWrite byte address) b = refl
-own-is Output b = refl
-
--- of a call that is no skip the members decide all
-pub value-refusal : (call : Call) (b : Board) → (call ≡ Skip → ⊥) → effectOf call b .refusal ≡ valueRefusal call
-value-refusal (HostTime nanoseconds seconds) b n = refl
-value-refusal (Read address) b n = refl
-value-refusal (Write byte address) b n = refl
-value-refusal (Advance c) b n = refl
-value-refusal Deadline b n = refl
-value-refusal Skip b n = absurd (n refl)
-value-refusal (Source number level) b n = refl
-value-refusal (ControllerRead address) b n = refl
-value-refusal (ControllerWrite byte address) b n = refl
-value-refusal Output b n = refl
-
--- what is told of a call without room says no less of the board's part
-told-board : (call : Call) (b : Board) → boardRefusal (told call) b ≡ boardRefusal call b
-told-board (HostTime nanoseconds seconds) b = refl
-told-board (Read address) b = refl
-told-board (Write byte address) b = refl
-told-board (Advance c) b = refl
-told-board Deadline b = refl
-told-board Skip b = refl
-told-board (Source number level) b = refl
-told-board (ControllerRead address) b = refl
-told-board (ControllerWrite byte address) b = refl
-told-board Output b = refl
+-- .0: what the members decide of a call's own refusal, and what the board does; .1: what is told of a call without
+-- room says no less of the board's part
+parts : (call : Call) (b : Board) →
+    (effectOf call b .refusal ≡ firstOf (valueRefusal call) (boardRefusal call b))
+    × (boardRefusal (told call) b ≡ boardRefusal call b)
+parts (HostTime nanoseconds seconds) b =
+    (first-none (hostTimeRefusal (record { seconds = seconds; nanoseconds = nanoseconds })), refl)
+parts (Read address) b = (first-none (addressRefusal address), refl)
+parts (Write byte address) b = (first-none (addressRefusal address), refl)
+parts (Advance c) b = (refl, refl)
+parts Deadline b = (refl, refl)
+parts Skip b = (refl, refl)
+parts (Source number level) b = (first-none (sourceRefusal (number .0) level), refl)
+parts (ControllerRead address) b = (refl, refl)
+parts (ControllerWrite byte address) b = (refl, refl)
+parts Output b = (refl, refl)
 
 -- a number that is 0 and is not
 neither : {P : Type 0} (n : ℕ) → n ≡ 0 → eqb n 0 ≡ false → P
@@ -284,10 +197,10 @@ module _ (call : Call) (room : ℕ) where
   valued-refused b f =
       either (eqb (valueRefusal call) 0)
       (λ v. either (ltb room (recordLength call))
-      (λ s. let e : effectOf call b .refusal ≡ boardRefusal call b = rw v at (own-is call b) in
-      (rw (v, s, told-board call b, e), rw (s, e) (first-some (boardRefusal call b) 11 refl)))
+      (λ s. let e : effectOf call b .refusal ≡ boardRefusal call b = rw v at (parts call b .0) in
+      (rw (v, s, parts call b .1, e), rw (s, e) (first-some (boardRefusal call b) 11 refl)))
       (λ s. let e : eqb 0 0 ≡ false = rw (v, s) at f in absurd (false≢true (sym e))))
-      (λ v. let e : effectOf call b .refusal ≡ valueRefusal call = rw v at (own-is call b) in
+      (λ v. let e : effectOf call b .refusal ≡ valueRefusal call = rw v at (parts call b .0) in
       (rw (v, e, v), rw (e, v, v)))
 
 module _ (l : List ℕ) (room : ℕ) where

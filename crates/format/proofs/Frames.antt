@@ -16,44 +16,13 @@ use Rattle.wide.proofs.BigEndian.{length-be, sets-append}
 use Rattle.wide.proofs.Choices.{choose, either, and-parts}
 use Rattle.board.specs.declared.Board.{Board}
 use Rattle.board.specs.declared.calls.Call.{Call}
-use Rattle.board.specs.declared.calls.Call.the-variants.{
-  HostTime,
-  Read,
-  Write,
-  Advance,
-  Deadline,
-  Skip,
-  Source,
-  ControllerRead,
-  ControllerWrite,
-  Output,
-}
+use Rattle.board.specs.declared.calls.Call.the-variants.{HostTime, Read, Write, Advance, Deadline, Skip, Source}
+use Rattle.board.specs.declared.calls.Call.the-variants.{ControllerRead, ControllerWrite, Output}
 use Rattle.board.specs.Calls.{effectOf, CallFits}
-use Rattle.format.specs.Format.{
-  row,
-  table,
-  sum,
-  rowOf,
-  known,
-  valueLength,
-  answerLength,
-  lengthsOf,
-  headerLength,
-  membersAt,
-  membersBytes,
-  answerBytes,
-  recordOf,
-}
-use Rattle.format.specs.Codec.{
-  tagOf,
-  callLength,
-  tagAt,
-  frameRefusal,
-  callOf,
-  callAt,
-  answerRecord,
-  recordLength,
-}
+use Rattle.format.specs.Format.{row, table, sum, rowOf, known, valueLength, answerLength, lengthsOf}
+use Rattle.format.specs.Format.{headerLength, membersAt, membersBytes, answerBytes, recordOf}
+use Rattle.format.specs.Codec.{tagOf, callLength, tagAt, frameRefusal, callOf, callAt, answerRecord}
+use Rattle.format.specs.Codec.{recordLength}
 
 -- ---- bytes behind
 
@@ -108,14 +77,17 @@ by-tag P tag low high p1 p2 p3 p4 p5 p6 p7 p8 p9 p10 =
     at k p n = either (eqb tag k) (λ e. let q : tag ≡ k = eqb-true tag k e in rw q p) n
 
 -- a tag that no arm of the code names has no row
-pub unknown-is : (tag : ℕ) → (tag ≡ 1 → ⊥) → (tag ≡ 2 → ⊥) → (tag ≡ 3 → ⊥) → (tag ≡ 4 → ⊥) → (tag ≡ 5 → ⊥) →
-    (tag ≡ 6 → ⊥) → (tag ≡ 7 → ⊥) → (tag ≡ 8 → ⊥) → (tag ≡ 9 → ⊥) → (tag ≡ 10 → ⊥) →
+pub unknown-is : (tag : ℕ) {A : Type 0} →
+    ((((((((((A × (tag ≡ 1 → ⊥)) × (tag ≡ 2 → ⊥)) × (tag ≡ 3 → ⊥)) × (tag ≡ 4 → ⊥)) × (tag ≡ 5 → ⊥)) × (tag ≡ 6 → ⊥))
+    × (tag ≡ 7 → ⊥)) × (tag ≡ 8 → ⊥)) × (tag ≡ 9 → ⊥)) × (tag ≡ 10 → ⊥)) →
     record { known = false; value = 0; answer = 0 } ≡ lengthsOf tag
-unknown-is tag n1 n2 n3 n4 n5 n6 n7 n8 n9 n10 =
+unknown-is tag r =
     either (ltb 0 tag)
     (λ a. either (ltb tag 11)
     (λ b. absurd
-    (by-tag (λ (t : ℕ). tag ≡ t → ⊥) tag (ltb-true 0 tag a) (ltb-true tag 11 b) n1 n2 n3 n4 n5 n6 n7 n8 n9 n10 refl))
+    (by-tag (λ (t : ℕ). tag ≡ t → ⊥) tag (ltb-true 0 tag a) (ltb-true tag 11 b) (r .0 .0 .0 .0 .0 .0 .0 .0 .0 .1)
+    (r .0 .0 .0 .0 .0 .0 .0 .0 .1) (r .0 .0 .0 .0 .0 .0 .0 .1) (r .0 .0 .0 .0 .0 .0 .1) (r .0 .0 .0 .0 .0 .1)
+    (r .0 .0 .0 .0 .1) (r .0 .0 .0 .1) (r .0 .0 .1) (r .0 .1) (r .1) refl))
     (λ b. rw (a, b, List·getD-eq-default table (row [] []) (ltb-false tag 11 b))))
     (λ a. let h = ltb-false 0 tag a in let z : tag ≡ 0 = omega arith in rw z)
 
