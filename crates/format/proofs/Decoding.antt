@@ -7,7 +7,7 @@ use mathlib.Core.List.{List}
 use lib.ListN.{length, getD}
 use lib.Dec.{leb, ltb, eqb}
 use borrow.Author.Tests.{ltb-false, lt-ltb, le-ltb, leb-true, leb-false, eqb-true, eqb-false, eq-eqb, ne-eqb}
-use borrow.Author.Tests.{not-true, not-false}
+use borrow.Author.Tests.{ltb-true, not-true, not-false}
 use Rattle.wide.specs.Fields.{beAt}
 use Rattle.wide.proofs.Choices.{either, and-parts}
 use Rattle.board.specs.declared.Board.{Board}
@@ -65,8 +65,11 @@ module _ (value : ℕ) (l : List ℕ) (r : Decoded) where
 
 -- ---- each call: n are the lengths of its tag, q the test of its frame
 
-pub value-of : (tag : ℕ) {n : Lengths} → n ≡ lengthsOf tag → n .value ≡ valueLength tag
+value-of : (tag : ℕ) {n : Lengths} → n ≡ lengthsOf tag → n .value ≡ valueLength tag
 value-of tag e = ap (λ (m : Lengths). m .value) e
+
+pub small : (tag : ℕ) {n : Lengths} → ltb (valueLength tag) 256 ≡ true → n ≡ lengthsOf tag → n .value < 256
+small tag {n} t e = ltb-true (n .value) 256 (ap (λ (v : ℕ). ltb v 256) (value-of tag e) ∙ t)
 
 pub answer-of : (tag : ℕ) {n : Lengths} → n ≡ lengthsOf tag → n .answer ≡ answerLength tag
 answer-of tag e = ap (λ (m : Lengths). m .answer) e
@@ -79,8 +82,11 @@ module _ (tag : ℕ) (l : List ℕ) {n : Lengths} {q : Bool} (e : n ≡ lengthsO
       and-parts (eqb (beAt l 1 2) (valueLength tag)) (leb (headerLength + valueLength tag) (length l))
       (ap (λ (v : ℕ). isFramed v l) (sym (value-of tag e)) ∙ sym p ∙ not-false q f)
 
-  pub whole : headerLength + valueLength tag ≤ length l
+  whole : headerLength + valueLength tag ≤ length l
   whole = leb-true (headerLength + valueLength tag) (length l) (tests .1)
+
+  pub within : (k : ℕ) → leb k (headerLength + valueLength tag) ≡ true → k ≤ length l
+  within k t = omega (arith, whole, leb-true k (headerLength + valueLength tag) t)
 
 module _ (call : Call) (l : List ℕ) (room : ℕ) {n : Lengths} {q : Bool} (e : n ≡ lengthsOf (tagOf call))
     (p : q ≡ isFramed (n .value) l) where
@@ -115,37 +121,30 @@ module _ (call : Call) (l : List ℕ) (room : ℕ) {n : Lengths} {q : Bool} (e :
 
 -- ---- the call at the front
 
--- the frame's tests: a call by each, and by the number that they give
-frames : (t₁ t₂ t₃ t₄ : Bool) (d : Decoded) →
-    cond t₁ (refusedBy 2) (cond t₂ (refusedBy 3) (cond t₃ (refusedBy 4) (cond t₄ (refusedBy 5) d)))
-    ≡ cond (eqb (cond t₁ 2 (cond t₂ 3 (cond t₃ 4 (cond t₄ 5 0)))) 0) d
-    (refusedBy (cond t₁ 2 (cond t₂ 3 (cond t₃ 4 (cond t₄ 5 0)))))
-frames true t₂ t₃ t₄ d = refl
-frames false true t₃ t₄ d = refl
-frames false false true t₄ d = refl
-frames false false false true d = refl
-frames false false false false d = refl
+-- the tests of the value: a call by each, and by the number that they give
+frames : (t₁ t₂ : Bool) (d : Decoded) →
+    cond t₁ (refusedBy 4) (cond t₂ (refusedBy 5) d)
+    ≡ cond (eqb (cond t₁ 4 (cond t₂ 5 0)) 0) d (refusedBy (cond t₁ 4 (cond t₂ 5 0)))
+frames true t₂ d = refl
+frames false true d = refl
+frames false false d = refl
 
 module _ (l : List ℕ) (room : ℕ) where
-  decoded-is :
-      cond (ltb (length l) headerLength) (refusedBy 2)
-      (cond (not (known (tagAt l))) (refusedBy 3)
-      (framedAs (valueLength (tagAt l)) (callAt l) l room))
-      ≡ decodedOf l room
-  unfolding frameRefusal framedAs decodedOf
-  decoded-is =
-      frames (ltb (length l) headerLength) (not (known (tagAt l))) (not (eqb (beAt l 1 2) (valueLength (tagAt l))))
-      (ltb (length l - headerLength) (valueLength (tagAt l))) (valued (callAt l) room)
-
   pub decoded-cut : length l < headerLength → refusedBy 2 ≡ decodedOf l room
-  decoded-cut h = rw (lt-ltb (length l) headerLength h) at decoded-is
+  unfolding frameRefusal decodedOf
+  decoded-cut h = rw (lt-ltb (length l) headerLength h)
 
   pub decoded-unknown : headerLength ≤ length l → known (tagAt l) ≡ false → refusedBy 3 ≡ decodedOf l room
-  decoded-unknown h k = rw (le-ltb (length l) headerLength h, k) at decoded-is
+  unfolding frameRefusal decodedOf
+  decoded-unknown h k = rw (le-ltb (length l) headerLength h, k)
 
-  pub decoded-as : headerLength ≤ length l → (tag : ℕ) → tagAt l ≡ tag → known tag ≡ true →
+  pub known-as : headerLength ≤ length l → {tag : ℕ} → tagAt l ≡ tag → known tag ≡ true →
       framedAs (valueLength tag) (callOf tag (membersAt l headerLength (rowOf tag .value))) l room ≡ decodedOf l room
-  decoded-as h tag e k = rw (le-ltb (length l) headerLength h, e, k) at decoded-is
+  unfolding frameRefusal framedAs decodedOf
+  known-as h {tag} e k =
+      rw (le-ltb (length l) headerLength h, e, k)
+      (frames (not (eqb (beAt l 1 2) (valueLength tag))) (ltb (length l - headerLength) (valueLength tag))
+      (valued (callOf tag (membersAt l headerLength (rowOf tag .value))) room))
 
 -- ---- what a caller learns of it
 

@@ -2,7 +2,7 @@
 use mathlib.Core.Path.{refl, ap₂, _∙_}
 use native.Mathlib.Omega.{arith}
 use Rattle.board.specs.declared.calls.Call.the-variants.{ControllerWrite}
-use Rattle.format.proofs.Decoding.{value-of, answer-of, whole, as-unframed, as-short, as-accepted}
+use Rattle.format.proofs.Decoding.{small, within, answer-of, as-unframed, as-short, as-accepted}
 use borrow.Author.Needs.{needs}
 use Rattle.format.proofs.controller_write_at.Statement.{statement}
 use Rattle.format.proofs.controller_write_at.Tie as tie
@@ -10,30 +10,18 @@ use Rattle.format.proofs.controller_write_at.Tie as tie
 pub controller-write-at-spec : {M : Type 1} → statement M
 controller-write-at-spec =
     tie.close
-    (tie.spec (λ c κs. search needs)
-    (λ c κs. (c .before .before .pre, omega (arith, value-of 9 (c .lengths-of .ensures))))
-    (λ c κs. let s = c .before .before in (
-      s .before .before .pre,
-      omega
-          (arith, value-of 9 (s .lengths-of .ensures)),
-    ))
+    (tie.spec (λ c κs. search needs) (λ c κs. (c .before .before .pre, small 9 refl (c .lengths-of .ensures)))
+    (λ c κs. (c .before .before .before .before .pre, small 9 refl (c .before .before .lengths-of .ensures)))
     (λ c. let s = c .before in
     as-unframed (ControllerWrite _ _) _ _ (s .before .before .lengths-of .ensures) (s .before .framed .ensures)
     (c .unframed .ensures) (s .if1 .taken))
     (λ c. omega (arith, answer-of 9 (c .before .before .before .lengths-of .ensures))) (λ c κs. search needs)
     (λ c. let s = c .before .before .before in c .refused .ensures
     ∙ as-short (ControllerWrite _ _) _ _ (s .before .before .lengths-of .ensures) (s .before .framed .ensures)
-    (s .if1 .left) refl refl (c .before .if2 .taken))
-    (λ c κs. omega (
-      arith,
-      whole 9 _ (c .before .before .before .before .lengths-of .ensures)
-          (c .before .before .before .framed .ensures) (c .before .before .if1 .left),
-    ))
-    (λ c κs. omega (
-      arith,
-      whole 9 _ (c .before .before .before .before .before .lengths-of .ensures)
-          (c .before .before .before .before .framed .ensures) (c .before .before .before .if1 .left),
-    ))
+    (s .if1 .left) refl refl (c .before .if2 .taken)) (λ c κs. let s = c .before .before in
+    within 9 _ (s .before .before .lengths-of .ensures) (s .before .framed .ensures) (s .if1 .left) 8 refl)
+    (λ c κs. let s = c .before .before .before in
+    within 9 _ (s .before .before .lengths-of .ensures) (s .before .framed .ensures) (s .if1 .left) 7 refl)
     (λ c κs. search needs) (λ c. let s = c .before .before .before .before .before in c .accepted .ensures
     ∙ as-accepted (ControllerWrite _ _) _ _ (s .before .before .lengths-of .ensures) (s .before .framed .ensures)
     (s .if1 .left) refl refl

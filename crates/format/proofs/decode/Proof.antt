@@ -4,7 +4,7 @@ use Rattle.format.specs.declared.Lengths.{Lengths}
 use Rattle.format.specs.Format.{membersAt}
 use Rattle.format.specs.Codec.{callOf}
 use Rattle.format.proofs.Frames.{unknown-is}
-use Rattle.format.proofs.Decoding.{decoded-cut, decoded-unknown, decoded-as}
+use Rattle.format.proofs.Decoding.{decoded-cut, decoded-unknown, known-as}
 use borrow.Author.Needs.{needs}
 use Rattle.format.proofs.decode.Statement.{statement}
 use Rattle.format.proofs.decode.Tie as tie
@@ -14,31 +14,21 @@ unfolding callOf membersAt
 decode-spec =
     tie.close
     (tie.spec (λ c κs. search needs) (λ c. c .refused .ensures ∙ decoded-cut _ _ (c .before .if1 .taken))
-    (λ c. search needs)
-    (λ c κs. search needs) (λ c κs. search needs) (λ c κs. search needs) (λ c κs. search needs)
+    (λ c. search needs) (λ c κs. search needs) (λ c κs. search needs) (λ c κs. search needs) (λ c κs. search needs)
     (λ c κs. (c .before .before .if1 .left, (refl, (refl, refl))))
-    (λ c κs. (c .before .before .if1 .left, (refl, (refl, refl))))
-    (λ c κs. search needs) (λ c κs. search needs) (λ c κs. search needs)
-    (λ c κs. (c .before .before .if1 .left, (refl, (refl, refl)))) (λ c κs. search needs)
-    (λ c. c .host-time-at .ensures ∙ decoded-as _ _ (c .before .before .before .if1 .left) 1 (c .before .match .keys1)
-    refl)
-    (λ c. c .read-at .ensures ∙ decoded-as _ _ (c .before .before .before .if1 .left) 2 (c .before .match .keys2)
-    refl)
-    (λ c. c .write-at .ensures ∙ decoded-as _ _ (c .before .before .before .if1 .left) 3 (c .before .match .keys3)
-    refl)
-    (λ c. c .advance-at .ensures ∙ decoded-as _ _ (c .before .before .before .if1 .left) 4 (c .before .match .keys4)
-    refl)
-    (λ c. c .bare-at .ensures ∙ decoded-as _ _ (c .before .before .before .if1 .left) 5 (c .before .match .keys5)
-    refl)
-    (λ c. c .bare-at2 .ensures ∙ decoded-as _ _ (c .before .before .before .if1 .left) 6 (c .before .match .keys6)
-    refl)
-    (λ c. c .source-at .ensures ∙ decoded-as _ _ (c .before .before .before .if1 .left) 7 (c .before .match .keys7)
-    refl)
-    (λ c. c .controller-read-at .ensures ∙ decoded-as _ _ (c .before .before .before .if1 .left) 8
+    (λ c κs. (c .before .before .if1 .left, (refl, (refl, refl)))) (λ c κs. search needs) (λ c κs. search needs)
+    (λ c κs. search needs) (λ c κs. (c .before .before .if1 .left, (refl, (refl, refl)))) (λ c κs. search needs)
+    (λ c. c .host-time-at .ensures ∙ known-as _ _ (c .before .before .before .if1 .left) (c .before .match .keys1)
+    refl) (λ c. c .read-at .ensures ∙ known-as _ _ (c .before .before .before .if1 .left) (c .before .match .keys2)
+    refl) (λ c. c .write-at .ensures ∙ known-as _ _ (c .before .before .before .if1 .left) (c .before .match .keys3)
+    refl) (λ c. c .advance-at .ensures ∙ known-as _ _ (c .before .before .before .if1 .left) (c .before .match .keys4)
+    refl) (λ c. c .bare-at .ensures ∙ known-as _ _ (c .before .before .before .if1 .left) (c .before .match .keys5)
+    refl) (λ c. c .bare-at2 .ensures ∙ known-as _ _ (c .before .before .before .if1 .left) (c .before .match .keys6)
+    refl) (λ c. c .source-at .ensures ∙ known-as _ _ (c .before .before .before .if1 .left) (c .before .match .keys7)
+    refl) (λ c. c .controller-read-at .ensures ∙ known-as _ _ (c .before .before .before .if1 .left)
     (c .before .match .keys8) refl)
-    (λ c. c .controller-write-at .ensures ∙ decoded-as _ _ (c .before .before .before .if1 .left) 9
-    (c .before .match .keys9) refl)
-    (λ c. c .bare-at3 .ensures ∙ decoded-as _ _ (c .before .before .before .if1 .left) 10 (c .before .match .keys10)
-    refl)
+    (λ c. c .controller-write-at .ensures ∙ known-as _ _ (c .before .before .before .if1 .left)
+    (c .before .match .keys9) refl) (λ c. c .bare-at3 .ensures ∙ known-as _ _ (c .before .before .before .if1 .left)
+    (c .before .match .keys10) refl)
     (λ c. c .refused2 .ensures ∙ decoded-unknown _ _ (c .before .before .before .if1 .left)
     (ap (λ (n : Lengths). n .known) (sym (unknown-is _ (c .before .match .rest))))))

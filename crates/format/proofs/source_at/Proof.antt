@@ -1,8 +1,8 @@
 -- `source_at` meets its contract. Assumes nothing.
-use mathlib.Core.Path.{ap₂, _∙_}
+use mathlib.Core.Path.{refl, ap₂, _∙_}
 use native.Mathlib.Omega.{arith}
 use Rattle.board.specs.Calls.{sourceRefusal, sourceTo}
-use Rattle.format.proofs.Decoding.{value-of, answer-of, whole, as-unframed, as-own, as-short, as-accepted}
+use Rattle.format.proofs.Decoding.{small, within, answer-of, as-unframed, as-own, as-short, as-accepted}
 use borrow.Author.Needs.{needs}
 use Rattle.format.proofs.source_at.Statement.{statement}
 use Rattle.format.proofs.source_at.Tie as tie
@@ -10,43 +10,27 @@ use Rattle.format.proofs.source_at.Tie as tie
 pub source-at-spec : {M : Type 1} → statement M
 source-at-spec =
     tie.close
-    (tie.spec (λ c κs. search needs)
-    (λ c κs. (c .before .before .pre, omega (arith, value-of 7 (c .lengths-of .ensures))))
-    (λ c κs. let s = c .before .before in (
-      s .before .before .pre,
-      omega
-          (arith, value-of 7 (s .lengths-of .ensures)),
-    ))
+    (tie.spec (λ c κs. search needs) (λ c κs. (c .before .before .pre, small 7 refl (c .lengths-of .ensures)))
+    (λ c κs. (c .before .before .before .before .pre, small 7 refl (c .before .before .lengths-of .ensures)))
     (λ c. let s = c .before in
     as-unframed (sourceTo _ _) _ _ (s .before .before .lengths-of .ensures) (s .before .framed .ensures)
     (c .unframed .ensures) (s .if1 .taken))
-    (λ c κs. omega (
-      arith,
-      whole 7 _ (c .before .before .lengths-of .ensures) (c .before .framed .ensures)
-          (c .if1 .left),
-    ))
-    (λ c κs. omega (
-      arith,
-      whole 7 _ (c .before .before .before .lengths-of .ensures)
-          (c .before .before .framed .ensures) (c .before .if1 .left),
-    ))
+    (λ c κs. within 7 _ (c .before .before .lengths-of .ensures) (c .before .framed .ensures) (c .if1 .left) 4 refl)
+    (λ c κs. let s = c .before in
+    within 7 _ (s .before .before .lengths-of .ensures) (s .before .framed .ensures) (s .if1 .left) 5 refl)
     (λ c κs. search needs) (λ c κs. search needs)
-    (λ c. let u = c .before .before in let s = u .before .before .before in c .refused .ensures
+    (λ c. let u = c .before .before in let s = u .before .before .before in
+    let n = u .before .before .byte-at .ensures in let m = u .before .byte-at2 .ensures in c .refused .ensures
     ∙ as-own (sourceTo _ _) _ _ (s .before .before .lengths-of .ensures) (s .before .framed .ensures) (s .if1 .left)
-    (u .source-refusal .ensures ∙ ap₂ sourceRefusal (u .before .before .byte-at .ensures)
-    (u .before .byte-at2 .ensures))
-    (c .before .if2 .taken))
+    (u .source-refusal .ensures ∙ ap₂ sourceRefusal n m) (c .before .if2 .taken))
     (λ c. omega (arith, answer-of 7 (c .before .before .before .before .before .before .before .lengths-of .ensures)))
-    (λ c κs. search needs)
-    (λ c. let u = c .before .before .before .before in let s = u .before .before .before in c .refused2 .ensures
+    (λ c κs. search needs) (λ c. let u = c .before .before .before .before in let s = u .before .before .before in
+    let n = u .before .before .byte-at .ensures in let m = u .before .byte-at2 .ensures in c .refused2 .ensures
     ∙ as-short (sourceTo _ _) _ _ (s .before .before .lengths-of .ensures) (s .before .framed .ensures) (s .if1 .left)
-    (u .source-refusal .ensures ∙ ap₂ sourceRefusal (u .before .before .byte-at .ensures)
-    (u .before .byte-at2 .ensures))
-    (c .before .before .before .if2 .left) (c .before .if3 .taken)) (λ c κs. search needs)
-    (λ c. let u = c .before .before .before .before in let s = u .before .before .before in c .accepted .ensures
+    (u .source-refusal .ensures ∙ ap₂ sourceRefusal n m) (c .before .before .before .if2 .left)
+    (c .before .if3 .taken)) (λ c κs. search needs)
+    (λ c. let u = c .before .before .before .before in let s = u .before .before .before in
+    let n = u .before .before .byte-at .ensures in let m = u .before .byte-at2 .ensures in c .accepted .ensures
     ∙ as-accepted (sourceTo _ _) _ _ (s .before .before .lengths-of .ensures) (s .before .framed .ensures)
-    (s .if1 .left)
-    (u .source-refusal .ensures ∙ ap₂ sourceRefusal (u .before .before .byte-at .ensures)
-    (u .before .byte-at2 .ensures))
-    (c .before .before .before .if2 .left) (ap₂ sourceTo (u .before .before .byte-at .ensures)
-    (u .before .byte-at2 .ensures)) (c .before .if3 .left)))
+    (s .if1 .left) (u .source-refusal .ensures ∙ ap₂ sourceRefusal n m) (c .before .before .before .if2 .left)
+    (ap₂ sourceTo n m) (c .before .if3 .left)))
