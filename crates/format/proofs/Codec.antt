@@ -22,30 +22,20 @@ tag-first l = omega arith
 
 -- ---- a call in bytes, decoded
 
-arguments-fit : (call : Call) → CallFits call → Fit (rowOf (tagOf call) .value) (argumentsOf call)
-arguments-fit (HostTime nanoseconds seconds) h = h .1 ▸ h .0 ▸ ended
-arguments-fit (Read address) h = h ▸ ended
-arguments-fit (Write byte address) h = h .1 ▸ h .0 ▸ ended
-arguments-fit (Advance c) h = h ▸ ended
-arguments-fit Deadline h = ended
-arguments-fit Skip h = ended
-arguments-fit (Source number level) h = h .0 ▸ h .1 ▸ ended
-arguments-fit (ControllerRead address) h = h ▸ ended
-arguments-fit (ControllerWrite byte address) h = h .1 ▸ h .0 ▸ ended
-arguments-fit Output h = ended
-
-call-of : (call : Call) → callOf (tagOf call) (argumentsOf call) ≡ call
+-- a call's members fit the row's widths, and with its tag they are the call
+arguments-fit : (call : Call) → CallFits call →
+    Fit (rowOf (tagOf call) .value) (argumentsOf call) × (callOf (tagOf call) (argumentsOf call) ≡ call)
 unfolding callOf
-call-of (HostTime nanoseconds seconds) = refl
-call-of (Read address) = refl
-call-of (Write byte address) = refl
-call-of (Advance c) = refl
-call-of Deadline = refl
-call-of Skip = refl
-call-of (Source number level) = refl
-call-of (ControllerRead address) = refl
-call-of (ControllerWrite byte address) = refl
-call-of Output = refl
+arguments-fit (HostTime nanoseconds seconds) h = (h .1 ▸ h .0 ▸ ended, refl)
+arguments-fit (Read address) h = (h ▸ ended, refl)
+arguments-fit (Write byte address) h = (h .1 ▸ h .0 ▸ ended, refl)
+arguments-fit (Advance c) h = (h ▸ ended, refl)
+arguments-fit Deadline h = (ended, refl)
+arguments-fit Skip h = (ended, refl)
+arguments-fit (Source number level) h = (h .0 ▸ h .1 ▸ ended, refl)
+arguments-fit (ControllerRead address) h = (h ▸ ended, refl)
+arguments-fit (ControllerWrite byte address) h = (h .1 ▸ h .0 ▸ ended, refl)
+arguments-fit Output h = (ended, refl)
 
 module _ (call : Call) (fits : CallFits call) (m : List ℕ) where
   abbrev widths : List ℕ
@@ -61,7 +51,7 @@ module _ (call : Call) (fits : CallFits call) (m : List ℕ) where
       ap (λ (l : List ℕ). membersAt (l ++ m) 0 (1 ∷ 2 ∷ widths))
       (record-members (tagOf call) widths (argumentsOf call))
       ∙ members-back (1 ∷ 2 ∷ widths) (tagOf call ∷ sum widths ∷ argumentsOf call)
-      (tag-below call ▸ omega (arith, value-below call) ▸ arguments-fit call fits) [] m
+      (tag-below call ▸ omega (arith, value-below call) ▸ arguments-fit call fits .0) [] m
 
   tag-there : tagAt there ≡ tagOf call
   unfolding membersAt
@@ -97,7 +87,7 @@ module _ (call : Call) (fits : CallFits call) (m : List ℕ) where
       le-ltb (length there) headerLength (omega (arith, whole-there)),
       le-ltb (length there - headerLength) (valueLength (tagOf call)) (omega (arith, whole-there)),
     ),
-    rw (tag-there, members-there) (call-of call),
+    rw (tag-there, members-there) (arguments-fit call fits .1),
   )
 
 -- ---- the bytes of a call that is decoded
