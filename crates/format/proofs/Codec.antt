@@ -68,27 +68,18 @@ module _ (call : Call) (fits : CallFits call) (m : List ℕ) where
   whole-there : headerLength + valueLength (tagOf call) ≤ length there
   unfolding callBytes
   whole-there =
-      omega (
-        arith,
-        length-append (callBytes call) m,
-        record-length (tagOf call) (membersBytes widths (argumentsOf call)),
-        members-length widths (argumentsOf call),
-      )
+      let r = record-length (tagOf call) (membersBytes widths (argumentsOf call)) in
+      omega (arith, r, length-append (callBytes call) m, members-length widths (argumentsOf call))
 
   -- A call whose members fit their widths is decoded from its bytes, whatever stands behind them.
   pub decode-encode : (frameRefusal (callBytes call ++ m) ≡ 0) × (callAt (callBytes call ++ m) ≡ call)
   unfolding frameRefusal
-  decode-encode = (
-    rw (
-      tag-there,
-      length-there,
-      tag-known call,
-      eq-eqb (valueLength (tagOf call)) (valueLength (tagOf call)) refl,
-      le-ltb (length there) headerLength (omega (arith, whole-there)),
-      le-ltb (length there - headerLength) (valueLength (tagOf call)) (omega (arith, whole-there)),
-    ),
-    rw (tag-there, members-there) (arguments-fit call fits .1),
-  )
+  decode-encode =
+      let e = eq-eqb (valueLength (tagOf call)) (valueLength (tagOf call)) refl in
+      let h = le-ltb (length there) headerLength (omega (arith, whole-there)) in
+      let v = le-ltb (length there - headerLength) (valueLength (tagOf call)) (omega (arith, whole-there)) in
+      let c : callAt there ≡ call = rw (tag-there, members-there) (arguments-fit call fits .1) in
+      (rw (tag-there, length-there, tag-known call, e, h, v), c)
 
 -- ---- the bytes of a call that is decoded
 
@@ -99,11 +90,9 @@ module _ (l : List ℕ) (bytes : Bytes l) (f : frameRefusal l ≡ 0) where
   arguments-are : argumentsOf (callAt l) ≡ membersAt l headerLength row
   unfolding callOf membersAt
   arguments-are =
-      by-tag
-      (λ (t : ℕ). argumentsOf (callOf t (membersAt l headerLength (rowOf t .value)))
-      ≡ membersAt l headerLength (rowOf t .value)) (tagAt l) (framed l f .1 .0) (framed l f .1 .1) refl refl refl refl
-      refl
-      refl refl refl refl refl
+      let at : ℕ → List ℕ = λ t. membersAt l headerLength (rowOf t .value) in
+      by-tag (λ (t : ℕ). argumentsOf (callOf t (at t)) ≡ at t) (tagAt l) (framed l f .1 .0) (framed l f .1 .1)
+      refl refl refl refl refl refl refl refl refl refl
 
   -- The bytes at the front of a list that a decoded call uses are that call's bytes.
   pub encode-decode : take (callLength (callAt l)) l ≡ callBytes (callAt l)
@@ -116,5 +105,4 @@ module _ (l : List ℕ) (bytes : Bytes l) (f : frameRefusal l ≡ 0) where
       ∙ ap₂ (λ (t n : ℕ). membersBytes (1 ∷ 2 ∷ row) (t ∷ n ∷ membersAt l headerLength row)) (tag-first l)
       (told-is l f)
       ∙ sym (record-members (tagAt l) row (membersAt l headerLength row))
-      ∙ sym
-      (ap₂ (λ (t : ℕ) (ms : List ℕ). recordOf t (membersBytes (rowOf t .value) ms)) (tag-is l f) arguments-are)
+      ∙ sym (ap₂ (λ (t : ℕ) (ms : List ℕ). recordOf t (membersBytes (rowOf t .value) ms)) (tag-is l f) arguments-are)

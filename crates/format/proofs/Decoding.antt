@@ -65,14 +65,15 @@ module _ (value : ℕ) (l : List ℕ) (r : Decoded) where
 
 -- ---- each call: n are the lengths of its tag, q the test of its frame
 
-value-of : (tag : ℕ) {n : Lengths} → n ≡ lengthsOf tag → n .value ≡ valueLength tag
-value-of tag e = ap (λ (m : Lengths). m .value) e
+module _ (tag : ℕ) (n : Lengths) (e : n ≡ lengthsOf tag) where
+  pub value-of : n .value ≡ valueLength tag
+  value-of = ap (λ (m : Lengths). m .value) e
+
+  pub answer-of : n .answer ≡ answerLength tag
+  answer-of = ap (λ (m : Lengths). m .answer) e
 
 pub small : (tag : ℕ) {n : Lengths} → ltb (valueLength tag) 256 ≡ true → n ≡ lengthsOf tag → n .value < 256
-small tag {n} t e = ltb-true (n .value) 256 (ap (λ (v : ℕ). ltb v 256) (value-of tag e) ∙ t)
-
-pub answer-of : (tag : ℕ) {n : Lengths} → n ≡ lengthsOf tag → n .answer ≡ answerLength tag
-answer-of tag e = ap (λ (m : Lengths). m .answer) e
+small tag {n} t e = ltb-true (n .value) 256 (ap (λ (v : ℕ). ltb v 256) (value-of tag n e) ∙ t)
 
 -- header and value are whole where the test holds
 module _ (tag : ℕ) (l : List ℕ) {n : Lengths} {q : Bool} (e : n ≡ lengthsOf tag) (p : q ≡ isFramed (n .value) l)
@@ -80,7 +81,7 @@ module _ (tag : ℕ) (l : List ℕ) {n : Lengths} {q : Bool} (e : n ≡ lengthsO
   tests : (eqb (beAt l 1 2) (valueLength tag) ≡ true) × (leb (headerLength + valueLength tag) (length l) ≡ true)
   tests =
       and-parts (eqb (beAt l 1 2) (valueLength tag)) (leb (headerLength + valueLength tag) (length l))
-      (ap (λ (v : ℕ). isFramed v l) (sym (value-of tag e)) ∙ sym p ∙ not-false q f)
+      (ap (λ (v : ℕ). isFramed v l) (sym (value-of tag n e)) ∙ sym p ∙ not-false q f)
 
   whole : headerLength + valueLength tag ≤ length l
   whole = leb-true (headerLength + valueLength tag) (length l) (tests .1)
@@ -95,7 +96,7 @@ module _ (call : Call) (l : List ℕ) (room : ℕ) {n : Lengths} {q : Bool} (e :
 
   pub as-unframed : {r : Decoded} → Unframed (n .value) l r → not q ≡ true → r ≡ here
   as-unframed u f =
-      u (sym p ∙ not-true q f) call room ∙ ap (λ (v : ℕ). framedAs v call l room) (value-of (tagOf call) e)
+      u (sym p ∙ not-true q f) call room ∙ ap (λ (v : ℕ). framedAs v call l room) (value-of (tagOf call) n e)
 
   module _ (f : not q ≡ false) {own : ℕ} (o : own ≡ valueRefusal call) where
     as-framed : here ≡ valued call room
@@ -111,13 +112,13 @@ module _ (call : Call) (l : List ℕ) (room : ℕ) {n : Lengths} {q : Bool} (e :
     module _ (z : own ≡ 0) where
       pub as-short : room < headerLength + n .answer → shortOf call ≡ here
       unfolding valued roomed
-      as-short h = rw (as-framed, ← o, z, ← answer-of (tagOf call) e, lt-ltb room (headerLength + n .answer) h)
+      as-short h = rw (as-framed, ← o, z, ← answer-of (tagOf call) n e, lt-ltb room (headerLength + n .answer) h)
 
       pub as-accepted : {given : Call} → given ≡ call → headerLength + n .answer ≤ room →
           record { refusal = 0; call = given } ≡ here
       unfolding valued roomed
       as-accepted g h =
-          rw (as-framed, ← o, z, ← answer-of (tagOf call) e, le-ltb room (headerLength + n .answer) h, g)
+          rw (as-framed, ← o, z, ← answer-of (tagOf call) n e, le-ltb room (headerLength + n .answer) h, g)
 
 -- ---- the call at the front
 
@@ -138,10 +139,10 @@ module _ (l : List ℕ) (room : ℕ) where
   unfolding frameRefusal decodedOf
   decoded-unknown h k = rw (le-ltb (length l) headerLength h, k)
 
-  pub known-as : headerLength ≤ length l → {tag : ℕ} → tagAt l ≡ tag → known tag ≡ true →
+  pub as-tag : headerLength ≤ length l → {tag : ℕ} → tagAt l ≡ tag → known tag ≡ true →
       framedAs (valueLength tag) (callOf tag (membersAt l headerLength (rowOf tag .value))) l room ≡ decodedOf l room
   unfolding frameRefusal framedAs decodedOf
-  known-as h {tag} e k =
+  as-tag h {tag} e k =
       rw (le-ltb (length l) headerLength h, e, k)
       (frames (not (eqb (beAt l 1 2) (valueLength tag))) (ltb (length l - headerLength) (valueLength tag))
       (valued (callOf tag (membersAt l headerLength (rowOf tag .value))) room))

@@ -17,7 +17,7 @@ bare-at-spec =
     as-unframed (s .args .call) _ _ (s .pre .1 .1 .0) (c .before .before .framed .ensures) (c .unframed .ensures)
     (c .before .if1 .taken))
     (λ c. let s = c .before .before .before in
-    omega (arith, answer-of (tagOf (s .args .call)) (s .pre .1 .1 .0), answer-below (s .args .call)))
+    omega (arith, answer-of (tagOf (s .args .call)) _ (s .pre .1 .1 .0), answer-below (s .args .call)))
     (λ c. let s = c .before .before .before .before in
     ap (λ (x : Call). record { refusal = 11; call = x }) (sym (s .pre .1 .1 .1))
     ∙ as-short (s .args .call) _ _ (s .pre .1 .1 .0) (c .before .before .framed .ensures) (c .before .if1 .left)

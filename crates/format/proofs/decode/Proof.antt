@@ -4,7 +4,7 @@ use Rattle.format.specs.declared.Lengths.{Lengths}
 use Rattle.format.specs.Format.{membersAt}
 use Rattle.format.specs.Codec.{callOf}
 use Rattle.format.proofs.Frames.{unknown-is}
-use Rattle.format.proofs.Decoding.{decoded-cut, decoded-unknown, known-as}
+use Rattle.format.proofs.Decoding.{decoded-cut, decoded-unknown, as-tag}
 use borrow.Author.Needs.{needs}
 use Rattle.format.proofs.decode.Statement.{statement}
 use Rattle.format.proofs.decode.Tie as tie
@@ -18,17 +18,17 @@ decode-spec =
     (λ c κs. (c .before .before .if1 .left, (refl, (refl, refl))))
     (λ c κs. (c .before .before .if1 .left, (refl, (refl, refl)))) (λ c κs. search needs) (λ c κs. search needs)
     (λ c κs. search needs) (λ c κs. (c .before .before .if1 .left, (refl, (refl, refl)))) (λ c κs. search needs)
-    (λ c. c .host-time-at .ensures ∙ known-as _ _ (c .before .before .before .if1 .left) (c .before .match .keys1)
-    refl) (λ c. c .read-at .ensures ∙ known-as _ _ (c .before .before .before .if1 .left) (c .before .match .keys2)
-    refl) (λ c. c .write-at .ensures ∙ known-as _ _ (c .before .before .before .if1 .left) (c .before .match .keys3)
-    refl) (λ c. c .advance-at .ensures ∙ known-as _ _ (c .before .before .before .if1 .left) (c .before .match .keys4)
-    refl) (λ c. c .bare-at .ensures ∙ known-as _ _ (c .before .before .before .if1 .left) (c .before .match .keys5)
-    refl) (λ c. c .bare-at2 .ensures ∙ known-as _ _ (c .before .before .before .if1 .left) (c .before .match .keys6)
-    refl) (λ c. c .source-at .ensures ∙ known-as _ _ (c .before .before .before .if1 .left) (c .before .match .keys7)
-    refl) (λ c. c .controller-read-at .ensures ∙ known-as _ _ (c .before .before .before .if1 .left)
+    (λ c. c .host-time-at .ensures ∙ as-tag _ _ (c .before .before .before .if1 .left) (c .before .match .keys1) refl)
+    (λ c. c .read-at .ensures ∙ as-tag _ _ (c .before .before .before .if1 .left) (c .before .match .keys2) refl)
+    (λ c. c .write-at .ensures ∙ as-tag _ _ (c .before .before .before .if1 .left) (c .before .match .keys3) refl)
+    (λ c. c .advance-at .ensures ∙ as-tag _ _ (c .before .before .before .if1 .left) (c .before .match .keys4) refl)
+    (λ c. c .bare-at .ensures ∙ as-tag _ _ (c .before .before .before .if1 .left) (c .before .match .keys5) refl)
+    (λ c. c .bare-at2 .ensures ∙ as-tag _ _ (c .before .before .before .if1 .left) (c .before .match .keys6) refl)
+    (λ c. c .source-at .ensures ∙ as-tag _ _ (c .before .before .before .if1 .left) (c .before .match .keys7) refl)
+    (λ c. c .controller-read-at .ensures ∙ as-tag _ _ (c .before .before .before .if1 .left)
     (c .before .match .keys8) refl)
-    (λ c. c .controller-write-at .ensures ∙ known-as _ _ (c .before .before .before .if1 .left)
-    (c .before .match .keys9) refl) (λ c. c .bare-at3 .ensures ∙ known-as _ _ (c .before .before .before .if1 .left)
-    (c .before .match .keys10) refl)
+    (λ c. c .controller-write-at .ensures ∙ as-tag _ _ (c .before .before .before .if1 .left)
+    (c .before .match .keys9) refl)
+    (λ c. c .bare-at3 .ensures ∙ as-tag _ _ (c .before .before .before .if1 .left) (c .before .match .keys10) refl)
     (λ c. c .refused2 .ensures ∙ decoded-unknown _ _ (c .before .before .before .if1 .left)
     (ap (λ (n : Lengths). n .known) (sym (unknown-is _ (c .before .match .rest))))))

@@ -21,7 +21,7 @@ host-time-at-spec =
     c .refused .ensures
     ∙ as-own (HostTime _ _) _ _ (s .before .before .lengths-of .ensures) (s .before .framed .ensures) (s .if1 .left)
     (u .host-time-refusal .ensures ∙ ap hostTimeRefusal (u .before .host-at .ensures)) (c .before .if2 .taken))
-    (λ c. omega (arith, answer-of 1 (c .before .before .before .before .before .before .lengths-of .ensures)))
+    (λ c. omega (arith, answer-of 1 _ (c .before .before .before .before .before .before .lengths-of .ensures)))
     (λ c κs. search needs) (λ c. let u = c .before .before .before .before in let s = u .before .before in
     c .refused2 .ensures
     ∙ as-short (HostTime _ _) _ _ (s .before .before .lengths-of .ensures) (s .before .framed .ensures) (s .if1 .left)

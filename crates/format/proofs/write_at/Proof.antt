@@ -21,7 +21,7 @@ write-at-spec =
     c .refused .ensures ∙ as-own (Write _ _) _ _ (s .before .before .lengths-of .ensures) (s .before .framed .ensures)
     (s .if1 .left) (u .address-refusal .ensures ∙ ap addressRefusal (u .before .address-at .ensures))
     (c .before .if2 .taken))
-    (λ c. omega (arith, answer-of 3 (c .before .before .before .before .before .before .lengths-of .ensures)))
+    (λ c. omega (arith, answer-of 3 _ (c .before .before .before .before .before .before .lengths-of .ensures)))
     (λ c κs. search needs) (λ c. let u = c .before .before .before .before in let s = u .before .before in
     c .refused2 .ensures
     ∙ as-short (Write _ _) _ _ (s .before .before .lengths-of .ensures) (s .before .framed .ensures) (s .if1 .left)
