@@ -53,17 +53,13 @@ module _ (call : Call) (fits : CallFits call) (m : List ℕ) where
       ∙ members-back (1 ∷ 2 ∷ widths) (tagOf call ∷ sum widths ∷ argumentsOf call)
       (tag-below call ▸ omega (arith, value-below call) ▸ arguments-fit call fits .0) [] m
 
-  tag-there : tagAt there ≡ tagOf call
+  parts :
+      ((tagAt there ≡ tagOf call) × (beAt there 1 2 ≡ valueLength (tagOf call)))
+      × (membersAt there headerLength widths ≡ argumentsOf call)
   unfolding membersAt
-  tag-there = sym (tag-first there) ∙ ap (λ (l : List ℕ). getD l 0 0) headed
-
-  length-there : beAt there 1 2 ≡ valueLength (tagOf call)
-  unfolding membersAt
-  length-there = ap (λ (l : List ℕ). getD l 1 0) headed
-
-  members-there : membersAt there headerLength widths ≡ argumentsOf call
-  unfolding membersAt
-  members-there = ap (drop 2) headed
+  parts =
+      let t = sym (tag-first there) ∙ ap (λ (l : List ℕ). getD l 0 0) headed in
+      ((t, ap (λ (l : List ℕ). getD l 1 0) headed), ap (drop 2) headed)
 
   whole-there : headerLength + valueLength (tagOf call) ≤ length there
   unfolding callBytes
@@ -78,8 +74,8 @@ module _ (call : Call) (fits : CallFits call) (m : List ℕ) where
       let e = eq-eqb (valueLength (tagOf call)) (valueLength (tagOf call)) refl in
       let h = le-ltb (length there) headerLength (omega (arith, whole-there)) in
       let v = le-ltb (length there - headerLength) (valueLength (tagOf call)) (omega (arith, whole-there)) in
-      let c : callAt there ≡ call = rw (tag-there, members-there) (arguments-fit call fits .1) in
-      (rw (tag-there, length-there, tag-known call, e, h, v), c)
+      let c : callAt there ≡ call = rw (parts .0 .0, parts .1) (arguments-fit call fits .1) in
+      (rw (parts .0 .0, parts .0 .1, tag-known call, e, h, v), c)
 
 -- ---- the bytes of a call that is decoded
 

@@ -34,34 +34,22 @@ told-length l a b value p q f g h =
     (λ e. let m = eqb-true (a + 256 * b) (256 * value) e in e ∙ sym (eq-eqb (beAt l 1 2) value (omega arith)))
     (λ e. e ∙ sym (ne-eqb (beAt l 1 2) value (λ n. eqb-false (a + 256 * b) (256 * value) e (omega arith))))
 
+-- the two tests as one
+module _ (value : ℕ) (l : List ℕ) where
+  pub framed-wrong : not (eqb (beAt l 1 2) value) ≡ true → false ≡ isFramed value l
+  framed-wrong t = rw (not-true (eqb (beAt l 1 2) value) t)
+
+  pub framed-right : not (eqb (beAt l 1 2) value) ≡ false → leb (headerLength + value) (length l) ≡ isFramed value l
+  framed-right t = rw (not-false (eqb (beAt l 1 2) value) t)
+
 -- the value is cut where it is not whole
-cut-is : (l : List ℕ) (value : ℕ) → headerLength ≤ length l →
-    ltb (length l - headerLength) value ≡ not (leb (headerLength + value) (length l))
-cut-is l value h =
-    either (leb (headerLength + value) (length l))
-    (λ e. let m = leb-true (headerLength + value) (length l) e in
-    rw e (le-ltb (length l - headerLength) value (omega arith)))
-    (λ e. let m = leb-false (headerLength + value) (length l) e in
-    rw e (lt-ltb (length l - headerLength) value (omega arith)))
-
-pub framed-wrong : (value : ℕ) (l : List ℕ) → not (eqb (beAt l 1 2) value) ≡ true → false ≡ isFramed value l
-framed-wrong value l t = rw (not-true (eqb (beAt l 1 2) value) t)
-
-pub framed-right : (value : ℕ) (l : List ℕ) → not (eqb (beAt l 1 2) value) ≡ false →
-    leb (headerLength + value) (length l) ≡ isFramed value l
-framed-right value l t = rw (not-false (eqb (beAt l 1 2) value) t)
-
-module _ (value : ℕ) (l : List ℕ) (r : Decoded) where
-  pub unframed-length : not (eqb (beAt l 1 2) value) ≡ true → r ≡ refusedBy 4 → Unframed value l r
-  unfolding framedAs
-  unframed-length t e f call room = rw t e
-
-  pub unframed-value : headerLength ≤ length l → not (eqb (beAt l 1 2) value) ≡ false → r ≡ refusedBy 5 →
-      Unframed value l r
-  unfolding framedAs
-  unframed-value h t e f call room =
-      let s : leb (headerLength + value) (length l) ≡ false = rw (not-false (eqb (beAt l 1 2) value) t) at f in
-      rw (t, cut-is l value h, s) e
+pub unframed-value : (value : ℕ) (l : List ℕ) (r : Decoded) → headerLength ≤ length l →
+    not (eqb (beAt l 1 2) value) ≡ false → r ≡ refusedBy 5 → Unframed value l r
+unfolding framedAs
+unframed-value value l r h t e f call room =
+    let s : leb (headerLength + value) (length l) ≡ false = rw (not-false (eqb (beAt l 1 2) value) t) at f in
+    let m = leb-false (headerLength + value) (length l) s in
+    rw (t, lt-ltb (length l - headerLength) value (omega arith)) e
 
 -- ---- each call: n are the lengths of its tag, q the test of its frame
 
@@ -247,13 +235,9 @@ pub clear : (b : Board) (l : List ℕ) (room : ℕ) → refusalAt b l room ≡ 0
 unfolding refusalAt
 clear b l room z =
     let p = first-clear (frameRefusal l) _ z in
-    let q = first-clear (effectOf (callAt l) b .refusal) (cond (ltb room (recordLength (callAt l))) answerTooLong 0)
-    (p .1) in
-    record {
-      frame = p .0;
-      own = q .0;
-      fits =
-          either (ltb room (recordLength (callAt l)))
-          (λ s. let e : _≡_ {A = ℕ} 11 0 = rw s at (q .1) in absurd (omega arith))
-          (λ s. ltb-false room (recordLength (callAt l)) s);
-    }
+    let q = first-clear (effectOf (callAt l) b .refusal) _ (p .1) in
+    let room-is : recordLength (callAt l) ≤ room =
+    either (ltb room (recordLength (callAt l)))
+    (λ s. let e : _≡_ {A = ℕ} 11 0 = rw s at (q .1) in absurd (omega arith))
+    (λ s. ltb-false room (recordLength (callAt l)) s) in
+    record { frame = p .0; own = q .0; fits = room-is }
