@@ -131,8 +131,7 @@ module _ (l : List ℕ) (e : frameRefusal l ≡ 0) where
 
     pub call-before : callAt (l ++ m) ≡ callAt l
     call-before =
-        rw tag-before
-        (ap (callOf (tagAt l)) (members-before l m headerLength (rowOf (tagAt l) .value) (framed .0)))
+        rw tag-before (ap (callOf (tagAt l)) (members-before l m headerLength (rowOf (tagAt l) .value) (framed .0)))
 
   -- a call's tag is the one that stands there
   pub tag-is : tagOf (callAt l) ≡ tagAt l
@@ -218,8 +217,7 @@ sets-front l vs h = simp zero-add at (sets-eq vs l 0 (simp zero-add h))
 -- a record is its value and three bytes
 pub record-length : (tag : ℕ) (value : List ℕ) → length (recordOf tag value) ≡ 3 + length value
 unfolding recordOf
-record-length tag value =
-    simp (length-append, length-be) (omega arith)
+record-length tag value = simp (length-append, length-be) (omega arith)
 
 -- ---- the bytes of members
 
