@@ -7,41 +7,13 @@ use lib.ListN.{length, getD, take, drop, length-append}
 use borrow.Author.Tests.{le-ltb, eq-eqb}
 use Rattle.wide.specs.Fields.{beAt}
 use Rattle.board.specs.declared.calls.Call.{Call}
-use Rattle.board.specs.declared.calls.Call.the-variants.{
-  HostTime,
-  Read,
-  Write,
-  Advance,
-  Deadline,
-  Skip,
-  Source,
-  ControllerRead,
-  ControllerWrite,
-  Output,
-}
+use Rattle.board.specs.declared.calls.Call.the-variants.{HostTime, Read, Write, Advance, Deadline, Skip, Source}
+use Rattle.board.specs.declared.calls.Call.the-variants.{ControllerRead, ControllerWrite, Output}
 use Rattle.board.specs.Calls.{CallFits}
 use Rattle.format.specs.Format.{sum, rowOf, valueLength, headerLength, membersAt, membersBytes, recordOf}
-use Rattle.format.specs.Codec.{
-  tagOf,
-  argumentsOf,
-  callBytes,
-  callLength,
-  tagAt,
-  frameRefusal,
-  callOf,
-  callAt,
-}
-use Rattle.format.proofs.Frames.{
-  by-tag,
-  framed,
-  told-is,
-  tag-is,
-  tag-below,
-  tag-known,
-  value-below,
-  record-length,
-  members-length,
-}
+use Rattle.format.specs.Codec.{tagOf, argumentsOf, callBytes, callLength, tagAt, frameRefusal, callOf, callAt}
+use Rattle.format.proofs.Frames.{by-tag, framed, told-is, tag-is, tag-below, tag-known, value-below}
+use Rattle.format.proofs.Frames.{record-length, members-length}
 use Rattle.format.proofs.Members.{Bytes, Fit, ended, _▸_, members-back, members-of, record-members}
 
 tag-first : (l : List ℕ) → beAt l 0 1 ≡ tagAt l
@@ -50,30 +22,20 @@ tag-first l = omega arith
 
 -- ---- a call in bytes, decoded
 
-arguments-fit : (call : Call) → CallFits call → Fit (rowOf (tagOf call) .value) (argumentsOf call)
-arguments-fit (HostTime nanoseconds seconds) h = h .1 ▸ h .0 ▸ ended
-arguments-fit (Read address) h = h ▸ ended
-arguments-fit (Write byte address) h = h .1 ▸ h .0 ▸ ended
-arguments-fit (Advance c) h = h ▸ ended
-arguments-fit Deadline h = ended
-arguments-fit Skip h = ended
-arguments-fit (Source number level) h = h .0 ▸ h .1 ▸ ended
-arguments-fit (ControllerRead address) h = h ▸ ended
-arguments-fit (ControllerWrite byte address) h = h .1 ▸ h .0 ▸ ended
-arguments-fit Output h = ended
-
-call-of : (call : Call) → callOf (tagOf call) (argumentsOf call) ≡ call
+-- a call's members fit the row's widths, and with its tag they are the call
+arguments-fit : (call : Call) → CallFits call →
+    Fit (rowOf (tagOf call) .value) (argumentsOf call) × (callOf (tagOf call) (argumentsOf call) ≡ call)
 unfolding callOf
-call-of (HostTime nanoseconds seconds) = refl
-call-of (Read address) = refl
-call-of (Write byte address) = refl
-call-of (Advance c) = refl
-call-of Deadline = refl
-call-of Skip = refl
-call-of (Source number level) = refl
-call-of (ControllerRead address) = refl
-call-of (ControllerWrite byte address) = refl
-call-of Output = refl
+arguments-fit (HostTime nanoseconds seconds) h = (h .1 ▸ h .0 ▸ ended, refl)
+arguments-fit (Read address) h = (h ▸ ended, refl)
+arguments-fit (Write byte address) h = (h .1 ▸ h .0 ▸ ended, refl)
+arguments-fit (Advance c) h = (h ▸ ended, refl)
+arguments-fit Deadline h = (ended, refl)
+arguments-fit Skip h = (ended, refl)
+arguments-fit (Source number level) h = (h .0 ▸ h .1 ▸ ended, refl)
+arguments-fit (ControllerRead address) h = (h ▸ ended, refl)
+arguments-fit (ControllerWrite byte address) h = (h .1 ▸ h .0 ▸ ended, refl)
+arguments-fit Output h = (ended, refl)
 
 module _ (call : Call) (fits : CallFits call) (m : List ℕ) where
   abbrev widths : List ℕ
@@ -89,44 +51,31 @@ module _ (call : Call) (fits : CallFits call) (m : List ℕ) where
       ap (λ (l : List ℕ). membersAt (l ++ m) 0 (1 ∷ 2 ∷ widths))
       (record-members (tagOf call) widths (argumentsOf call))
       ∙ members-back (1 ∷ 2 ∷ widths) (tagOf call ∷ sum widths ∷ argumentsOf call)
-      (tag-below call ▸ omega (arith, value-below call) ▸ arguments-fit call fits) [] m
+      (tag-below call ▸ omega (arith, value-below call) ▸ arguments-fit call fits .0) [] m
 
-  tag-there : tagAt there ≡ tagOf call
+  parts :
+      ((tagAt there ≡ tagOf call) × (beAt there 1 2 ≡ valueLength (tagOf call)))
+      × (membersAt there headerLength widths ≡ argumentsOf call)
   unfolding membersAt
-  tag-there = sym (tag-first there) ∙ ap (λ (l : List ℕ). getD l 0 0) headed
-
-  length-there : beAt there 1 2 ≡ valueLength (tagOf call)
-  unfolding membersAt
-  length-there = ap (λ (l : List ℕ). getD l 1 0) headed
-
-  members-there : membersAt there headerLength widths ≡ argumentsOf call
-  unfolding membersAt
-  members-there = ap (drop 2) headed
+  parts =
+      let t = sym (tag-first there) ∙ ap (λ (l : List ℕ). getD l 0 0) headed in
+      ((t, ap (λ (l : List ℕ). getD l 1 0) headed), ap (drop 2) headed)
 
   whole-there : headerLength + valueLength (tagOf call) ≤ length there
   unfolding callBytes
   whole-there =
-      omega (
-        arith,
-        length-append (callBytes call) m,
-        record-length (tagOf call) (membersBytes widths (argumentsOf call)),
-        members-length widths (argumentsOf call),
-      )
+      let r = record-length (tagOf call) (membersBytes widths (argumentsOf call)) in
+      omega (arith, r, length-append (callBytes call) m, members-length widths (argumentsOf call))
 
   -- A call whose members fit their widths is decoded from its bytes, whatever stands behind them.
   pub decode-encode : (frameRefusal (callBytes call ++ m) ≡ 0) × (callAt (callBytes call ++ m) ≡ call)
   unfolding frameRefusal
-  decode-encode = (
-    rw (
-      tag-there,
-      length-there,
-      tag-known call,
-      eq-eqb (valueLength (tagOf call)) (valueLength (tagOf call)) refl,
-      le-ltb (length there) headerLength (omega (arith, whole-there)),
-      le-ltb (length there - headerLength) (valueLength (tagOf call)) (omega (arith, whole-there)),
-    ),
-    rw (tag-there, members-there) (call-of call),
-  )
+  decode-encode =
+      let e = eq-eqb (valueLength (tagOf call)) (valueLength (tagOf call)) refl in
+      let h = le-ltb (length there) headerLength (omega (arith, whole-there)) in
+      let v = le-ltb (length there - headerLength) (valueLength (tagOf call)) (omega (arith, whole-there)) in
+      let c : callAt there ≡ call = rw (parts .0 .0, parts .1) (arguments-fit call fits .1) in
+      (rw (parts .0 .0, parts .0 .1, tag-known call, e, h, v), c)
 
 -- ---- the bytes of a call that is decoded
 
@@ -137,11 +86,9 @@ module _ (l : List ℕ) (bytes : Bytes l) (f : frameRefusal l ≡ 0) where
   arguments-are : argumentsOf (callAt l) ≡ membersAt l headerLength row
   unfolding callOf membersAt
   arguments-are =
-      by-tag
-      (λ (t : ℕ). argumentsOf (callOf t (membersAt l headerLength (rowOf t .value)))
-      ≡ membersAt l headerLength (rowOf t .value)) (tagAt l) (framed l f .1 .0) (framed l f .1 .1) refl refl refl refl
-      refl
-      refl refl refl refl refl
+      let at : ℕ → List ℕ = λ t. membersAt l headerLength (rowOf t .value) in
+      by-tag (λ (t : ℕ). argumentsOf (callOf t (at t)) ≡ at t) (tagAt l) (framed l f .1 .0) (framed l f .1 .1)
+      refl refl refl refl refl refl refl refl refl refl
 
   -- The bytes at the front of a list that a decoded call uses are that call's bytes.
   pub encode-decode : take (callLength (callAt l)) l ≡ callBytes (callAt l)
@@ -154,5 +101,4 @@ module _ (l : List ℕ) (bytes : Bytes l) (f : frameRefusal l ≡ 0) where
       ∙ ap₂ (λ (t n : ℕ). membersBytes (1 ∷ 2 ∷ row) (t ∷ n ∷ membersAt l headerLength row)) (tag-first l)
       (told-is l f)
       ∙ sym (record-members (tagAt l) row (membersAt l headerLength row))
-      ∙ sym
-      (ap₂ (λ (t : ℕ) (ms : List ℕ). recordOf t (membersBytes (rowOf t .value) ms)) (tag-is l f) arguments-are)
+      ∙ sym (ap₂ (λ (t : ℕ) (ms : List ℕ). recordOf t (membersBytes (rowOf t .value) ms)) (tag-is l f) arguments-are)

@@ -6,119 +6,50 @@ use mathlib.Core.Bool.{Bool, true, false, cond, not, false≢true}
 use mathlib.Core.List.{List}
 use lib.ListN.{length, getD}
 use lib.Dec.{leb, ltb, eqb}
-use borrow.Author.Tests.{
-  ltb-false,
-  lt-ltb,
-  le-ltb,
-  leb-true,
-  leb-false,
-  eqb-true,
-  eqb-false,
-  eq-eqb,
-  ne-eqb,
-  not-true,
-  not-false,
-}
+use borrow.Author.Tests.{ltb-false, lt-ltb, le-ltb, leb-true, leb-false, eqb-true, eqb-false, eq-eqb, ne-eqb}
+use borrow.Author.Tests.{ltb-true, not-true, not-false}
 use Rattle.wide.specs.Fields.{beAt}
 use Rattle.wide.proofs.Choices.{either, and-parts}
 use Rattle.board.specs.declared.Board.{Board}
 use Rattle.board.specs.declared.calls.Call.{Call}
-use Rattle.board.specs.declared.calls.Call.the-variants.{
-  HostTime,
-  Read,
-  Write,
-  Advance,
-  Deadline,
-  Skip,
-  Source,
-  ControllerRead,
-  ControllerWrite,
-  Output,
-}
+use Rattle.board.specs.declared.calls.Call.the-variants.{HostTime, Read, Write, Advance, Deadline, Skip, Source}
+use Rattle.board.specs.declared.calls.Call.the-variants.{ControllerRead, ControllerWrite, Output}
 use Rattle.board.specs.Calls.{hostTimeRefusal, addressRefusal, sourceRefusal, effectOf}
 use Rattle.format.specs.declared.Decoded.{Decoded}
 use Rattle.format.specs.declared.Lengths.{Lengths}
-use Rattle.format.specs.Format.{
-  answerTooLong,
-  rowOf,
-  known,
-  valueLength,
-  answerLength,
-  lengthsOf,
-  headerLength,
-  membersAt,
-}
-use Rattle.format.specs.Codec.{
-  tagOf,
-  tagAt,
-  frameRefusal,
-  callOf,
-  callAt,
-  recordLength,
-  firstOf,
-  refusalAt,
-}
-use Rattle.format.specs.CodeDecode.{
-  valueRefusal,
-  refusedBy,
-  told,
-  shortOf,
-  roomed,
-  valued,
-  framedAs,
-  isFramed,
-  Unframed,
-  decodedOf,
-  boardRefusal,
-  firstRefusal,
-}
+use Rattle.format.specs.Format.{answerTooLong, rowOf, known, valueLength, answerLength, lengthsOf, headerLength}
+use Rattle.format.specs.Format.{membersAt}
+use Rattle.format.specs.Codec.{tagOf, tagAt, frameRefusal, callOf, callAt, recordLength, firstOf, refusalAt}
+use Rattle.format.specs.CodeDecode.{valueRefusal, refusedBy, told, shortOf, roomed, valued, framedAs, isFramed}
+use Rattle.format.specs.CodeDecode.{Unframed, decodedOf, boardRefusal, firstRefusal}
 
 -- ---- the frame
 
 -- the header's length by the machine's order of its bytes
-same-length : (a b value : ℕ) → a < 256 → b < 256 → value < 256 →
-    eqb (a + 256 * b) (256 * value) ≡ eqb (a * 256 + b) value
-same-length a b value f g h =
-    either (eqb (a + 256 * b) (256 * value))
-    (λ e. let m = eqb-true (a + 256 * b) (256 * value) e in e ∙ sym (eq-eqb (a * 256 + b) value (omega arith)))
-    (λ e. e ∙ sym (ne-eqb (a * 256 + b) value
-    (λ n. eqb-false (a + 256 * b) (256 * value) e (omega arith))))
-
 pub told-length : (l : List ℕ) (a b value : ℕ) → a ≡ getD l 1 0 → b ≡ getD l 2 0 → a < 256 → b < 256 → value < 256 →
     eqb (a + 256 * b) (256 * value) ≡ eqb (beAt l 1 2) value
 unfolding beAt
 told-length l a b value p q f g h =
-    rw (← p, ← q, same-length a b value f g h)
-    (ap (λ (n : ℕ). eqb n value) (omega arith))
+    either (eqb (a + 256 * b) (256 * value))
+    (λ e. let m = eqb-true (a + 256 * b) (256 * value) e in e ∙ sym (eq-eqb (beAt l 1 2) value (omega arith)))
+    (λ e. e ∙ sym (ne-eqb (beAt l 1 2) value (λ n. eqb-false (a + 256 * b) (256 * value) e (omega arith))))
+
+-- the two tests as one
+module _ (value : ℕ) (l : List ℕ) where
+  pub framed-wrong : not (eqb (beAt l 1 2) value) ≡ true → false ≡ isFramed value l
+  framed-wrong t = rw (not-true (eqb (beAt l 1 2) value) t)
+
+  pub framed-right : not (eqb (beAt l 1 2) value) ≡ false → leb (headerLength + value) (length l) ≡ isFramed value l
+  framed-right t = rw (not-false (eqb (beAt l 1 2) value) t)
 
 -- the value is cut where it is not whole
-cut-is : (l : List ℕ) (value : ℕ) → headerLength ≤ length l →
-    ltb (length l - headerLength) value ≡ not (leb (headerLength + value) (length l))
-cut-is l value h =
-    either (leb (headerLength + value) (length l))
-    (λ e. let m = leb-true (headerLength + value) (length l) e in
-    rw e (le-ltb (length l - headerLength) value (omega arith)))
-    (λ e. let m = leb-false (headerLength + value) (length l) e in
-    rw e (lt-ltb (length l - headerLength) value (omega arith)))
-
-pub framed-wrong : (value : ℕ) (l : List ℕ) → not (eqb (beAt l 1 2) value) ≡ true → false ≡ isFramed value l
-framed-wrong value l t = rw (not-true (eqb (beAt l 1 2) value) t)
-
-pub framed-right : (value : ℕ) (l : List ℕ) → not (eqb (beAt l 1 2) value) ≡ false →
-    leb (headerLength + value) (length l) ≡ isFramed value l
-framed-right value l t = rw (not-false (eqb (beAt l 1 2) value) t)
-
-module _ (value : ℕ) (l : List ℕ) (r : Decoded) where
-  pub unframed-length : not (eqb (beAt l 1 2) value) ≡ true → r ≡ refusedBy 4 → Unframed value l r
-  unfolding framedAs
-  unframed-length t e f call room = rw t e
-
-  pub unframed-value : headerLength ≤ length l → not (eqb (beAt l 1 2) value) ≡ false → r ≡ refusedBy 5 →
-      Unframed value l r
-  unfolding framedAs
-  unframed-value h t e f call room =
-      let s : leb (headerLength + value) (length l) ≡ false = rw (not-false (eqb (beAt l 1 2) value) t) at f in
-      rw (t, cut-is l value h, s) e
+pub unframed-value : (value : ℕ) (l : List ℕ) (r : Decoded) → headerLength ≤ length l →
+    not (eqb (beAt l 1 2) value) ≡ false → r ≡ refusedBy 5 → Unframed value l r
+unfolding framedAs
+unframed-value value l r h t e f call room =
+    let s : leb (headerLength + value) (length l) ≡ false = rw (not-false (eqb (beAt l 1 2) value) t) at f in
+    let m = leb-false (headerLength + value) (length l) s in
+    rw (t, lt-ltb (length l - headerLength) value (omega arith)) e
 
 -- ---- each call: n are the lengths of its tag, q the test of its frame
 
@@ -129,132 +60,102 @@ module _ (tag : ℕ) (n : Lengths) (e : n ≡ lengthsOf tag) where
   pub answer-of : n .answer ≡ answerLength tag
   answer-of = ap (λ (m : Lengths). m .answer) e
 
-  -- header and value are whole where the test holds
-  module _ (l : List ℕ) (q : Bool) (p : q ≡ isFramed (n .value) l) (f : not q ≡ false) where
-    tests : (eqb (beAt l 1 2) (valueLength tag) ≡ true) × (leb (headerLength + valueLength tag) (length l) ≡ true)
-    tests =
-        and-parts (eqb (beAt l 1 2) (valueLength tag)) (leb (headerLength + valueLength tag) (length l))
-        (ap (λ (v : ℕ). isFramed v l) (sym value-of) ∙ sym p ∙ not-false q f)
+pub small : (tag : ℕ) {n : Lengths} → ltb (valueLength tag) 256 ≡ true → n ≡ lengthsOf tag → n .value < 256
+small tag {n} t e = ltb-true (n .value) 256 (ap (λ (v : ℕ). ltb v 256) (value-of tag n e) ∙ t)
 
-    pub whole : headerLength + valueLength tag ≤ length l
-    whole = leb-true (headerLength + valueLength tag) (length l) (tests .1)
+-- header and value are whole where the test holds
+module _ (tag : ℕ) (l : List ℕ) {n : Lengths} {q : Bool} (e : n ≡ lengthsOf tag) (p : q ≡ isFramed (n .value) l)
+    (f : not q ≡ false) where
+  tests : (eqb (beAt l 1 2) (valueLength tag) ≡ true) × (leb (headerLength + valueLength tag) (length l) ≡ true)
+  tests =
+      and-parts (eqb (beAt l 1 2) (valueLength tag)) (leb (headerLength + valueLength tag) (length l))
+      (ap (λ (v : ℕ). isFramed v l) (sym (value-of tag n e)) ∙ sym p ∙ not-false q f)
 
-module _ (call : Call) (l : List ℕ) (room : ℕ) (n : Lengths) (e : n ≡ lengthsOf (tagOf call)) (q : Bool)
+  whole : headerLength + valueLength tag ≤ length l
+  whole = leb-true (headerLength + valueLength tag) (length l) (tests .1)
+
+  pub within : (k : ℕ) → leb k (headerLength + valueLength tag) ≡ true → k ≤ length l
+  within k t = omega (arith, whole, leb-true k (headerLength + valueLength tag) t)
+
+module _ (call : Call) (l : List ℕ) (room : ℕ) {n : Lengths} {q : Bool} (e : n ≡ lengthsOf (tagOf call))
     (p : q ≡ isFramed (n .value) l) where
   abbrev here : Decoded
   here = framedAs (valueLength (tagOf call)) call l room
 
-  pub as-unframed : (r : Decoded) → Unframed (n .value) l r → not q ≡ true → r ≡ here
-  as-unframed r u f =
+  pub as-unframed : {r : Decoded} → Unframed (n .value) l r → not q ≡ true → r ≡ here
+  as-unframed u f =
       u (sym p ∙ not-true q f) call room ∙ ap (λ (v : ℕ). framedAs v call l room) (value-of (tagOf call) n e)
 
-  module _ (f : not q ≡ false) (own : ℕ) (o : own ≡ valueRefusal call) where
+  module _ (f : not q ≡ false) {own : ℕ} (o : own ≡ valueRefusal call) where
     as-framed : here ≡ valued call room
     unfolding framedAs
     as-framed =
-        let h = whole (tagOf call) n e l q p f in
-        rw (
-          tests (tagOf call) n e l q p f .0,
-          le-ltb (length l - headerLength) (valueLength (tagOf call)) (omega arith),
-        )
+        let h = whole (tagOf call) l e p f in
+        rw (tests (tagOf call) l e p f .0, le-ltb (length l - headerLength) (valueLength (tagOf call)) (omega arith))
 
     pub as-own : (own ≡ 0 → ⊥) → refusedBy own ≡ here
     unfolding valued
     as-own z = rw (as-framed, ← o, ne-eqb own 0 z)
 
     module _ (z : own ≡ 0) where
-      as-valued : here ≡ roomed call room
-      unfolding valued
-      as-valued = rw (as-framed, ← o, z)
-
       pub as-short : room < headerLength + n .answer → shortOf call ≡ here
-      unfolding roomed
-      as-short h = rw (as-valued, ← answer-of (tagOf call) n e, lt-ltb room (headerLength + n .answer) h)
+      unfolding valued roomed
+      as-short h = rw (as-framed, ← o, z, ← answer-of (tagOf call) n e, lt-ltb room (headerLength + n .answer) h)
 
-      pub as-accepted : (given : Call) → given ≡ call → headerLength + n .answer ≤ room →
+      pub as-accepted : {given : Call} → given ≡ call → headerLength + n .answer ≤ room →
           record { refusal = 0; call = given } ≡ here
-      unfolding roomed
-      as-accepted given g h =
-          rw (as-valued, ← answer-of (tagOf call) n e, le-ltb room (headerLength + n .answer) h, g)
+      unfolding valued roomed
+      as-accepted g h =
+          rw (as-framed, ← o, z, ← answer-of (tagOf call) n e, le-ltb room (headerLength + n .answer) h, g)
 
 -- ---- the call at the front
 
--- the frame's tests: a call by each, and by the number that they give
-frames : (t₁ t₂ t₃ t₄ : Bool) (d : Decoded) →
-    cond t₁ (refusedBy 2) (cond t₂ (refusedBy 3) (cond t₃ (refusedBy 4) (cond t₄ (refusedBy 5) d)))
-    ≡ cond (eqb (cond t₁ 2 (cond t₂ 3 (cond t₃ 4 (cond t₄ 5 0)))) 0) d
-    (refusedBy (cond t₁ 2 (cond t₂ 3 (cond t₃ 4 (cond t₄ 5 0)))))
-frames true t₂ t₃ t₄ d = refl
-frames false true t₃ t₄ d = refl
-frames false false true t₄ d = refl
-frames false false false true d = refl
-frames false false false false d = refl
+-- the tests of the value: a call by each, and by the number that they give
+frames : (t₁ t₂ : Bool) (d : Decoded) →
+    cond t₁ (refusedBy 4) (cond t₂ (refusedBy 5) d)
+    ≡ cond (eqb (cond t₁ 4 (cond t₂ 5 0)) 0) d (refusedBy (cond t₁ 4 (cond t₂ 5 0)))
+frames true t₂ d = refl
+frames false true d = refl
+frames false false d = refl
 
 module _ (l : List ℕ) (room : ℕ) where
-  decoded-is :
-      cond (ltb (length l) headerLength) (refusedBy 2)
-      (cond (not (known (tagAt l))) (refusedBy 3)
-      (framedAs (valueLength (tagAt l)) (callAt l) l room))
-      ≡ decodedOf l room
-  unfolding frameRefusal framedAs decodedOf
-  decoded-is =
-      frames (ltb (length l) headerLength) (not (known (tagAt l))) (not (eqb (beAt l 1 2) (valueLength (tagAt l))))
-      (ltb (length l - headerLength) (valueLength (tagAt l))) (valued (callAt l) room)
-
   pub decoded-cut : length l < headerLength → refusedBy 2 ≡ decodedOf l room
-  decoded-cut h = rw (lt-ltb (length l) headerLength h) at decoded-is
+  unfolding frameRefusal decodedOf
+  decoded-cut h = rw (lt-ltb (length l) headerLength h)
 
   pub decoded-unknown : headerLength ≤ length l → known (tagAt l) ≡ false → refusedBy 3 ≡ decodedOf l room
-  decoded-unknown h k = rw (le-ltb (length l) headerLength h, k) at decoded-is
+  unfolding frameRefusal decodedOf
+  decoded-unknown h k = rw (le-ltb (length l) headerLength h, k)
 
-  pub decoded-as : headerLength ≤ length l → (tag : ℕ) → tagAt l ≡ tag → known tag ≡ true →
+  pub as-tag : headerLength ≤ length l → {tag : ℕ} → tagAt l ≡ tag → known tag ≡ true →
       framedAs (valueLength tag) (callOf tag (membersAt l headerLength (rowOf tag .value))) l room ≡ decodedOf l room
-  decoded-as h tag e k = rw (le-ltb (length l) headerLength h, e, k) at decoded-is
+  unfolding frameRefusal framedAs decodedOf
+  as-tag h {tag} e k =
+      rw (le-ltb (length l) headerLength h, e, k)
+      (frames (not (eqb (beAt l 1 2) (valueLength tag))) (ltb (length l - headerLength) (valueLength tag))
+      (valued (callOf tag (membersAt l headerLength (rowOf tag .value))) room))
 
 -- ---- what a caller learns of it
 
 first-none : (n : ℕ) → n ≡ firstOf n 0
 first-none n = either (eqb n 0) (λ e. rw e (eqb-true n 0 e)) (λ e. rw e)
 
--- what the members decide of a call's own refusal, and what the board does
-own-is : (call : Call) (b : Board) → effectOf call b .refusal ≡ firstOf (valueRefusal call) (boardRefusal call b)
-own-is (HostTime nanoseconds seconds) b =
-    first-none (hostTimeRefusal (record { seconds = seconds; nanoseconds = nanoseconds }))
-own-is (Read address) b = first-none (addressRefusal address)
-own-is (Write byte address) b = first-none (addressRefusal address)
-own-is (Advance c) b = refl
-own-is Deadline b = refl
-own-is Skip b = refl
-own-is (Source number level) b = first-none (sourceRefusal (number .0) level)
-own-is (ControllerRead address) b = refl
-own-is (ControllerWrite byte address) b = refl
-own-is Output b = refl
-
--- of a call that is no skip the members decide all
-pub value-refusal : (call : Call) (b : Board) → (call ≡ Skip → ⊥) → effectOf call b .refusal ≡ valueRefusal call
-value-refusal (HostTime nanoseconds seconds) b n = refl
-value-refusal (Read address) b n = refl
-value-refusal (Write byte address) b n = refl
-value-refusal (Advance c) b n = refl
-value-refusal Deadline b n = refl
-value-refusal Skip b n = absurd (n refl)
-value-refusal (Source number level) b n = refl
-value-refusal (ControllerRead address) b n = refl
-value-refusal (ControllerWrite byte address) b n = refl
-value-refusal Output b n = refl
-
--- what is told of a call without room says no less of the board's part
-told-board : (call : Call) (b : Board) → boardRefusal (told call) b ≡ boardRefusal call b
-told-board (HostTime nanoseconds seconds) b = refl
-told-board (Read address) b = refl
-told-board (Write byte address) b = refl
-told-board (Advance c) b = refl
-told-board Deadline b = refl
-told-board Skip b = refl
-told-board (Source number level) b = refl
-told-board (ControllerRead address) b = refl
-told-board (ControllerWrite byte address) b = refl
-told-board Output b = refl
+-- .0: what the members decide of a call's own refusal, and what the board does; .1: what is told of a call without
+-- room says no less of the board's part
+parts : (call : Call) (b : Board) →
+    (effectOf call b .refusal ≡ firstOf (valueRefusal call) (boardRefusal call b))
+    × (boardRefusal (told call) b ≡ boardRefusal call b)
+parts (HostTime nanoseconds seconds) b =
+    (first-none (hostTimeRefusal (record { seconds = seconds; nanoseconds = nanoseconds })), refl)
+parts (Read address) b = (first-none (addressRefusal address), refl)
+parts (Write byte address) b = (first-none (addressRefusal address), refl)
+parts (Advance c) b = (refl, refl)
+parts Deadline b = (refl, refl)
+parts Skip b = (refl, refl)
+parts (Source number level) b = (first-none (sourceRefusal (number .0) level), refl)
+parts (ControllerRead address) b = (refl, refl)
+parts (ControllerWrite byte address) b = (refl, refl)
+parts Output b = (refl, refl)
 
 -- a number that is 0 and is not
 neither : {P : Type 0} (n : ℕ) → n ≡ 0 → eqb n 0 ≡ false → P
@@ -284,10 +185,10 @@ module _ (call : Call) (room : ℕ) where
   valued-refused b f =
       either (eqb (valueRefusal call) 0)
       (λ v. either (ltb room (recordLength call))
-      (λ s. let e : effectOf call b .refusal ≡ boardRefusal call b = rw v at (own-is call b) in
-      (rw (v, s, told-board call b, e), rw (s, e) (first-some (boardRefusal call b) 11 refl)))
+      (λ s. let e : effectOf call b .refusal ≡ boardRefusal call b = rw v at (parts call b .0) in
+      (rw (v, s, parts call b .1, e), rw (s, e) (first-some (boardRefusal call b) 11 refl)))
       (λ s. let e : eqb 0 0 ≡ false = rw (v, s) at f in absurd (false≢true (sym e))))
-      (λ v. let e : effectOf call b .refusal ≡ valueRefusal call = rw v at (own-is call b) in
+      (λ v. let e : effectOf call b .refusal ≡ valueRefusal call = rw v at (parts call b .0) in
       (rw (v, e, v), rw (e, v, v)))
 
 module _ (l : List ℕ) (room : ℕ) where
@@ -334,13 +235,9 @@ pub clear : (b : Board) (l : List ℕ) (room : ℕ) → refusalAt b l room ≡ 0
 unfolding refusalAt
 clear b l room z =
     let p = first-clear (frameRefusal l) _ z in
-    let q = first-clear (effectOf (callAt l) b .refusal) (cond (ltb room (recordLength (callAt l))) answerTooLong 0)
-    (p .1) in
-    record {
-      frame = p .0;
-      own = q .0;
-      fits =
-          either (ltb room (recordLength (callAt l)))
-          (λ s. let e : _≡_ {A = ℕ} 11 0 = rw s at (q .1) in absurd (omega arith))
-          (λ s. ltb-false room (recordLength (callAt l)) s);
-    }
+    let q = first-clear (effectOf (callAt l) b .refusal) _ (p .1) in
+    let room-is : recordLength (callAt l) ≤ room =
+    either (ltb room (recordLength (callAt l)))
+    (λ s. let e : _≡_ {A = ℕ} 11 0 = rw s at (q .1) in absurd (omega arith))
+    (λ s. ltb-false room (recordLength (callAt l)) s) in
+    record { frame = p .0; own = q .0; fits = room-is }

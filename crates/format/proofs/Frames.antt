@@ -13,47 +13,16 @@ use lib.Dec.{ltb, eqb}
 use borrow.Author.Tests.{ltb-true, ltb-false, le-ltb, eqb-true, eqb-false, not-false}
 use Rattle.wide.specs.Fields.{beAt, be}
 use Rattle.wide.proofs.BigEndian.{length-be, sets-append}
-use Rattle.wide.proofs.Choices.{choose, either, and-parts}
+use Rattle.wide.proofs.Choices.{choose, either}
 use Rattle.board.specs.declared.Board.{Board}
 use Rattle.board.specs.declared.calls.Call.{Call}
-use Rattle.board.specs.declared.calls.Call.the-variants.{
-  HostTime,
-  Read,
-  Write,
-  Advance,
-  Deadline,
-  Skip,
-  Source,
-  ControllerRead,
-  ControllerWrite,
-  Output,
-}
+use Rattle.board.specs.declared.calls.Call.the-variants.{HostTime, Read, Write, Advance, Deadline, Skip, Source}
+use Rattle.board.specs.declared.calls.Call.the-variants.{ControllerRead, ControllerWrite, Output}
 use Rattle.board.specs.Calls.{effectOf, CallFits}
-use Rattle.format.specs.Format.{
-  row,
-  table,
-  sum,
-  rowOf,
-  known,
-  valueLength,
-  answerLength,
-  lengthsOf,
-  headerLength,
-  membersAt,
-  membersBytes,
-  answerBytes,
-  recordOf,
-}
-use Rattle.format.specs.Codec.{
-  tagOf,
-  callLength,
-  tagAt,
-  frameRefusal,
-  callOf,
-  callAt,
-  answerRecord,
-  recordLength,
-}
+use Rattle.format.specs.Format.{row, table, sum, rowOf, known, valueLength, answerLength, lengthsOf}
+use Rattle.format.specs.Format.{headerLength, membersAt, membersBytes, answerBytes, recordOf}
+use Rattle.format.specs.Codec.{tagOf, callLength, tagAt, frameRefusal, callOf, callAt, answerRecord}
+use Rattle.format.specs.Codec.{recordLength}
 
 -- ---- bytes behind
 
@@ -86,76 +55,64 @@ members-below l bytes at (w ∷ ws) (suc k) = members-below l bytes (at + w) ws 
 
 -- ---- tags
 
-other : (k tag : ℕ) → k < tag → eqb tag (suc k) ≡ false → suc k < tag
-other k tag h n = let m = eqb-false tag (suc k) n in omega arith
-
-last-tag : (tag : ℕ) → 9 < tag → tag < 11 → tag ≡ 10
-last-tag tag low high = omega arith
-
 -- a property of a known tag, tag by tag
 pub by-tag : (P : ℕ → Type 0) (tag : ℕ) → 0 < tag → tag < 11 →
     P 1 → P 2 → P 3 → P 4 → P 5 → P 6 → P 7 → P 8 → P 9 → P 10 → P tag
 by-tag P tag low high p1 p2 p3 p4 p5 p6 p7 p8 p9 p10 =
-    at 1 p1 (λ n1. at 2 p2 (λ n2. at 3 p3 (λ n3. at 4 p4 (λ n4. at 5 p5 (λ n5. at 6 p6 (λ n6. at 7 p7 (λ n7. at 8 p8
-    (λ n8. at 9 p9
-    (λ n9. let e : tag ≡ 10 =
-    last-tag tag
-    (other 8 tag (other 7 tag (other 6 tag (other 5 tag (other 4 tag (other 3 tag (other 2 tag (other 1 tag
-    (other 0 tag low n1) n2) n3) n4) n5) n6) n7) n8) n9) high in
-    rw e p10)))))))))
+    at 0 low p1 (λ h1. at 1 h1 p2 (λ h2. at 2 h2 p3 (λ h3. at 3 h3 p4 (λ h4. at 4 h4 p5 (λ h5. at 5 h5 p6
+    (λ h6. at 6 h6 p7 (λ h7. at 7 h7 p8 (λ h8. at 8 h8 p9
+    (λ h9. at 9 h9 p10 (λ h10. absurd (omega (arith, high, h10))))))))))))
   where
-    at : (k : ℕ) → P k → (eqb tag k ≡ false → P tag) → P tag
-    at k p n = either (eqb tag k) (λ e. let q : tag ≡ k = eqb-true tag k e in rw q p) n
+    at : (k : ℕ) → k < tag → P (suc k) → (suc k < tag → P tag) → P tag
+    at k h p n =
+        either (eqb tag (suc k)) (λ e. let q : tag ≡ suc k = eqb-true tag (suc k) e in rw q p)
+        (λ e. let m = eqb-false tag (suc k) e in n (omega arith))
 
 -- a tag that no arm of the code names has no row
-pub unknown-is : (tag : ℕ) → (tag ≡ 1 → ⊥) → (tag ≡ 2 → ⊥) → (tag ≡ 3 → ⊥) → (tag ≡ 4 → ⊥) → (tag ≡ 5 → ⊥) →
-    (tag ≡ 6 → ⊥) → (tag ≡ 7 → ⊥) → (tag ≡ 8 → ⊥) → (tag ≡ 9 → ⊥) → (tag ≡ 10 → ⊥) →
+pub unknown-is : (tag : ℕ) {A : Type 0} →
+    ((((((((((A × (tag ≡ 1 → ⊥)) × (tag ≡ 2 → ⊥)) × (tag ≡ 3 → ⊥)) × (tag ≡ 4 → ⊥)) × (tag ≡ 5 → ⊥)) × (tag ≡ 6 → ⊥))
+    × (tag ≡ 7 → ⊥)) × (tag ≡ 8 → ⊥)) × (tag ≡ 9 → ⊥)) × (tag ≡ 10 → ⊥)) →
     record { known = false; value = 0; answer = 0 } ≡ lengthsOf tag
-unknown-is tag n1 n2 n3 n4 n5 n6 n7 n8 n9 n10 =
+unknown-is tag r =
     either (ltb 0 tag)
     (λ a. either (ltb tag 11)
     (λ b. absurd
-    (by-tag (λ (t : ℕ). tag ≡ t → ⊥) tag (ltb-true 0 tag a) (ltb-true tag 11 b) n1 n2 n3 n4 n5 n6 n7 n8 n9 n10 refl))
+    (by-tag (λ (t : ℕ). tag ≡ t → ⊥) tag (ltb-true 0 tag a) (ltb-true tag 11 b) (r .0 .0 .0 .0 .0 .0 .0 .0 .0 .1)
+    (r .0 .0 .0 .0 .0 .0 .0 .0 .1) (r .0 .0 .0 .0 .0 .0 .0 .1) (r .0 .0 .0 .0 .0 .0 .1) (r .0 .0 .0 .0 .0 .1)
+    (r .0 .0 .0 .0 .1) (r .0 .0 .0 .1) (r .0 .0 .1) (r .0 .1) (r .1) refl))
     (λ b. rw (a, b, List·getD-eq-default table (row [] []) (ltb-false tag 11 b))))
     (λ a. let h = ltb-false 0 tag a in let z : tag ≡ 0 = omega arith in rw z)
 
 -- ---- a call at the front
 
 -- no refusal: no test that gives one is met, and the tag is neither too small nor too large
-record Passed (t₁ t₂ u₂ t₃ t₄ : Bool) : Type 0 where
-  header : t₁ ≡ false
-  first : t₂ ≡ true
-  last : u₂ ≡ true
-  length : t₃ ≡ false
-  value : t₄ ≡ false
-
 passed : (t₁ t₂ u₂ t₃ t₄ : Bool) → _≡_ {A = ℕ} (cond t₁ 2 (cond (not (t₂ && u₂)) 3 (cond t₃ 4 (cond t₄ 5 0)))) 0 →
-    Passed t₁ t₂ u₂ t₃ t₄
+    ((t₁ ≡ false) × (t₄ ≡ false)) × (((t₂ ≡ true) × (u₂ ≡ true)) × (t₃ ≡ false))
 passed true t₂ u₂ t₃ t₄ e = absurd (omega arith)
 passed false false u₂ t₃ t₄ e = absurd (omega arith)
 passed false true false t₃ t₄ e = absurd (omega arith)
 passed false true true true t₄ e = absurd (omega arith)
 passed false true true false true e = absurd (omega arith)
-passed false true true false false e =
-    record { header = refl; first = refl; last = refl; length = refl; value = refl }
+passed false true true false false e = ((refl, refl), ((refl, refl), refl))
 
 module _ (l : List ℕ) (e : frameRefusal l ≡ 0) where
   tests :
-      Passed (ltb (length l) headerLength) (ltb 0 (tagAt l)) (ltb (tagAt l) 11)
-      (not (eqb (beAt l 1 2) (valueLength (tagAt l)))) (ltb (length l - headerLength) (valueLength (tagAt l)))
+      ((ltb (length l) headerLength ≡ false) × (ltb (length l - headerLength) (valueLength (tagAt l)) ≡ false))
+      × (((ltb 0 (tagAt l) ≡ true) × (ltb (tagAt l) 11 ≡ true))
+      × (not (eqb (beAt l 1 2) (valueLength (tagAt l))) ≡ false))
   unfolding frameRefusal
   tests = passed _ _ _ _ _ e
 
   -- .0: header and value of a call lie within its list; .1: its tag is one of the table's
   pub framed : (headerLength + valueLength (tagAt l) ≤ length l) × ((0 < tagAt l) × (tagAt l < 11))
   framed =
-      let a = ltb-false (length l) headerLength (tests .header) in
-      let v = ltb-false (length l - headerLength) (valueLength (tagAt l)) (tests .value) in
-      (omega arith, (ltb-true 0 (tagAt l) (tests .first), ltb-true (tagAt l) 11 (tests .last)))
+      let a = ltb-false (length l) headerLength (tests .0 .0) in
+      let v = ltb-false (length l - headerLength) (valueLength (tagAt l)) (tests .0 .1) in
+      (omega arith, (ltb-true 0 (tagAt l) (tests .1 .0 .0), ltb-true (tagAt l) 11 (tests .1 .0 .1)))
 
   -- the length that stands there is the table's
   pub told-is : beAt l 1 2 ≡ valueLength (tagAt l)
-  told-is = eqb-true (beAt l 1 2) (valueLength (tagAt l)) (not-false _ (tests .length))
+  told-is = eqb-true (beAt l 1 2) (valueLength (tagAt l)) (not-false _ (tests .1 .1))
 
   -- bytes behind a call have no part in it
   module _ (m : List ℕ) where
@@ -167,20 +124,14 @@ module _ (l : List ℕ) (e : frameRefusal l ≡ 0) where
     frame-before =
         let w = valueLength (tagAt l) in
         let long : headerLength + w ≤ length (l ++ m) = omega (arith, framed .0, length-append l m) in
-        rw (
-          tag-before,
-          field-before l m 1 2 (omega (arith, framed .0)),
-          le-ltb (length (l ++ m)) headerLength (omega arith),
-          tests .first,
-          tests .last,
-          tests .length,
-          le-ltb (length (l ++ m) - headerLength) w (omega arith),
-        )
+        let a = le-ltb (length (l ++ m)) headerLength (omega arith) in
+        let v = le-ltb (length (l ++ m) - headerLength) w (omega arith) in
+        let f = field-before l m 1 2 (omega (arith, framed .0)) in
+        rw (tag-before, f, a, tests .1 .0 .0, tests .1 .0 .1, tests .1 .1, v)
 
     pub call-before : callAt (l ++ m) ≡ callAt l
     call-before =
-        rw tag-before
-        (ap (callOf (tagAt l)) (members-before l m headerLength (rowOf (tagAt l) .value) (framed .0)))
+        rw tag-before (ap (callOf (tagAt l)) (members-before l m headerLength (rowOf (tagAt l) .value) (framed .0)))
 
   -- a call's tag is the one that stands there
   pub tag-is : tagOf (callAt l) ≡ tagAt l
@@ -196,44 +147,33 @@ module _ (l : List ℕ) (e : frameRefusal l ≡ 0) where
 pub call-least : (call : Call) → 3 ≤ callLength call
 call-least call = omega arith
 
--- a call's tag has a row, and its lengths are below 256
+-- a call's tag has a row, and it and its lengths are below 256
 bounds : (call : Call) →
-    (known (tagOf call) && (ltb (valueLength (tagOf call)) 256 && ltb (answerLength (tagOf call)) 256)) ≡ true
-bounds (HostTime nanoseconds seconds) = refl
-bounds (Read address) = refl
-bounds (Write byte address) = refl
-bounds (Advance c) = refl
-bounds Deadline = refl
-bounds Skip = refl
-bounds (Source number level) = refl
-bounds (ControllerRead address) = refl
-bounds (ControllerWrite byte address) = refl
-bounds Output = refl
+    ((known (tagOf call) ≡ true) × (ltb (tagOf call) 256 ≡ true))
+    × ((ltb (valueLength (tagOf call)) 256 ≡ true) × (ltb (answerLength (tagOf call)) 256 ≡ true))
+bounds (HostTime nanoseconds seconds) = ((refl, refl), (refl, refl))
+bounds (Read address) = ((refl, refl), (refl, refl))
+bounds (Write byte address) = ((refl, refl), (refl, refl))
+bounds (Advance c) = ((refl, refl), (refl, refl))
+bounds Deadline = ((refl, refl), (refl, refl))
+bounds Skip = ((refl, refl), (refl, refl))
+bounds (Source number level) = ((refl, refl), (refl, refl))
+bounds (ControllerRead address) = ((refl, refl), (refl, refl))
+bounds (ControllerWrite byte address) = ((refl, refl), (refl, refl))
+bounds Output = ((refl, refl), (refl, refl))
 
 module _ (call : Call) where
-  lengths-below :
-      (known (tagOf call) ≡ true)
-      × ((ltb (valueLength (tagOf call)) 256 && ltb (answerLength (tagOf call)) 256) ≡ true)
-  lengths-below = and-parts (known (tagOf call)) _ (bounds call)
-
   pub tag-known : known (tagOf call) ≡ true
-  tag-known = lengths-below .0
+  tag-known = bounds call .0 .0
 
   pub tag-below : tagOf call < 256
-  tag-below =
-      let h =
-      ltb-true (tagOf call) 11 (and-parts (ltb 0 (tagOf call)) (ltb (tagOf call) 11) tag-known .1) in
-      omega arith
+  tag-below = ltb-true (tagOf call) 256 (bounds call .0 .1)
 
   pub value-below : valueLength (tagOf call) < 256
-  value-below =
-      ltb-true (valueLength (tagOf call)) 256
-      (and-parts (ltb (valueLength (tagOf call)) 256) (ltb (answerLength (tagOf call)) 256) (lengths-below .1) .0)
+  value-below = ltb-true (valueLength (tagOf call)) 256 (bounds call .1 .0)
 
   pub answer-below : answerLength (tagOf call) < 256
-  answer-below =
-      ltb-true (answerLength (tagOf call)) 256
-      (and-parts (ltb (valueLength (tagOf call)) 256) (ltb (answerLength (tagOf call)) 256) (lengths-below .1) .1)
+  answer-below = ltb-true (answerLength (tagOf call)) 256 (bounds call .1 .1)
 
 -- a call of bytes fits, whatever they are
 module _ (tag : ℕ) (ms : List ℕ) (below : (k : ℕ) → getD ms k 0 < 256 ^ getD (rowOf tag .value) k 0) where
@@ -277,8 +217,7 @@ sets-front l vs h = simp zero-add at (sets-eq vs l 0 (simp zero-add h))
 -- a record is its value and three bytes
 pub record-length : (tag : ℕ) (value : List ℕ) → length (recordOf tag value) ≡ 3 + length value
 unfolding recordOf
-record-length tag value =
-    simp (length-append, length-be) (omega arith)
+record-length tag value = simp (length-append, length-be) (omega arith)
 
 -- ---- the bytes of members
 

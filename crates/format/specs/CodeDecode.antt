@@ -10,18 +10,8 @@ use lib.Dec.{leb, ltb, eqb}
 use Rattle.wide.specs.Fields.{beAt}
 use Rattle.board.specs.declared.Board.{Board}
 use Rattle.board.specs.declared.calls.Call.{Call}
-use Rattle.board.specs.declared.calls.Call.the-variants.{
-  HostTime,
-  Read,
-  Write,
-  Advance,
-  Deadline,
-  Skip,
-  Source,
-  ControllerRead,
-  ControllerWrite,
-  Output,
-}
+use Rattle.board.specs.declared.calls.Call.the-variants.{HostTime, Read, Write, Advance, Deadline, Skip, Source}
+use Rattle.board.specs.declared.calls.Call.the-variants.{ControllerRead, ControllerWrite, Output}
 use Rattle.board.specs.Calls.{hostTimeRefusal, addressRefusal, sourceRefusal, effectOf}
 use Rattle.format.specs.declared.Decoded.{Decoded}
 use Rattle.format.specs.Format.{lengthWrong, valueCut, answerTooLong, lengthsOf, headerLength}

@@ -1,73 +1,26 @@
 -- `controller_read_at` meets its contract. Assumes nothing.
 use mathlib.Core.Path.{refl, ap, _∙_}
 use native.Mathlib.Omega.{arith}
-use Prim.Native.Nat.{ℕ}
-use mathlib.Core.List.{List}
-use Rattle.wide.specs.Fields.{beAt}
-use Rattle.board.specs.declared.calls.Call.{Call}
 use Rattle.board.specs.declared.calls.Call.the-variants.{ControllerRead}
-use Rattle.format.proofs.Decoding.{value-of, answer-of, whole, as-unframed, as-short, as-accepted}
+use Rattle.format.proofs.Decoding.{small, within, answer-of, as-unframed, as-short, as-accepted}
 use borrow.Author.Needs.{needs}
 use Rattle.format.proofs.controller_read_at.Statement.{statement}
 use Rattle.format.proofs.controller_read_at.Tie as tie
 
--- the call that stands there
-abbrev here : List ℕ → Call
-here l = ControllerRead (beAt l 3 4)
-
-framed-requires : tie.Need-framed-requires
-framed-requires c κs = (c .before .before .pre, omega (arith, value-of 8 _ (c .lengths-of .ensures)))
-
-unframed-requires : tie.Need-unframed-requires
-unframed-requires c κs =
-    (c .before .before .before .before .pre, omega (arith, value-of 8 _ (c .before .before .lengths-of .ensures)))
-
-returns : tie.Need-returns
-returns c =
-    let a = c .before .before .before .before .before .args in
-    as-unframed (here (a .rest .now)) _ (a .room) _ (c .before .before .before .lengths-of .ensures) _
-    (c .before .before .framed .ensures) _
-    (c .unframed .ensures) (c .before .if1 .taken)
-
-add-if2 : tie.Need-add-if2
-add-if2 c = omega (arith, answer-of 8 _ (c .before .before .before .lengths-of .ensures))
-
-returns-2 : tie.Need-returns-2
-returns-2 c =
-    let u = c .before .before .before in
-    let a = u .before .before .before .before .args in
-    c .refused .ensures
-    ∙ as-short (here (a .rest .now)) _ (a .room) _ (u .before .before .lengths-of .ensures) _
-    (u .before .framed .ensures)
-    (u .if1 .left) 0 refl refl (c .before .if2 .taken)
-
-controller-address-at-requires : tie.Need-controller-address-at-requires
-controller-address-at-requires c κs =
-    let u = c .before .before in
-    let h = whole 8 _ (u .before .before .lengths-of .ensures) _ _ (u .before .framed .ensures) (u .if1 .left) in
-    omega arith
-
-returns-3 : tie.Need-returns-3
-returns-3 c =
-    let u = c .before .before .before .before in
-    let a = u .before .before .before .before .args in
-    c .accepted .ensures
-    ∙ as-accepted (here (a .rest .now)) _ (a .room) _ (u .before .before .lengths-of .ensures) _
-    (u .before .framed .ensures)
-    (u .if1 .left) 0 refl refl _
-    (ap ControllerRead (c .before .controller-address-at .ensures)) (c .before .before .if2 .left)
-
 pub controller-read-at-spec : {M : Type 1} → statement M
 controller-read-at-spec =
     tie.close
-    (tie.spec
-    (λ c κs. search needs)
-    framed-requires
-    unframed-requires
-    returns
-    add-if2
-    (λ c κs. search needs)
-    returns-2
-    controller-address-at-requires
-    (λ c κs. search needs)
-    returns-3)
+    (tie.spec (λ c κs. search needs) (λ c κs. (c .before .before .pre, small 8 refl (c .lengths-of .ensures)))
+    (λ c κs. (c .before .before .before .before .pre, small 8 refl (c .before .before .lengths-of .ensures)))
+    (λ c. let s = c .before in
+    as-unframed (ControllerRead _) _ _ (s .before .before .lengths-of .ensures) (s .before .framed .ensures)
+    (c .unframed .ensures) (s .if1 .taken))
+    (λ c. omega (arith, answer-of 8 _ (c .before .before .before .lengths-of .ensures))) (λ c κs. search needs)
+    (λ c. let s = c .before .before .before in c .refused .ensures
+    ∙ as-short (ControllerRead _) _ _ (s .before .before .lengths-of .ensures) (s .before .framed .ensures)
+    (s .if1 .left) refl refl (c .before .if2 .taken)) (λ c κs. let s = c .before .before in
+    within 8 _ (s .before .before .lengths-of .ensures) (s .before .framed .ensures) (s .if1 .left) 7 refl)
+    (λ c κs. search needs) (λ c. let s = c .before .before .before .before in c .accepted .ensures
+    ∙ as-accepted (ControllerRead _) _ _ (s .before .before .lengths-of .ensures) (s .before .framed .ensures)
+    (s .if1 .left) refl refl (ap ControllerRead (c .before .controller-address-at .ensures))
+    (c .before .before .if2 .left)))

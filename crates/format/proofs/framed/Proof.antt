@@ -5,17 +5,8 @@ use borrow.Author.Needs.{needs}
 use Rattle.format.proofs.framed.Statement.{statement}
 use Rattle.format.proofs.framed.Tie as tie
 
-returns : tie.Need-returns
-returns c = framed-wrong _ _ (sym (c .before .length-wrong .ensures) ∙ c .if1 .taken)
-
-returns-2 : tie.Need-returns-2
-returns-2 c = framed-right _ _ (sym (c .before .length-wrong .ensures) ∙ c .if1 .left)
-
 pub framed-spec : {M : Type 1} → statement M
 framed-spec =
     tie.close
-    (tie.spec
-    (λ c κs. search needs)
-    returns
-    (λ c. search needs)
-    returns-2)
+    (tie.spec (λ c κs. search needs) (λ c. framed-wrong _ _ (sym (c .before .length-wrong .ensures) ∙ c .if1 .taken))
+    (λ c. search needs) (λ c. framed-right _ _ (sym (c .before .length-wrong .ensures) ∙ c .if1 .left)))

@@ -6,24 +6,11 @@ use borrow.Author.Needs.{needs}
 use Rattle.format.proofs.length_wrong.Statement.{statement}
 use Rattle.format.proofs.length_wrong.Tie as tie
 
-returns : tie.Need-returns
-returns c =
-    let s = c .before .before .before .before .before in
-    let x = c .before .before .widened .ensures in
-    let y = c .widened2 .ensures in
-    ap not
-    (told-length (s .args .rest .now) (c .before .before .widened .result) (c .widened2 .result) (s .args .value)
-    (x .0) (y .0) (x .1) (y .1) (s .pre .1))
-
 pub length-wrong-spec : {M : Type 1} → statement M
 length-wrong-spec =
     tie.close
-    (tie.spec
-    (λ c. search needs)
-    (λ c κs. search needs)
-    (λ c. search needs)
-    (λ c κs. search needs)
-    (λ c. search needs)
-    (λ c. search needs)
-    (λ c. search needs)
-    returns)
+    (tie.spec (λ c. search needs) (λ c κs. search needs) (λ c. search needs) (λ c κs. search needs)
+    (λ c. search needs) (λ c. search needs) (λ c. search needs)
+    (λ c. let s = c .before .before .before .before .before in let x = c .before .before .widened .ensures in
+    let y = c .widened2 .ensures in
+    ap not (told-length (s .args .rest .now) _ _ (s .args .value) (x .0) (y .0) (x .1) (y .1) (s .pre .1))))

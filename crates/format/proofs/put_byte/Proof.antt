@@ -5,9 +5,8 @@ use borrow.Author.Needs.{needs}
 use Rattle.format.proofs.put_byte.Statement.{statement}
 use Rattle.format.proofs.put_byte.Tie as tie
 
-returns : tie.Need-returns
-unfolding membersBytes valueBytes
-returns c = rw append-nil (c .before .before .put .ensures)
-
 pub put-byte-spec : {M : Type 1} → statement M
-put-byte-spec = tie.close (tie.spec (λ c κs. search needs) (λ c. search needs) returns)
+unfolding membersBytes valueBytes
+put-byte-spec =
+    tie.close
+    (tie.spec (λ c κs. search needs) (λ c. search needs) (λ c. rw append-nil (c .before .before .put .ensures)))

@@ -10,31 +10,16 @@ use borrow.Author.Needs.{needs}
 use Rattle.format.proofs.put_deadline.Statement.{statement}
 use Rattle.format.proofs.put_deadline.Tie as tie
 
-returns : tie.Need-returns
-unfolding membersBytes valueBytes
-returns c =
-    let q = c .before .before .before .before .before .before in
-    let p = q .before .before .before .before .before .before .before in
-    let a = p .args in
-    rw (
-      c .before .before .put2 .ensures,
-      c .before .before .before .before .before .before .put-wide .ensures,
-      c .before .before .before .before .before .before .before .before .before .before .put .ensures,
-      sets-then (a .buf .now) (a .at) 1 (be 1 (a .present)) (be 16 (valueOf (a .exact))) (length-be 1 (a .present)),
-      append-nil,
-      ← append-assoc,
-    )
-    (sets-then (a .buf .now) (a .at) 17 (be 1 (a .present) ++ be 16 (valueOf (a .exact))) (be 8 (a .word))
-    (simp (length-append, length-be)))
-
 pub put-deadline-spec : {M : Type 1} → statement M
+unfolding membersBytes valueBytes
 put-deadline-spec =
     tie.close
-    (tie.spec
-    (λ c κs. search needs)
-    (λ c. search needs)
-    (λ c κs. search needs)
-    (λ c. search needs)
-    (λ c κs. search needs)
-    (λ c. search needs)
-    returns)
+    (tie.spec (λ c κs. search needs) (λ c. search needs) (λ c κs. search needs) (λ c. search needs)
+    (λ c κs. search needs) (λ c. search needs)
+    (λ c. let q = c .before .before .before .before .before .before in let r = q .before .before .before .before in
+    let a = r .before .before .before .args in
+    let e = length-be 1 (a .present) in
+    let f = sets-then (a .buf .now) (a .at) 1 (be 1 (a .present)) (be 16 (valueOf (a .exact))) e in
+    rw (c .before .before .put2 .ensures, q .put-wide .ensures, r .put .ensures, f, append-nil, ← append-assoc)
+    (sets-then (a .buf .now) (a .at) 17 (be 1 (a .present) ++ be 16 (valueOf (a .exact))) (be 8 (a .word))
+    (simp (length-append, length-be)))))

@@ -8,12 +8,11 @@ use borrow.Author.Needs.{needs}
 use Rattle.format.proofs.put_skip.Statement.{statement}
 use Rattle.format.proofs.put_skip.Tie as tie
 
-returns : tie.Need-returns
-unfolding membersBytes valueBytes
-returns c =
-    let a = c .before .before .before .before .before .before .before .before .before .args in
-    rw (c .before .before .put2 .ensures, c .before .before .before .before .before .before .put .ensures, append-nil)
-    (sets-then (a .buf .now) (a .at) 8 (be 8 (a .passed)) (be 1 (a .line)) (length-be 8 (a .passed)))
-
 pub put-skip-spec : {M : Type 1} → statement M
-put-skip-spec = tie.close (tie.spec (λ c κs. search needs) (λ c. search needs) (λ c κs. search needs) (λ c. search needs) returns)
+unfolding membersBytes valueBytes
+put-skip-spec =
+    tie.close
+    (tie.spec (λ c κs. search needs) (λ c. search needs) (λ c κs. search needs) (λ c. search needs)
+    (λ c. let p = c .before .before .before .before .before .before in let a = p .before .before .before .args in
+    rw (c .before .before .put2 .ensures, p .put .ensures, append-nil)
+    (sets-then (a .buf .now) (a .at) 8 (be 8 (a .passed)) (be 1 (a .line)) (length-be 8 (a .passed)))))

@@ -1,98 +1,37 @@
 -- `write_at` meets its contract. Assumes nothing.
-use mathlib.Core.Path.{ap, ap₂, _∙_}
+use mathlib.Core.Path.{refl, ap, ap₂, _∙_}
 use native.Mathlib.Omega.{arith}
-use Prim.Native.Nat.{ℕ}
-use mathlib.Core.List.{List}
-use Rattle.wide.specs.Fields.{beAt}
-use Rattle.board.specs.declared.calls.Call.{Call}
 use Rattle.board.specs.declared.calls.Call.the-variants.{Write}
 use Rattle.board.specs.Calls.{addressRefusal}
-use Rattle.format.proofs.Decoding.{value-of, answer-of, whole, as-unframed, as-own, as-short, as-accepted}
+use Rattle.format.proofs.Decoding.{small, within, answer-of, as-unframed, as-own, as-short, as-accepted}
 use borrow.Author.Needs.{needs}
 use Rattle.format.proofs.write_at.Statement.{statement}
 use Rattle.format.proofs.write_at.Tie as tie
 
--- the call that stands there
-abbrev here : List ℕ → Call
-here l = Write (beAt l 5 1) (beAt l 3 2)
-
-framed-requires : tie.Need-framed-requires
-framed-requires c κs = (c .before .before .pre, omega (arith, value-of 3 _ (c .lengths-of .ensures)))
-
-unframed-requires : tie.Need-unframed-requires
-unframed-requires c κs =
-    (c .before .before .before .before .pre, omega (arith, value-of 3 _ (c .before .before .lengths-of .ensures)))
-
-returns : tie.Need-returns
-returns c =
-    let a = c .before .before .before .before .before .args in
-    as-unframed (here (a .rest .now)) _ (a .room) _ (c .before .before .before .lengths-of .ensures) _
-    (c .before .before .framed .ensures) _
-    (c .unframed .ensures) (c .before .if1 .taken)
-
-address-at-requires : tie.Need-address-at-requires
-address-at-requires c κs =
-    let h = whole 3 _ (c .before .before .lengths-of .ensures) _ _ (c .before .framed .ensures) (c .if1 .left) in
-    omega arith
-
-returns-2 : tie.Need-returns-2
-returns-2 c =
-    let u = c .before .before in
-    let a = u .before .before .before .before .before .before .args in
-    c .refused .ensures
-    ∙ as-own (here (a .rest .now)) _ (a .room) _ (u .before .before .before .before .lengths-of .ensures) _
-    (u .before .before .before .framed .ensures)
-    (u .before .before .if1 .left) _
-    (u .address-refusal .ensures ∙ ap addressRefusal (u .before .address-at .ensures)) (c .before .if2 .taken)
-
-add-if3 : tie.Need-add-if3
-add-if3 c =
-    omega (arith, answer-of 3 _ (c .before .before .before .before .before .before .lengths-of .ensures))
-
-returns-3 : tie.Need-returns-3
-returns-3 c =
-    let u = c .before .before .before .before in
-    let a = u .before .before .before .before .before .before .args in
-    c .refused2 .ensures
-    ∙ as-short (here (a .rest .now)) _ (a .room) _ (u .before .before .before .before .lengths-of .ensures) _
-    (u .before .before .before .framed .ensures)
-    (u .before .before .if1 .left) _
-    (u .address-refusal .ensures ∙ ap addressRefusal (u .before .address-at .ensures))
-    (c .before .before .before .if2 .left) (c .before .if3 .taken)
-
-byte-at-requires : tie.Need-byte-at-requires
-byte-at-requires c κs =
-    let u = c .before .before .before .before .before in
-    let h = whole 3 _ (u .before .before .lengths-of .ensures) _ _ (u .before .framed .ensures) (u .if1 .left) in
-    omega arith
-
-returns-4 : tie.Need-returns-4
-returns-4 c =
-    let u = c .before .before .before .before .before in
-    let a = u .before .before .before .before .before .before .args in
-    c .accepted .ensures
-    ∙ as-accepted (here (a .rest .now)) _ (a .room) _ (u .before .before .before .before .lengths-of .ensures) _
-    (u .before .before .before .framed .ensures)
-    (u .before .before .if1 .left) _
-    (u .address-refusal .ensures ∙ ap addressRefusal (u .before .address-at .ensures))
-    (c .before .before .before .before .if2 .left) _
-    (ap₂ Write (c .before .byte-at .ensures) (u .before .address-at .ensures)) (c .before .before .if3 .left)
-
 pub write-at-spec : {M : Type 1} → statement M
 write-at-spec =
     tie.close
-    (tie.spec
-    (λ c κs. search needs)
-    framed-requires
-    unframed-requires
-    returns
-    address-at-requires
-    (λ c κs. search needs)
-    (λ c κs. search needs)
-    returns-2
-    add-if3
-    (λ c κs. search needs)
-    returns-3
-    byte-at-requires
-    (λ c κs. search needs)
-    returns-4)
+    (tie.spec (λ c κs. search needs) (λ c κs. (c .before .before .pre, small 3 refl (c .lengths-of .ensures)))
+    (λ c κs. (c .before .before .before .before .pre, small 3 refl (c .before .before .lengths-of .ensures)))
+    (λ c. let s = c .before in
+    as-unframed (Write _ _) _ _ (s .before .before .lengths-of .ensures) (s .before .framed .ensures)
+    (c .unframed .ensures) (s .if1 .taken))
+    (λ c κs. within 3 _ (c .before .before .lengths-of .ensures) (c .before .framed .ensures) (c .if1 .left) 5 refl)
+    (λ c κs. search needs) (λ c κs. search needs) (λ c. let u = c .before .before in let s = u .before .before in
+    c .refused .ensures ∙ as-own (Write _ _) _ _ (s .before .before .lengths-of .ensures) (s .before .framed .ensures)
+    (s .if1 .left) (u .address-refusal .ensures ∙ ap addressRefusal (u .before .address-at .ensures))
+    (c .before .if2 .taken))
+    (λ c. omega (arith, answer-of 3 _ (c .before .before .before .before .before .before .lengths-of .ensures)))
+    (λ c κs. search needs) (λ c. let u = c .before .before .before .before in let s = u .before .before in
+    c .refused2 .ensures
+    ∙ as-short (Write _ _) _ _ (s .before .before .lengths-of .ensures) (s .before .framed .ensures) (s .if1 .left)
+    (u .address-refusal .ensures ∙ ap addressRefusal (u .before .address-at .ensures))
+    (c .before .before .before .if2 .left) (c .before .if3 .taken))
+    (λ c κs. let s = c .before .before .before .before .before in
+    within 3 _ (s .before .before .lengths-of .ensures) (s .before .framed .ensures) (s .if1 .left) 6 refl)
+    (λ c κs. search needs) (λ c. let u = c .before .before .before .before .before in let s = u .before .before in
+    c .accepted .ensures
+    ∙ as-accepted (Write _ _) _ _ (s .before .before .lengths-of .ensures) (s .before .framed .ensures) (s .if1 .left)
+    (u .address-refusal .ensures ∙ ap addressRefusal (u .before .address-at .ensures))
+    (c .before .before .before .before .if2 .left)
+    (ap₂ Write (c .before .byte-at .ensures) (u .before .address-at .ensures)) (c .before .before .if3 .left)))
