@@ -21,18 +21,8 @@ use Rattle.controller.specs.declared.SourceNumber.{SourceNumber}
 use Rattle.controller.specs.Controller.{sourceSet, controllerRead, controllerWritten, outputOf}
 use Rattle.board.specs.declared.Board.{Board}
 use Rattle.board.specs.declared.calls.Call.{Call}
-use Rattle.board.specs.declared.calls.Call.the-variants.{
-  HostTime,
-  Read,
-  Write,
-  Advance,
-  Deadline,
-  Skip,
-  Source,
-  ControllerRead,
-  ControllerWrite,
-  Output,
-}
+use Rattle.board.specs.declared.calls.Call.the-variants.{HostTime, Read, Write, Advance, Deadline, Skip, Source}
+use Rattle.board.specs.declared.calls.Call.the-variants.{ControllerRead, ControllerWrite, Output}
 use Rattle.board.specs.declared.calls.SkipAdvance.{SkipAdvance}
 use Rattle.board.specs.declared.calls.DeadlineMembers.{DeadlineMembers}
 use Rattle.board.specs.Board.{line, exactDeadline, sound}
@@ -51,19 +41,12 @@ use Rattle.format.specs.CodeDecode.{valueRefusal, decodedOf, boardRefusal, firs
 use Rattle.format.proofs.Frames.{value-below, answer-below, sets-then}
 use Rattle.format.proofs.Decoding.{value-of, answer-of, decoded-accepted, first-refusal, accepted-refusal}
 use Rattle.list.specs.declared.parts.Step.{Step}
-use Rattle.list.specs.declared.parts.Step.the-variants.{
-  Refused,
-  Read as ReadStep,
-  Write as WriteStep,
-  Pass,
-  HostTime as HostTimeStep,
-  Stay,
-  Deadline as DeadlineStep,
-  Source as SourceStep,
-  ControllerRead as ControllerReadStep,
-  ControllerWrite as ControllerWriteStep,
-  Output as OutputStep,
-}
+use Rattle.list.specs.declared.parts.Step.the-variants.{Refused, Read as ReadStep, Write as WriteStep, Pass}
+use Rattle.list.specs.declared.parts.Step.the-variants.{HostTime as HostTimeStep, Stay}
+use Rattle.list.specs.declared.parts.Step.the-variants.{Deadline as DeadlineStep, Source as SourceStep}
+use Rattle.list.specs.declared.parts.Step.the-variants.{ControllerRead as ControllerReadStep}
+use Rattle.list.specs.declared.parts.Step.the-variants.{ControllerWrite as ControllerWriteStep}
+use Rattle.list.specs.declared.parts.Step.the-variants.{Output as OutputStep}
 use Rattle.list.specs.CodeParts.{Makes, SkipIs, Accepts, StepIs, otherCall, Changed, passedPut, otherPut}
 use Rattle.list.proofs.parts.Step as S
 

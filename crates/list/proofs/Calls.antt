@@ -24,33 +24,14 @@ use Rattle.controller.proofs.Laws.{steady, level-other}
 use Rattle.board.specs.declared.Board.{Board}
 use Rattle.board.specs.declared.Latches.{Latches}
 use Rattle.board.specs.declared.calls.Call.{Call}
-use Rattle.board.specs.declared.calls.Call.the-variants.{
-  HostTime,
-  Read,
-  Write,
-  Advance,
-  Deadline,
-  Skip,
-  Source,
-  ControllerRead,
-  ControllerWrite,
-  Output,
-}
+use Rattle.board.specs.declared.calls.Call.the-variants.{HostTime, Read, Write, Advance, Deadline, Skip, Source}
+use Rattle.board.specs.declared.calls.Call.the-variants.{ControllerRead, ControllerWrite, Output}
 use Rattle.board.specs.Registers.{base, registerOf, byteOf, placeOf}
 use Rattle.board.specs.Fields.{withClock, withController, channelAt, withChannel}
 use Rattle.board.specs.Board.{line, wired, sound}
 use Rattle.board.specs.Channels.{matchesAll}
-use Rattle.board.specs.Calls.{
-  effectOf,
-  boardAfter,
-  orZero,
-  advanceBy,
-  movedBoard,
-  skipLength,
-  movedBy,
-  sourceRefusal,
-  sourceOfLine,
-}
+use Rattle.board.specs.Calls.{effectOf, boardAfter, orZero, advanceBy, movedBoard, skipLength, movedBy, sourceRefusal}
+use Rattle.board.specs.Calls.{sourceOfLine}
 use Rattle.board.proofs.Loops.{map-length}
 use Rattle.board.proofs.Soundness.{sound-facts, wired-sound, wired-line, wired-level}
 use Rattle.registers.specs.declared.reads.LatchedReading.{LatchedReading}
@@ -68,36 +49,15 @@ use Rattle.format.specs.CodeAnswers.{headerBytes}
 use Rattle.format.specs.Codec.{tagOf, callLength, answerRecord, recordLength}
 use Rattle.format.proofs.Frames.{answer-length}
 use Rattle.list.specs.declared.parts.Step.{Step}
-use Rattle.list.specs.declared.parts.Step.the-variants.{
-  Refused,
-  Read as ReadStep,
-  Write as WriteStep,
-  Pass,
-  HostTime as HostTimeStep,
-  Stay,
-  Deadline as DeadlineStep,
-  Source as SourceStep,
-  ControllerRead as ControllerReadStep,
-  ControllerWrite as ControllerWriteStep,
-  Output as OutputStep,
-}
+use Rattle.list.specs.declared.parts.Step.the-variants.{Refused, Read as ReadStep, Write as WriteStep, Pass}
+use Rattle.list.specs.declared.parts.Step.the-variants.{HostTime as HostTimeStep, Stay}
+use Rattle.list.specs.declared.parts.Step.the-variants.{Deadline as DeadlineStep, Source as SourceStep}
+use Rattle.list.specs.declared.parts.Step.the-variants.{ControllerRead as ControllerReadStep}
+use Rattle.list.specs.declared.parts.Step.the-variants.{ControllerWrite as ControllerWriteStep}
+use Rattle.list.specs.declared.parts.Step.the-variants.{Output as OutputStep}
 use Rattle.list.specs.declared.parts.Changes.{Changes}
-use Rattle.list.specs.CodeParts.{
-  Reads,
-  Writes,
-  Passes,
-  Makes,
-  Accepts,
-  StepIs,
-  otherCall,
-  withChanges,
-  ChangesAre,
-  Changed,
-  passCall,
-  begunPut,
-  passedPut,
-  otherPut,
-}
+use Rattle.list.specs.CodeParts.{Reads, Writes, Passes, Makes, Accepts, StepIs, otherCall, withChanges}
+use Rattle.list.specs.CodeParts.{ChangesAre, Changed, passCall, begunPut, passedPut, otherPut}
 use Rattle.list.proofs.parts.Step.{the-type}
 use Rattle.list.proofs.Advances.{begun-length}
 use Rattle.list.proofs.Records.{countsPut, counts-over, other-record, advance-record, skip-record}

@@ -17,16 +17,7 @@ use Rattle.board.specs.declared.calls.Call.{Call}
 use Rattle.board.specs.Loops.{All}
 use Rattle.board.specs.Channels.{matchesAll}
 use Rattle.board.specs.Board.{BoardFits, line, exactDeadline, wordDeadline, sound}
-use Rattle.board.specs.Calls.{
-  effectOf,
-  DirectAnswer,
-  refusalOf,
-  boardAfter,
-  isPresent,
-  orZero,
-  movedBoard,
-  advanceBy,
-}
+use Rattle.board.specs.Calls.{effectOf, DirectAnswer, refusalOf, boardAfter, isPresent, orZero, movedBoard, advanceBy}
 use Rattle.board.specs.Demand.{PassesTime, after, afterAll, cyclesPassed, PromiseAfter}
 use Rattle.board.proofs.Soundness.{wired-line}
 use Rattle.board.proofs.Good.{Good, good, good-sound}

@@ -13,18 +13,8 @@ use Rattle.clock.specs.Fields.{withHost}
 use Rattle.controller.specs.declared.IrqController.{IrqController}
 use Rattle.board.specs.declared.Board.{Board}
 use Rattle.board.specs.declared.calls.Call.{Call}
-use Rattle.board.specs.declared.calls.Call.the-variants.{
-  HostTime,
-  Read,
-  Write,
-  Advance,
-  Deadline,
-  Skip,
-  Source,
-  ControllerRead,
-  ControllerWrite,
-  Output,
-}
+use Rattle.board.specs.declared.calls.Call.the-variants.{HostTime, Read, Write, Advance, Deadline, Skip, Source}
+use Rattle.board.specs.declared.calls.Call.the-variants.{ControllerRead, ControllerWrite, Output}
 use Rattle.board.specs.Registers.{base}
 use Rattle.board.specs.Fields.{withClock, withController}
 use Rattle.board.specs.Calls.{effectOf, advanceBy, skipLength}
@@ -32,19 +22,12 @@ use Rattle.format.specs.Format.{answerLength, answerBytes, valueBytes}
 use Rattle.format.specs.Codec.{callAt, refusalAt, tagOf}
 use Rattle.format.specs.CodeAnswers.{headerBytes, wides}
 use Rattle.list.specs.declared.parts.Step.{Step}
-use Rattle.list.specs.declared.parts.Step.the-variants.{
-  Refused,
-  Read as ReadStep,
-  Write as WriteStep,
-  Pass,
-  HostTime as HostTimeStep,
-  Stay,
-  Deadline as DeadlineStep,
-  Source as SourceStep,
-  ControllerRead as ControllerReadStep,
-  ControllerWrite as ControllerWriteStep,
-  Output as OutputStep,
-}
+use Rattle.list.specs.declared.parts.Step.the-variants.{Refused, Read as ReadStep, Write as WriteStep, Pass}
+use Rattle.list.specs.declared.parts.Step.the-variants.{HostTime as HostTimeStep, Stay}
+use Rattle.list.specs.declared.parts.Step.the-variants.{Deadline as DeadlineStep, Source as SourceStep}
+use Rattle.list.specs.declared.parts.Step.the-variants.{ControllerRead as ControllerReadStep}
+use Rattle.list.specs.declared.parts.Step.the-variants.{ControllerWrite as ControllerWriteStep}
+use Rattle.list.specs.declared.parts.Step.the-variants.{Output as OutputStep}
 use Rattle.list.specs.declared.parts.Changes.{Changes}
 
 -- ---- the step that the run makes of the call at the front

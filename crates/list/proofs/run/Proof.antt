@@ -17,12 +17,15 @@ use Rattle.format.specs.Codec.{callAt}
 use Rattle.format.proofs.Frames.{call-least}
 use Rattle.list.specs.CodeParts.{StepIs}
 use Rattle.list.specs.Run.{runOf, over}
-use Rattle.list.proofs.Advances.{begins, next-phase, advances, passed-over, still-timed, counts-begin, next-zero, counts-next, counts-passed, counts-same}
+use Rattle.list.proofs.Advances.{begins, next-phase, advances, passed-over, still-timed, counts-begin}
+use Rattle.list.proofs.Advances.{next-zero, counts-next, counts-passed, counts-same}
 use Rattle.list.proofs.Runs.{Ran, begun, ended, ends, rest-bytes, goes-on}
 use Rattle.list.proofs.Calls.{other-kind, read-length, write-length, pass-length, pass-room, begun-room}
 use Rattle.list.proofs.run.Statement.{statement}
 use Rattle.list.proofs.run.Tie as tie
-use Rattle.list.proofs.run.Proof.Arms.{Inv-loop2, μ-loop2, Inv-loop, μ-loop, listOf, usedOf, boardOf, restOf, roomOf, rest-is, board-sound, accepts, other-accepts, other-is, met-accepted, served, board-set, call-inside, answer-inside}
+use Rattle.list.proofs.run.Proof.Arms.{Inv-loop2, μ-loop2, Inv-loop, μ-loop, listOf, usedOf, boardOf, restOf}
+use Rattle.list.proofs.run.Proof.Arms.{roomOf, rest-is, board-sound, accepts, other-accepts, other-is}
+use Rattle.list.proofs.run.Proof.Arms.{met-accepted, served, board-set, call-inside, answer-inside}
 
 returns : tie.Need-returns Inv-loop2 μ-loop2 Inv-loop μ-loop
 unfolding runOf over
@@ -36,23 +39,8 @@ loop-holds c =
     (good _ (c .before .sound .ensures .1) (sym (c .before .sound .ensures .0) ∙ not-false _ (c .if1 .left))) refl refl
     refl
 
-sub-rest : tie.Need-sub-rest Inv-loop2 μ-loop2 Inv-loop μ-loop
-sub-rest c = omega (arith, c .before .loop .inv .used-in)
-
-part-rest-start : tie.Need-part-rest-start Inv-loop2 μ-loop2 Inv-loop μ-loop
-part-rest-start c = omega (arith, c .before .loop .inv .used-in)
-
-part-rest-end : tie.Need-part-rest-end Inv-loop2 μ-loop2 Inv-loop μ-loop
-part-rest-end c = omega (arith, c .before .loop .inv .used-in)
-
 sub-step-of : tie.Need-sub-step-of Inv-loop2 μ-loop2 Inv-loop μ-loop
 sub-step-of c = omega (arith, c .before .before .loop .inv .counted, c .before .before .loop .inv .room, c .before .before .loop .inv .same)
-
-step-of-requires : tie.Need-step-of-requires Inv-loop2 μ-loop2 Inv-loop μ-loop
-step-of-requires c κs = good-sound (c .before .before .loop .inv .good)
-
-same-length : tie.Need-same-length Inv-loop2 μ-loop2 Inv-loop μ-loop
-same-length c = omega (arith, c .before .before .before .before .before .before .before .loop .inv .same)
 
 returns-2 : tie.Need-returns-2 Inv-loop2 μ-loop2 Inv-loop μ-loop
 unfolding runOf Ran
@@ -64,12 +52,6 @@ returns-2 c =
     rw s
     (rw (c .stopped2 .ensures)
     (ends _ _ _ _ _ _ _ _ (u .before .before .before .loop .inv) (u .before .before .loop-test .taken) _ (rest-is u) _ (r .0) (r .1)))
-
-mul-timer : tie.Need-mul-timer Inv-loop2 μ-loop2 Inv-loop μ-loop
-mul-timer c = omega (arith, c .channel-index .ensures .1)
-
-element-copy-out-timer : tie.Need-element-copy-out-timer Inv-loop2 μ-loop2 Inv-loop μ-loop
-element-copy-out-timer c = c .channel-index .ensures .1
 
 plain-at-requires : tie.Need-plain-at-requires Inv-loop2 μ-loop2 Inv-loop μ-loop
 plain-at-requires c κs = (
@@ -99,20 +81,8 @@ add-used c = let u = c .before .before .before .before .before .before .before i
 clock-after-requires : tie.Need-clock-after-requires Inv-loop2 μ-loop2 Inv-loop μ-loop
 clock-after-requires c κs = sound-times _ (c .before .before .before .before .before .before .before .before .before .before .loop .inv .good .fits .clock) (good-sound (c .before .before .before .before .before .before .before .before .before .before .loop .inv .good))
 
-mul-timer-after : tie.Need-mul-timer-after Inv-loop2 μ-loop2 Inv-loop μ-loop
-mul-timer-after c = omega (arith, c .channel-index2 .ensures .1)
-
-element-copy-out-timer-after : tie.Need-element-copy-out-timer-after Inv-loop2 μ-loop2 Inv-loop μ-loop
-element-copy-out-timer-after c = c .channel-index2 .ensures .1
-
 timer-after-requires : tie.Need-timer-after-requires Inv-loop2 μ-loop2 Inv-loop μ-loop
 timer-after-requires c κs = channel-range _ (sym (c .before .before .before .before .part-at .ensures) ∙ c .before .before .enum-told5 .given .1)
-
-mul-after : tie.Need-mul-after Inv-loop2 μ-loop2 Inv-loop μ-loop
-mul-after c = omega (arith, c .before .before .channel-index2 .ensures .1)
-
-element-set-from-after : tie.Need-element-set-from-after Inv-loop2 μ-loop2 Inv-loop μ-loop
-element-set-from-after c = c .before .before .channel-index2 .ensures .1
 
 at-control-requires : tie.Need-at-control-requires Inv-loop2 μ-loop2 Inv-loop μ-loop
 at-control-requires c κs = channel-range _ (sym (c .before .before .before .before .before .part-at .ensures) ∙ c .before .before .before .enum-told5 .given .1)
@@ -135,23 +105,8 @@ loop2-holds c = let g = c .before .before .before .before .before .before .befor
   counts-begin _ _ _ _ (c .before .before .before .before .before .before .before .before .before .before .loop .b) (g .fits .four) _ _ (c .before .before .put-begun .ensures),
 )
 
-mul-timer-2 : tie.Need-mul-timer-2 Inv-loop2 μ-loop2 Inv-loop μ-loop
-mul-timer-2 c = omega (arith, c .loop2-test .taken)
-
-element-copy-out-timer-2 : tie.Need-element-copy-out-timer-2 Inv-loop2 μ-loop2 Inv-loop μ-loop
-element-copy-out-timer-2 c = c .loop2-test .taken
-
-cast-t84 : tie.Need-cast-t84 Inv-loop2 μ-loop2 Inv-loop μ-loop
-cast-t84 c = omega (arith, c .before .loop2-test .taken)
-
 advance-cycles-requires : tie.Need-advance-cycles-requires Inv-loop2 μ-loop2 Inv-loop μ-loop
 advance-cycles-requires c κs = next-phase _ _ _ _ _ (c .before .before .before .before .before .loop2 .inv .0) (c .before .before .before .before .loop2-test .taken)
-
-mul-timer-after-2 : tie.Need-mul-timer-after-2 Inv-loop2 μ-loop2 Inv-loop μ-loop
-mul-timer-after-2 c = omega (arith, c .before .before .before .before .before .before .loop2-test .taken)
-
-element-set-from-timer-after : tie.Need-element-set-from-timer-after Inv-loop2 μ-loop2 Inv-loop μ-loop
-element-set-from-timer-after c = c .before .before .before .before .before .before .loop2-test .taken
 
 put-points-requires : tie.Need-put-points-requires Inv-loop2 μ-loop2 Inv-loop μ-loop
 put-points-requires c κs = let u = c .before .before .before .before .before .before .before .before .before .before .before .before .before .before .before .before .before in let a = accepts u _ (c .before .before .before .before .before .before .before .before .before .before .before .before .before .before .before .step4 .given .1) (omega arith) in
@@ -162,12 +117,6 @@ put-points-requires c κs = let u = c .before .before .before .before .before .b
       h,
       λ e. (omega (arith, room .0 e, m), next-zero _ _ _ _ _ _ _ (l .inv .0) _ _ (l .inv .1) h e),
     )
-
-add-i : tie.Need-add-i Inv-loop2 μ-loop2 Inv-loop μ-loop
-add-i c = omega (arith, c .before .before .before .before .loop2-test .taken)
-
-loop2-less : tie.Need-loop2-less Inv-loop2 μ-loop2 Inv-loop μ-loop
-loop2-less c = omega (arith, c .before .before .before .before .loop2-test .taken)
 
 loop2-again : tie.Need-loop2-again Inv-loop2 μ-loop2 Inv-loop μ-loop
 loop2-again c =
@@ -201,9 +150,6 @@ add-used-3 : tie.Need-add-used-3 Inv-loop2 μ-loop2 Inv-loop μ-loop
 add-used-3 c = let u = c .before .before .before .before .before .before .before .before .before .before .before .before .before .before .before .before .before .before in let a = accepts u _ (c .before .before .before .before .before .before .before .before .before .before .before .before .before .before .before .before .step4 .given .1) (omega arith) in
     let n = pass-length _ _ _ _ (a .makes) .0 in
     omega (arith, call-inside u (a .accepted), n, c .pass-length .ensures, u .before .before .before .before .before .before .before .before .good)
-
-changes-of-requires : tie.Need-changes-of-requires Inv-loop2 μ-loop2 Inv-loop μ-loop
-changes-of-requires c κs = board-sound (c .before)
 
 put-other-requires : tie.Need-put-other-requires Inv-loop2 μ-loop2 Inv-loop μ-loop
 put-other-requires c κs =
@@ -243,9 +189,6 @@ loop-again c =
     (met-accepted m) (rest-bytes (listOf u) (restOf u) (usedOf u) (rest-is u) (λ i. omega (arith, u .before .before .before .before .before .before .before .shared-slice-known .given i))) _ (board-set (c .before)) _
     (k .carried .put) _ _ (k .used) (k .size)
 
-same-length-2 : tie.Need-same-length-2 Inv-loop2 μ-loop2 Inv-loop μ-loop
-same-length-2 c = omega (arith, c .before .before .loop .inv .same)
-
 returns-3 : tie.Need-returns-3 Inv-loop2 μ-loop2 Inv-loop μ-loop
 unfolding runOf Ran
 returns-3 c =
@@ -256,86 +199,26 @@ returns-3 c =
 pub run-spec : {M : Type 1} → statement M
 run-spec =
     tie.close
-    (tie.spec
-    Inv-loop2
-    μ-loop2
-    Inv-loop
-    μ-loop
-    (λ c κs. tt)
-    (λ c κs. tt)
-    returns
-    loop-holds
-    sub-rest
-    part-rest-start
-    part-rest-end
-    sub-step-of
-    step-of-requires
-    (λ c. search needs)
-    (λ c κs. tt)
-    same-length
-    returns-2
-    (λ c. search needs)
-    (λ c κs. tt)
-    mul-timer
-    element-copy-out-timer
-    (λ c κs. tt)
-    plain-at-requires
-    put-byte-requires
-    reading-at-requires
-    put-byte-requires-2
-    add-used
-    (λ c. search needs)
-    (λ c κs. tt)
-    (λ c. search needs)
-    (λ c. search needs)
-    (λ c κs. tt)
-    (λ c. search needs)
-    (λ c κs. tt)
-    (λ c. search needs)
-    clock-after-requires
-    (λ c. search needs)
-    (λ c κs. tt)
-    mul-timer-after
-    element-copy-out-timer-after
-    timer-after-requires
-    mul-after
-    element-set-from-after
-    at-control-requires
-    put-header-requires
-    add-used-2
-    (λ c. search needs)
-    put-begun-requires
-    loop2-holds
-    mul-timer-2
-    element-copy-out-timer-2
-    cast-t84
-    (λ c κs. tt)
-    (λ c κs. tt)
+    (tie.spec Inv-loop2 μ-loop2 Inv-loop μ-loop (λ c κs. tt) (λ c κs. tt) returns loop-holds
+    (λ c. omega (arith, c .before .loop .inv .used-in)) (λ c. omega (arith, c .before .loop .inv .used-in))
+    (λ c. omega (arith, c .before .loop .inv .used-in)) sub-step-of
+    (λ c κs. good-sound (c .before .before .loop .inv .good)) (λ c. search needs) (λ c κs. tt)
+    (λ c. omega (arith, c .before .before .before .before .before .before .before .loop .inv .same)) returns-2
+    (λ c. search needs) (λ c κs. tt) (λ c. omega (arith, c .channel-index .ensures .1))
+    (λ c. c .channel-index .ensures .1) (λ c κs. tt) plain-at-requires put-byte-requires reading-at-requires
+    put-byte-requires-2 add-used (λ c. search needs) (λ c κs. tt) (λ c. search needs) (λ c. search needs)
+    (λ c κs. tt) (λ c. search needs) (λ c κs. tt) (λ c. search needs) clock-after-requires (λ c. search needs)
+    (λ c κs. tt) (λ c. omega (arith, c .channel-index2 .ensures .1)) (λ c. c .channel-index2 .ensures .1)
+    timer-after-requires (λ c. omega (arith, c .before .before .channel-index2 .ensures .1))
+    (λ c. c .before .before .channel-index2 .ensures .1) at-control-requires put-header-requires add-used-2
+    (λ c. search needs) put-begun-requires loop2-holds (λ c. omega (arith, c .loop2-test .taken))
+    (λ c. c .loop2-test .taken) (λ c. omega (arith, c .before .loop2-test .taken)) (λ c κs. tt) (λ c κs. tt)
     advance-cycles-requires
-    mul-timer-after-2
-    element-set-from-timer-after
-    put-points-requires
-    add-i
-    loop2-less
-    loop2-again
-    advance-requires
-    (λ c κs. tt)
-    (λ c κs. tt)
-    put-passed-requires
-    (λ c κs. tt)
-    add-used-3
-    (λ c κs. tt)
-    changes-of-requires
-    put-other-requires
-    (λ c κs. tt)
-    add-used-4
-    (λ c κs. tt)
-    (λ c κs. tt)
-    (λ c κs. tt)
-    add-calls
-    add-written
-    loop-less
-    loop-again
-    (λ c κs. tt)
-    same-length-2
-    returns-3)
+    (λ c. omega (arith, c .before .before .before .before .before .before .loop2-test .taken))
+    (λ c. c .before .before .before .before .before .before .loop2-test .taken) put-points-requires
+    (λ c. omega (arith, c .before .before .before .before .loop2-test .taken))
+    (λ c. omega (arith, c .before .before .before .before .loop2-test .taken)) loop2-again advance-requires
+    (λ c κs. tt) (λ c κs. tt) put-passed-requires (λ c κs. tt) add-used-3 (λ c κs. tt)
+    (λ c κs. board-sound (c .before)) put-other-requires (λ c κs. tt) add-used-4 (λ c κs. tt) (λ c κs. tt)
+    (λ c κs. tt) add-calls add-written loop-less loop-again (λ c κs. tt)
+    (λ c. omega (arith, c .before .before .loop .inv .same)) returns-3)

@@ -1,28 +1,9 @@
 -- `changes_of` meets its contract. Assumes nothing.
-use Rattle.list.proofs.CallParts.{
-  host-changes,
-  source-changes,
-  read-changes,
-  write-changes,
-  output-changes,
-  deadline-changes,
-  rest-changes,
-}
+use Rattle.list.proofs.CallParts.{host-changes, source-changes, read-changes, write-changes, output-changes}
+use Rattle.list.proofs.CallParts.{deadline-changes, rest-changes}
 use borrow.Author.Needs.{needs}
 use Rattle.list.proofs.parts.changes_of.Statement.{statement}
 use Rattle.list.proofs.parts.changes_of.Tie as tie
-
-returns : tie.Need-returns
-returns c = host-changes _ _ _ _ (c .before .step .given .1)
-
-returns-2 : tie.Need-returns-2
-returns-2 c = source-changes _ _ _ _ (c .before .before .step2 .given .1) _ (c .with-source .ensures)
-
-returns-3 : tie.Need-returns-3
-returns-3 c = read-changes _ _ _ (c .before .before .step3 .given .1) _ (c .read-of .ensures)
-
-returns-4 : tie.Need-returns-4
-returns-4 c = write-changes _ _ _ _ (c .before .before .step4 .given .1) _ (c .written .ensures)
 
 returns-5 : tie.Need-returns-5
 returns-5 c =
@@ -43,26 +24,11 @@ returns-7 c =
 pub changes-of-spec : {M : Type 1} → statement M
 changes-of-spec =
     tie.close
-    (tie.spec
-    (λ c. search needs)
-    (λ c. search needs)
-    (λ c κs. search needs)
-    (λ c. search needs)
-    (λ c κs. search needs)
-    (λ c. search needs)
-    (λ c κs. search needs)
-    (λ c. search needs)
-    (λ c κs. search needs)
-    (λ c κs. search needs)
-    (λ c. search needs)
-    (λ c κs. search needs)
-    (λ c κs. search needs)
-    (λ c κs. search needs)
-    (λ c κs. search needs)
-    returns
-    returns-2
-    returns-3
-    returns-4
-    returns-5
-    returns-6
+    (tie.spec (λ c. search needs) (λ c. search needs) (λ c κs. search needs) (λ c. search needs)
+    (λ c κs. search needs) (λ c. search needs) (λ c κs. search needs) (λ c. search needs) (λ c κs. search needs)
+    (λ c κs. search needs) (λ c. search needs) (λ c κs. search needs) (λ c κs. search needs) (λ c κs. search needs)
+    (λ c κs. search needs) (λ c. host-changes _ _ _ _ (c .before .step .given .1))
+    (λ c. source-changes _ _ _ _ (c .before .before .step2 .given .1) _ (c .with-source .ensures))
+    (λ c. read-changes _ _ _ (c .before .before .step3 .given .1) _ (c .read-of .ensures))
+    (λ c. write-changes _ _ _ _ (c .before .before .step4 .given .1) _ (c .written .ensures)) returns-5 returns-6
     returns-7)

@@ -5,11 +5,6 @@ use borrow.Author.Needs.{needs}
 use Rattle.list.proofs.parts.put_points.Statement.{statement}
 use Rattle.list.proofs.parts.put_points.Tie as tie
 
-add-put-count : tie.Need-add-put-count
-add-put-count c =
-    let s = c .before .before .before in
-    omega (arith, s .pre .1 (c .before .if1 .taken) .0, s .good)
-
 add-put-count-2 : tie.Need-add-put-count-2
 add-put-count-2 c =
     let s = c .before .before .before in
@@ -32,11 +27,5 @@ returns-2 c = rw (c .if1 .left)
 pub put-points-spec : {M : Type 1} → statement M
 put-points-spec =
     tie.close
-    (tie.spec
-    add-put-count
-    (λ c. search needs)
-    add-put-count-2
-    put-count-requires
-    (λ c. search needs)
-    returns
-    returns-2)
+    (tie.spec (λ c. let s = c .before .before .before in omega (arith, s .pre .1 (c .before .if1 .taken) .0, s .good))
+    (λ c. search needs) add-put-count-2 put-count-requires (λ c. search needs) returns returns-2)

@@ -13,7 +13,8 @@ use Rattle.board.specs.Calls.{boardAfter}
 use Rattle.board.specs.Fields.{withTimers, withTimerEnable, withClock, withChannel}
 use Rattle.board.proofs.Good.{good-sound}
 use Rattle.registers.specs.declared.writes.WritePart.{WritePart}
-use Rattle.registers.specs.declared.writes.WritePart.the-variants.{Nothing, Enable, Acknowledge, Clock as OfClock, Channel}
+use Rattle.registers.specs.declared.writes.WritePart.the-variants.{Nothing, Enable, Acknowledge, Clock as OfClock}
+use Rattle.registers.specs.declared.writes.WritePart.the-variants.{Channel}
 use Rattle.board.specs.declared.calls.Call.{Call}
 use Rattle.format.specs.Format.{valueBytes}
 use Rattle.format.specs.Codec.{callAt, callLength, recordLength, refusalAt}
@@ -24,7 +25,9 @@ use Rattle.list.specs.declared.parts.Changes.{Changes}
 use Rattle.list.specs.CodeParts.{Accepts, Changed, otherCall}
 use Rattle.list.proofs.Advances.{Advancing, all-advanced, Counted, counts-end}
 use Rattle.list.proofs.Runs.{Running, stateOf, used-inside, written-inside}
-use Rattle.list.proofs.Calls.{kindOf, step-accepts, other-kind, plain-carried, read-carried, channel-written, write-carried, pass-carried, other-changes, other-size, other-carried, read-length, write-length, pass-length, Served, set-after}
+use Rattle.list.proofs.Calls.{kindOf, step-accepts, other-kind, plain-carried, read-carried, channel-written}
+use Rattle.list.proofs.Calls.{write-carried, pass-carried, other-changes, other-size, other-carried}
+use Rattle.list.proofs.Calls.{read-length, write-length, pass-length, Served, set-after}
 use Rattle.list.proofs.run.Tie as tie
 use Rattle.list.proofs.run.Reads as reads
 use Rattle.list.proofs.run.Lts as lts
