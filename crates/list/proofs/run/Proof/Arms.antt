@@ -29,38 +29,6 @@ use Rattle.list.proofs.Calls.{kindOf, step-accepts, other-kind, plain-c
 use Rattle.list.proofs.Calls.{write-carried, pass-carried, other-changes, other-size, other-carried}
 use Rattle.list.proofs.Calls.{read-length, write-length, pass-length, Served, set-after}
 use Rattle.list.proofs.run.Tie as tie
-use Rattle.list.proofs.run.Reads as reads
-use Rattle.list.proofs.run.Lts as lts
-use Rattle.board.proofs.Board.controller_wired.Reads as controller-wired-reads
-use Rattle.board.proofs.Board.line.Reads as line-reads
-use Rattle.board.proofs.Board.sound.Reads as sound-reads
-use Rattle.channel.proofs.ChannelNumber.selected.Reads as selected-reads
-use Rattle.channel.proofs.HardwareTimer.advance_cycles.Reads as advance-cycles-reads
-use Rattle.channel.proofs.HardwareTimer.runs.Reads as runs-reads
-use Rattle.clock.proofs.Clock.advance.Reads as advance-reads
-use Rattle.format.proofs.put_header.Reads as put-header-reads
-use Rattle.list.proofs.parts.call_length.Reads as call-length-reads
-use Rattle.list.proofs.parts.changes_of.Reads as changes-of-reads
-use Rattle.list.proofs.parts.pass_length.Reads as pass-length-reads
-use Rattle.list.proofs.parts.pass_record.Reads as pass-record-reads
-use Rattle.list.proofs.parts.put_begun.Reads as put-begun-reads
-use Rattle.list.proofs.parts.put_byte.Reads as put-byte-reads
-use Rattle.list.proofs.parts.put_other.Reads as put-other-reads
-use Rattle.list.proofs.parts.put_passed.Reads as put-passed-reads
-use Rattle.list.proofs.parts.put_points.Reads as put-points-reads
-use Rattle.list.proofs.parts.record_length.Reads as record-length-reads
-use Rattle.list.proofs.parts.step_of.Reads as step-of-reads
-use Rattle.list.proofs.stopped.Reads as stopped-reads
-use Rattle.registers.proofs.reads.channel_index.Reads as channel-index-reads
-use Rattle.registers.proofs.reads.plain.Reads as plain-reads
-use Rattle.registers.proofs.reads.plain_at.Reads as plain-at-reads
-use Rattle.registers.proofs.reads.reading_at.Reads as reading-at-reads
-use Rattle.registers.proofs.writes.at_control.Reads as at-control-reads
-use Rattle.registers.proofs.writes.clock_after.Reads as clock-after-reads
-use Rattle.registers.proofs.writes.enable_after.Reads as enable-after-reads
-use Rattle.registers.proofs.writes.part_at.Reads as part-at-reads
-use Rattle.registers.proofs.writes.timer_after.Reads as timer-after-reads
-use Rattle.regmap.proofs.writes.acknowledged.Reads as acknowledged-reads
 
 abbrev pub Inv-loop2 : tie.InvT-loop2
 Inv-loop2 list answers₀ b₀ calls used written size moved counted cycles enable i₀ answers b i =
@@ -76,75 +44,10 @@ Inv-loop list answers₀ b₀ calls₀ used₀ written₀ answers b calls used w
 abbrev pub μ-loop : tie.MeasureT-loop
 μ-loop list answers₀ b₀ calls₀ used₀ written₀ answers b calls used written = length list - used
 
--- what is promised of the functions that are called
-abbrev pub claims : lts.Claims
-claims = (
-  sound-reads.Asked,
-  sound-reads.Learnt,
-  stopped-reads.Asked,
-  stopped-reads.Learnt,
-  step-of-reads.Asked,
-  step-of-reads.Learnt,
-  channel-index-reads.Asked,
-  channel-index-reads.Learnt,
-  plain-reads.Asked,
-  plain-reads.Learnt,
-  plain-at-reads.Asked,
-  plain-at-reads.Learnt,
-  put-byte-reads.Asked,
-  put-byte-reads.Learnt,
-  reading-at-reads.Asked,
-  reading-at-reads.Learnt,
-  part-at-reads.Asked,
-  part-at-reads.Learnt,
-  enable-after-reads.Asked,
-  enable-after-reads.Learnt,
-  acknowledged-reads.Asked,
-  acknowledged-reads.Learnt,
-  clock-after-reads.Asked,
-  clock-after-reads.Learnt,
-  timer-after-reads.Asked,
-  timer-after-reads.Learnt,
-  at-control-reads.Asked,
-  at-control-reads.Learnt,
-  put-header-reads.Asked,
-  put-header-reads.Learnt,
-  put-begun-reads.Asked,
-  put-begun-reads.Learnt,
-  selected-reads.Asked,
-  selected-reads.Learnt,
-  runs-reads.Asked,
-  runs-reads.Learnt,
-  advance-cycles-reads.Asked,
-  advance-cycles-reads.Learnt,
-  put-points-reads.Asked,
-  put-points-reads.Learnt,
-  advance-reads.Asked,
-  advance-reads.Learnt,
-  line-reads.Asked,
-  line-reads.Learnt,
-  controller-wired-reads.Asked,
-  controller-wired-reads.Learnt,
-  put-passed-reads.Asked,
-  put-passed-reads.Learnt,
-  pass-length-reads.Asked,
-  pass-length-reads.Learnt,
-  pass-record-reads.Asked,
-  pass-record-reads.Learnt,
-  changes-of-reads.Asked,
-  changes-of-reads.Learnt,
-  put-other-reads.Asked,
-  put-other-reads.Learnt,
-  call-length-reads.Asked,
-  call-length-reads.Learnt,
-  record-length-reads.Asked,
-  record-length-reads.Learnt,
-)
-
 -- ---- where the step is known
 
 abbrev pub At : Type 0
-At = lts.After-step-of claims reads.Pre reads.Post Inv-loop2 μ-loop2 Inv-loop μ-loop
+At = tie.After-step-of Inv-loop2 μ-loop2 Inv-loop μ-loop
 
 abbrev pub listOf : At → List ℕ
 listOf u = u .before .before .before .before .before .before .before .before .args .list .now
@@ -215,7 +118,7 @@ other-is u k c h =
 -- ---- where the arms of the match meet
 
 abbrev pub Met : Type 0
-Met = lts.At-match-came claims reads.Pre reads.Post Inv-loop2 μ-loop2 Inv-loop μ-loop
+Met = tie.At-match-came Inv-loop2 μ-loop2 Inv-loop μ-loop
 
 -- the call is accepted
 pub met-accepted : (c : Met) → refusalAt (boardOf (c .before)) (restOf (c .before)) (roomOf (c .before)) ≡ 0
@@ -303,7 +206,7 @@ served c =
 
 -- source 3 is set, or stays: the board is that of the accepted call
 abbrev pub Set : Type 0
-Set = lts.Joined4 claims reads.Pre reads.Post Inv-loop2 μ-loop2 Inv-loop μ-loop
+Set = tie.Joined4 Inv-loop2 μ-loop2 Inv-loop μ-loop
 
 pub board-set : (j : Set) →
     j .if4 .b ≡ boardAfter (callAt (restOf (j .before .before))) (boardOf (j .before .before))
