@@ -33,15 +33,6 @@ returns c =
     let e : sound (c .before .before .before .before .before .args .board) ≡ false = sym (c .before .before .sound .ensures .0) ∙ not-true _ (c .before .if1 .taken) in
     rw e (c .stopped .ensures, refl)
 
-loop-holds : tie.Need-loop-holds Inv-loop2 μ-loop2 Inv-loop μ-loop
-loop-holds c =
-    begun _ _ _
-    (good _ (c .before .sound .ensures .1) (sym (c .before .sound .ensures .0) ∙ not-false _ (c .if1 .left))) refl refl
-    refl
-
-sub-step-of : tie.Need-sub-step-of Inv-loop2 μ-loop2 Inv-loop μ-loop
-sub-step-of c = omega (arith, c .before .before .loop .inv .counted, c .before .before .loop .inv .room, c .before .before .loop .inv .same)
-
 returns-2 : tie.Need-returns-2 Inv-loop2 μ-loop2 Inv-loop μ-loop
 unfolding runOf Ran
 returns-2 c =
@@ -81,12 +72,6 @@ add-used c = let u = c .before .before .before .before .before .before .before i
 clock-after-requires : tie.Need-clock-after-requires Inv-loop2 μ-loop2 Inv-loop μ-loop
 clock-after-requires c κs = sound-times _ (c .before .before .before .before .before .before .before .before .before .before .loop .inv .good .fits .clock) (good-sound (c .before .before .before .before .before .before .before .before .before .before .loop .inv .good))
 
-timer-after-requires : tie.Need-timer-after-requires Inv-loop2 μ-loop2 Inv-loop μ-loop
-timer-after-requires c κs = channel-range _ (sym (c .before .before .before .before .part-at .ensures) ∙ c .before .before .enum-told5 .given .1)
-
-at-control-requires : tie.Need-at-control-requires Inv-loop2 μ-loop2 Inv-loop μ-loop
-at-control-requires c κs = channel-range _ (sym (c .before .before .before .before .before .part-at .ensures) ∙ c .before .before .before .enum-told5 .given .1)
-
 put-header-requires : tie.Need-put-header-requires Inv-loop2 μ-loop2 Inv-loop μ-loop
 put-header-requires c κs = let u = c .before .before .before .before .before .before in let a = accepts u _ (c .before .before .before .before .step3 .given .1) (omega arith) in
     omega (arith, answer-inside u (a .accepted), write-length _ _ _ (a .makes) .1)
@@ -95,18 +80,11 @@ add-used-2 : tie.Need-add-used-2 Inv-loop2 μ-loop2 Inv-loop μ-loop
 add-used-2 c = let u = c .before .before .before .before .before .before .before .before .before in let a = accepts u _ (c .before .before .before .before .before .before .before .step3 .given .1) (omega arith) in
     omega (arith, call-inside u (a .accepted), write-length _ _ _ (a .makes) .0, u .before .before .before .before .before .before .before .before .good)
 
-put-begun-requires : tie.Need-put-begun-requires Inv-loop2 μ-loop2 Inv-loop μ-loop
-put-begun-requires c κs = let u = c .before .before .before .before in let a = accepts u _ (c .before .before .step4 .given .1) (omega arith) in
-    pass-room _ _ _ _ (a .makes) _ _ (answer-inside u (a .accepted))
-
 loop2-holds : tie.Need-loop2-holds Inv-loop2 μ-loop2 Inv-loop μ-loop
 loop2-holds c = let g = c .before .before .before .before .before .before .before .before .before .before .loop .inv .good in (
   begins _ _ _ (g .fits .four) (g .facts .timers),
   counts-begin _ _ _ _ (c .before .before .before .before .before .before .before .before .before .before .loop .b) (g .fits .four) _ _ (c .before .before .put-begun .ensures),
 )
-
-advance-cycles-requires : tie.Need-advance-cycles-requires Inv-loop2 μ-loop2 Inv-loop μ-loop
-advance-cycles-requires c κs = next-phase _ _ _ _ _ (c .before .before .before .before .before .loop2 .inv .0) (c .before .before .before .before .loop2-test .taken)
 
 put-points-requires : tie.Need-put-points-requires Inv-loop2 μ-loop2 Inv-loop μ-loop
 put-points-requires c κs = let u = c .before .before .before .before .before .before .before .before .before .before .before .before .before .before .before .before .before in let a = accepts u _ (c .before .before .before .before .before .before .before .before .before .before .before .before .before .before .before .step4 .given .1) (omega arith) in
@@ -165,21 +143,11 @@ add-used-4 c =
     let d = other-is u k (c .before .before .before .before .before .before .before .before .changes-of .result) (c .before .before .before .before .before .before .before .before .changes-of .ensures) in
     omega (arith, call-inside u (other-accepts u k .accepted), d .called, c .call-length .ensures, u .before .before .before .before .before .before .before .before .good)
 
-add-calls : tie.Need-add-calls Inv-loop2 μ-loop2 Inv-loop μ-loop
-add-calls c = let u = c .before .before in
-    omega (arith, u .before .before .before .loop .inv .calls-in, u .before .before .loop-test .taken, u .before .before .before .before .before .before .before .before .good)
-
 add-written : tie.Need-add-written Inv-loop2 μ-loop2 Inv-loop μ-loop
 add-written c =
     let m = c .before .before in let u = m .before in
     let k = served m in
     omega (arith, answer-inside u (met-accepted m), k .size, u .before .before .before .loop .inv .same, u .before .before .before .before .before .before .before .before .good)
-
-loop-less : tie.Need-loop-less Inv-loop2 μ-loop2 Inv-loop μ-loop
-loop-less c =
-    let m = c .before .before in let u = m .before in
-    let k = served m in
-    omega (arith, u .before .before .loop-test .taken, k .used, call-least (callAt (restOf u)))
 
 loop-again : tie.Need-loop-again Inv-loop2 μ-loop2 Inv-loop μ-loop
 loop-again c =
@@ -199,9 +167,14 @@ returns-3 c =
 pub run-spec : {M : Type 1} → statement M
 run-spec =
     tie.close
-    (tie.spec Inv-loop2 μ-loop2 Inv-loop μ-loop (λ c κs. tt) (λ c κs. tt) returns loop-holds
+    (tie.spec Inv-loop2 μ-loop2 Inv-loop μ-loop (λ c κs. tt) (λ c κs. tt) returns
+    (λ c. begun _ _ _
+    (good _ (c .before .sound .ensures .1) (sym (c .before .sound .ensures .0) ∙ not-false _ (c .if1 .left))) refl
+    refl refl)
     (λ c. omega (arith, c .before .loop .inv .used-in)) (λ c. omega (arith, c .before .loop .inv .used-in))
-    (λ c. omega (arith, c .before .loop .inv .used-in)) sub-step-of
+    (λ c. omega (arith, c .before .loop .inv .used-in))
+    (λ c. omega
+    (arith, c .before .before .loop .inv .counted, c .before .before .loop .inv .room, c .before .before .loop .inv .same))
     (λ c κs. good-sound (c .before .before .loop .inv .good)) (λ c. search needs) (λ c κs. tt)
     (λ c. omega (arith, c .before .before .before .before .before .before .before .loop .inv .same)) returns-2
     (λ c. search needs) (λ c κs. tt) (λ c. omega (arith, c .channel-index .ensures .1))
@@ -209,16 +182,29 @@ run-spec =
     put-byte-requires-2 add-used (λ c. search needs) (λ c κs. tt) (λ c. search needs) (λ c. search needs)
     (λ c κs. tt) (λ c. search needs) (λ c κs. tt) (λ c. search needs) clock-after-requires (λ c. search needs)
     (λ c κs. tt) (λ c. omega (arith, c .channel-index2 .ensures .1)) (λ c. c .channel-index2 .ensures .1)
-    timer-after-requires (λ c. omega (arith, c .before .before .channel-index2 .ensures .1))
-    (λ c. c .before .before .channel-index2 .ensures .1) at-control-requires put-header-requires add-used-2
-    (λ c. search needs) put-begun-requires loop2-holds (λ c. omega (arith, c .loop2-test .taken))
-    (λ c. c .loop2-test .taken) (λ c. omega (arith, c .before .loop2-test .taken)) (λ c κs. tt) (λ c κs. tt)
-    advance-cycles-requires
+    (λ c κs. channel-range _
+    (sym (c .before .before .before .before .part-at .ensures) ∙ c .before .before .enum-told5 .given .1))
+    (λ c. omega (arith, c .before .before .channel-index2 .ensures .1))
+    (λ c. c .before .before .channel-index2 .ensures .1)
+    (λ c κs. channel-range _
+    (sym (c .before .before .before .before .before .part-at .ensures) ∙ c .before .before .before .enum-told5 .given .1))
+    put-header-requires add-used-2 (λ c. search needs)
+    (λ c κs. let u = c .before .before .before .before in let a = accepts u _ (c .before .before .step4 .given .1)
+    (omega arith) in pass-room _ _ _ _ (a .makes) _ _ (answer-inside u (a .accepted)))
+    loop2-holds (λ c. omega (arith, c .loop2-test .taken)) (λ c. c .loop2-test .taken)
+    (λ c. omega (arith, c .before .loop2-test .taken)) (λ c κs. tt) (λ c κs. tt)
+    (λ c κs. next-phase _ _ _ _ _ (c .before .before .before .before .before .loop2 .inv .0)
+    (c .before .before .before .before .loop2-test .taken))
     (λ c. omega (arith, c .before .before .before .before .before .before .loop2-test .taken))
     (λ c. c .before .before .before .before .before .before .loop2-test .taken) put-points-requires
     (λ c. omega (arith, c .before .before .before .before .loop2-test .taken))
     (λ c. omega (arith, c .before .before .before .before .loop2-test .taken)) loop2-again advance-requires
     (λ c κs. tt) (λ c κs. tt) put-passed-requires (λ c κs. tt) add-used-3 (λ c κs. tt)
     (λ c κs. board-sound (c .before)) put-other-requires (λ c κs. tt) add-used-4 (λ c κs. tt) (λ c κs. tt)
-    (λ c κs. tt) add-calls add-written loop-less loop-again (λ c κs. tt)
-    (λ c. omega (arith, c .before .before .loop .inv .same)) returns-3)
+    (λ c κs. tt)
+    (λ c. let u = c .before .before in omega
+    (arith, u .before .before .before .loop .inv .calls-in, u .before .before .loop-test .taken, u .before .before .before .before .before .before .before .before .good))
+    add-written
+    (λ c. let m = c .before .before in let u = m .before in let k = served m in omega
+    (arith, u .before .before .loop-test .taken, k .used, call-least (callAt (restOf u))))
+    loop-again (λ c κs. tt) (λ c. omega (arith, c .before .before .loop .inv .same)) returns-3)
