@@ -20,11 +20,11 @@ use Rattle.list.specs.Run.{runOf, over}
 use Rattle.list.proofs.Advances.{begins, next-phase, advances, passed-over, still-timed, counts-begin}
 use Rattle.list.proofs.Advances.{next-zero, counts-next, counts-passed, counts-same}
 use Rattle.list.proofs.Runs.{Ran, begun, ended, ends, rest-bytes, goes-on}
-use Rattle.list.proofs.Calls.{other-kind, read-length, write-length, pass-length, pass-room, begun-room}
+use Rattle.list.proofs.Calls.{read-length, write-length, pass-length, pass-room, begun-room}
 use Rattle.list.proofs.run.Statement.{statement}
 use Rattle.list.proofs.run.Tie as tie
 use Rattle.list.proofs.run.Proof.Arms.{Inv-loop2, μ-loop2, Inv-loop, μ-loop, listOf, usedOf, boardOf, restOf}
-use Rattle.list.proofs.run.Proof.Arms.{roomOf, rest-is, board-sound, accepts, other-accepts, other-is}
+use Rattle.list.proofs.run.Proof.Arms.{roomOf, rest-is, board-sound, accepts, other-at, other-is}
 use Rattle.list.proofs.run.Proof.Arms.{met-accepted, served, board-set, call-inside, answer-inside}
 
 returns : tie.Need-returns Inv-loop2 μ-loop2 Inv-loop μ-loop
@@ -52,7 +52,7 @@ plain-at-requires c κs = (
 )
 
 put-byte-requires : tie.Need-put-byte-requires Inv-loop2 μ-loop2 Inv-loop μ-loop
-put-byte-requires c κs = let u = c .before .before .before .before .before .before .before .before .before .before .before in let a = accepts u _ (c .before .before .before .before .before .before .before .before .before .step2 .given .1) (omega arith) in
+put-byte-requires c κs = let u = c .before .before .before .before .before .before .before .before .before .before .before in let a = accepts u _ (c .before .before .before .before .before .before .before .before .before .step2 .given .1) in
     omega (arith, answer-inside u (a .accepted), read-length _ _ (a .makes) .1)
 
 reading-at-requires : tie.Need-reading-at-requires Inv-loop2 μ-loop2 Inv-loop μ-loop
@@ -62,22 +62,22 @@ reading-at-requires c κs = (
 )
 
 put-byte-requires-2 : tie.Need-put-byte-requires-2 Inv-loop2 μ-loop2 Inv-loop μ-loop
-put-byte-requires-2 c κs = let u = c .before .before .before .before .before .before .before .before .before .before .before .before in let a = accepts u _ (c .before .before .before .before .before .before .before .before .before .before .step2 .given .1) (omega arith) in
+put-byte-requires-2 c κs = let u = c .before .before .before .before .before .before .before .before .before .before .before .before in let a = accepts u _ (c .before .before .before .before .before .before .before .before .before .before .step2 .given .1) in
     omega (arith, answer-inside u (a .accepted), read-length _ _ (a .makes) .1)
 
 add-used : tie.Need-add-used Inv-loop2 μ-loop2 Inv-loop μ-loop
-add-used c = let u = c .before .before .before .before .before .before .before in let a = accepts u _ (c .before .before .before .before .before .step2 .given .1) (omega arith) in
+add-used c = let u = c .before .before .before .before .before .before .before in let a = accepts u _ (c .before .before .before .before .before .step2 .given .1) in
     omega (arith, call-inside u (a .accepted), read-length _ _ (a .makes) .0, u .before .before .before .before .before .before .before .before .good)
 
 clock-after-requires : tie.Need-clock-after-requires Inv-loop2 μ-loop2 Inv-loop μ-loop
 clock-after-requires c κs = sound-times _ (c .before .before .before .before .before .before .before .before .before .before .loop .inv .good .fits .clock) (good-sound (c .before .before .before .before .before .before .before .before .before .before .loop .inv .good))
 
 put-header-requires : tie.Need-put-header-requires Inv-loop2 μ-loop2 Inv-loop μ-loop
-put-header-requires c κs = let u = c .before .before .before .before .before .before in let a = accepts u _ (c .before .before .before .before .step3 .given .1) (omega arith) in
+put-header-requires c κs = let u = c .before .before .before .before .before .before in let a = accepts u _ (c .before .before .before .before .step3 .given .1) in
     omega (arith, answer-inside u (a .accepted), write-length _ _ _ (a .makes) .1)
 
 add-used-2 : tie.Need-add-used-2 Inv-loop2 μ-loop2 Inv-loop μ-loop
-add-used-2 c = let u = c .before .before .before .before .before .before .before .before .before in let a = accepts u _ (c .before .before .before .before .before .before .before .step3 .given .1) (omega arith) in
+add-used-2 c = let u = c .before .before .before .before .before .before .before .before .before in let a = accepts u _ (c .before .before .before .before .before .before .before .step3 .given .1) in
     omega (arith, call-inside u (a .accepted), write-length _ _ _ (a .makes) .0, u .before .before .before .before .before .before .before .before .good)
 
 loop2-holds : tie.Need-loop2-holds Inv-loop2 μ-loop2 Inv-loop μ-loop
@@ -87,7 +87,7 @@ loop2-holds c = let g = c .before .before .before .before .before .before .befor
 )
 
 put-points-requires : tie.Need-put-points-requires Inv-loop2 μ-loop2 Inv-loop μ-loop
-put-points-requires c κs = let u = c .before .before .before .before .before .before .before .before .before .before .before .before .before .before .before .before .before in let a = accepts u _ (c .before .before .before .before .before .before .before .before .before .before .before .before .before .before .before .step4 .given .1) (omega arith) in
+put-points-requires c κs = let u = c .before .before .before .before .before .before .before .before .before .before .before .before .before .before .before .before .before in let a = accepts u _ (c .before .before .before .before .before .before .before .before .before .before .before .before .before .before .before .step4 .given .1) in
     let l = c .before .before .before .before .before .before .before .before .before .loop2 in
     let h = c .before .before .before .before .before .before .before .before .loop2-test .taken in
     let room = begun-room _ _ _ _ (a .makes) _ _ _ (c .before .before .before .before .before .before .before .before .before .before .before .before .put-begun .ensures) (answer-inside u (a .accepted)) in
@@ -118,30 +118,30 @@ advance-requires c κs = let g = c .before .before .before .before .before .befo
     still-timed _ _ _ _ _ (c .before .before .loop2 .inv .0) (sound-times _ (g .fits .clock) (good-sound g))
 
 put-passed-requires : tie.Need-put-passed-requires Inv-loop2 μ-loop2 Inv-loop μ-loop
-put-passed-requires c κs = let u = c .before .before .before .before .before .before .before .before .before .before .before .before .before .before in let a = accepts u _ (c .before .before .before .before .before .before .before .before .before .before .before .before .step4 .given .1) (omega arith) in
+put-passed-requires c κs = let u = c .before .before .before .before .before .before .before .before .before .before .before .before .before .before in let a = accepts u _ (c .before .before .before .before .before .before .before .before .before .before .before .before .step4 .given .1) in
     let l = c .before .before .before .before .before .before .loop2 in
     let room = begun-room _ _ _ _ (a .makes) _ _ _ (c .before .before .before .before .before .before .before .before .before .put-begun .ensures) (answer-inside u (a .accepted)) in
     let m = counts-same _ _ _ _ _ _ _ (l .inv .0) _ _ (l .inv .1) in
     omega (arith, room .1, m)
 
 add-used-3 : tie.Need-add-used-3 Inv-loop2 μ-loop2 Inv-loop μ-loop
-add-used-3 c = let u = c .before .before .before .before .before .before .before .before .before .before .before .before .before .before .before .before .before .before in let a = accepts u _ (c .before .before .before .before .before .before .before .before .before .before .before .before .before .before .before .before .step4 .given .1) (omega arith) in
+add-used-3 c = let u = c .before .before .before .before .before .before .before .before .before .before .before .before .before .before .before .before .before .before in let a = accepts u _ (c .before .before .before .before .before .before .before .before .before .before .before .before .before .before .before .before .step4 .given .1) in
     let n = pass-length _ _ _ _ (a .makes) .0 in
     omega (arith, call-inside u (a .accepted), n, c .pass-length .ensures, u .before .before .before .before .before .before .before .before .good)
 
 put-other-requires : tie.Need-put-other-requires Inv-loop2 μ-loop2 Inv-loop μ-loop
 put-other-requires c κs =
     let u = c .before .before .before .before .before .before in
-    let k = other-kind (u .step-of .result) (c .before .before .before .before .before .match .keys5) in
+    let k = c .before .before .before .before .before .match .keys5 in
     let d = other-is u k (c .before .before .before .before .changes-of .result) (c .before .before .before .before .changes-of .ensures) in
-    omega (arith, answer-inside u (other-accepts u k .accepted), d .put, d .bytes)
+    omega (arith, answer-inside u (other-at u k .0), d .put, d .bytes)
 
 add-used-4 : tie.Need-add-used-4 Inv-loop2 μ-loop2 Inv-loop μ-loop
 add-used-4 c =
     let u = c .before .before .before .before .before .before .before .before .before .before in
-    let k = other-kind (u .step-of .result) (c .before .before .before .before .before .before .before .before .before .match .keys5) in
+    let k = c .before .before .before .before .before .before .before .before .before .match .keys5 in
     let d = other-is u k (c .before .before .before .before .before .before .before .before .changes-of .result) (c .before .before .before .before .before .before .before .before .changes-of .ensures) in
-    omega (arith, call-inside u (other-accepts u k .accepted), d .called, c .call-length .ensures, u .before .before .before .before .before .before .before .before .good)
+    omega (arith, call-inside u (other-at u k .0), d .called, c .call-length .ensures, u .before .before .before .before .before .before .before .before .good)
 
 add-written : tie.Need-add-written Inv-loop2 μ-loop2 Inv-loop μ-loop
 add-written c =
@@ -190,7 +190,7 @@ run-spec =
     (sym (c .before .before .before .before .before .part-at .ensures) ∙ c .before .before .before .enum-told5 .given .1))
     put-header-requires add-used-2 (λ c. search needs)
     (λ c κs. let u = c .before .before .before .before in let a = accepts u _ (c .before .before .step4 .given .1)
-    (omega arith) in pass-room _ _ _ _ (a .makes) _ _ (answer-inside u (a .accepted)))
+    in pass-room _ _ _ _ (a .makes) _ _ (answer-inside u (a .accepted)))
     loop2-holds (λ c. omega (arith, c .loop2-test .taken)) (λ c. c .loop2-test .taken)
     (λ c. omega (arith, c .before .loop2-test .taken)) (λ c κs. tt) (λ c κs. tt)
     (λ c κs. next-phase _ _ _ _ _ (c .before .before .before .before .before .loop2 .inv .0)

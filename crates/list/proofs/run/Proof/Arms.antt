@@ -1,6 +1,6 @@
 -- The run's calls where its code has them: where the step of the call at the front is known (`At`), where the arms of the
 -- match meet (`Met`), and where source 3 is set (`Set`). The laws of the calls are those of Calls. Assumes nothing.
-use mathlib.Core.Path.{_≡_, refl, sym, ap, _∙_}
+use mathlib.Core.Path.{_≡_, refl, sym, ap, _∙_, subst}
 use mathlib.Core.Bool.{true}
 use mathlib.Core.Logic.{inl, inr}
 use mathlib.Core.List.{List}
@@ -19,14 +19,13 @@ use Rattle.board.specs.declared.calls.Call.{Call}
 use Rattle.format.specs.Format.{valueBytes}
 use Rattle.format.specs.Codec.{callAt, callLength, recordLength, refusalAt}
 use Rattle.format.proofs.Frames.{part-rest}
-use Rattle.format.proofs.Decoding.{clear}
 use Rattle.list.specs.declared.parts.Step.{Step}
 use Rattle.list.specs.declared.parts.Changes.{Changes}
-use Rattle.list.specs.CodeParts.{Accepts, Changed, otherCall}
+use Rattle.list.specs.CodeParts.{StepIs, Changed, otherCall}
 use Rattle.list.proofs.Advances.{Advancing, all-advanced, Counted, counts-end}
 use Rattle.list.proofs.Runs.{Running, stateOf, used-inside, written-inside}
-use Rattle.list.proofs.Calls.{kindOf, step-accepts, other-kind, plain-carried, read-carried, channel-written}
-use Rattle.list.proofs.Calls.{write-carried, pass-carried, other-changes, other-size, other-carried}
+use Rattle.list.proofs.Calls.{Other, OtherDoes, other-does, plain-carried, read-carried, channel-written}
+use Rattle.list.proofs.Calls.{write-carried, pass-carried, other-size, other-carried}
 use Rattle.list.proofs.Calls.{read-length, write-length, pass-length, Served, set-after}
 use Rattle.list.proofs.run.Tie as tie
 
@@ -76,9 +75,9 @@ rest-is u = part-rest (listOf u) (usedOf u)
 pub board-sound : (u : At) → sound (boardOf u) ≡ true
 board-sound u = good-sound (u .before .before .before .loop .inv .good)
 
--- the call is accepted
-pub accepts : (u : At) (s : Step) → u .step-of .result ≡ s → 1 ≤ kindOf s → Accepts (boardOf u) (restOf u) (roomOf u) s
-accepts u s e k = step-accepts (boardOf u) (restOf u) (roomOf u) (u .step-of .result) s e k (u .step-of .ensures)
+-- the step, as an arm has it
+pub accepts : (u : At) (s : Step) → u .step-of .result ≡ s → StepIs (boardOf u) (restOf u) (roomOf u) s
+accepts u s e = subst (StepIs (boardOf u) (restOf u) (roomOf u)) e (u .step-of .ensures)
 
 module _ (u : At) (z : refusalAt (boardOf u) (restOf u) (roomOf u) ≡ 0) where
   -- it is inside the list, and its answer inside the buffer
@@ -93,9 +92,11 @@ module _ (u : At) (z : refusalAt (boardOf u) (restOf u) (roomOf u) ≡ 0) where
       (rest-is u) z
 
 -- one of the calls without an arm of their own
-pub other-accepts : (u : At) → 4 ≤ kindOf (u .step-of .result) →
-    Accepts (boardOf u) (restOf u) (roomOf u) (u .step-of .result)
-other-accepts u k = accepts u (u .step-of .result) refl (omega (arith, k))
+pub other-at : (u : At) → Other (u .step-of .result) →
+    OtherDoes (boardOf u) (board-sound u) (writtenOf u) (answersOf u) (restOf u) (roomOf u) (u .step-of .result)
+other-at u k =
+    other-does (boardOf u) (board-sound u) (writtenOf u) (answersOf u) (restOf u) (roomOf u) (u .step-of .result) k
+    (u .step-of .ensures)
 
 -- its numbers
 pub record OtherIs (u : At) (c : Changes) : Type 0 where
@@ -103,16 +104,15 @@ pub record OtherIs (u : At) (c : Changes) : Type 0 where
   pub put : recordLength (callAt (restOf u)) ≡ recordLength (otherCall (u .step-of .result))
   pub bytes : 3 + length (valueBytes (c .answer)) ≡ recordLength (otherCall (u .step-of .result))
 
-pub other-is : (u : At) → 4 ≤ kindOf (u .step-of .result) → (c : Changes) → Changed (u .step-of .result) (boardOf u) c →
+pub other-is : (u : At) → Other (u .step-of .result) → (c : Changes) → Changed (u .step-of .result) (boardOf u) c →
     OtherIs u c
 other-is u k c h =
-    let d = other-changes (boardOf u) (board-sound u) (writtenOf u) (answersOf u) (callAt (restOf u))
-    (u .step-of .result) k (other-accepts u k .makes) c h in
+    let d = other-at u k .1 in
     record {
       called = ap (λ (x : Call). callLength x) (d .0);
       put = ap (λ (x : Call). recordLength x) (d .0);
       bytes = other-size (boardOf u) (board-sound u) (writtenOf u) (answersOf u) (otherCall (u .step-of .result)) _ _
-          (d .1 .1);
+          (d .1 .1 c h .1);
     }
 
 -- ---- where the arms of the match meet
@@ -123,10 +123,10 @@ Met = tie.At-match-came Inv-loop2 μ-loop2 Inv-loop μ-loop
 -- the call is accepted
 pub met-accepted : (c : Met) → refusalAt (boardOf (c .before)) (restOf (c .before)) (roomOf (c .before)) ≡ 0
 met-accepted c = elim (c .match .came) [
-  | inl w ↦ accepts (c .before) _ (w .1 .given .1) (omega arith) .accepted
-  | inr (inl w) ↦ accepts (c .before) _ (w .1 .given .1) (omega arith) .accepted
-  | inr (inr (inl w)) ↦ accepts (c .before) _ (w .1 .given .1) (omega arith) .accepted
-  | inr (inr (inr w)) ↦ other-accepts (c .before) (other-kind (c .before .step-of .result) (w .0 .keys5)) .accepted
+  | inl w ↦ accepts (c .before) _ (w .1 .given .1) .accepted
+  | inr (inl w) ↦ accepts (c .before) _ (w .1 .given .1) .accepted
+  | inr (inr (inl w)) ↦ accepts (c .before) _ (w .1 .given .1) .accepted
+  | inr (inr (inr w)) ↦ other-at (c .before) (w .0 .keys5) .0
 ]
 
 -- the board, the buffer and the numbers are those of the call
@@ -142,7 +142,7 @@ served c =
     let call = callAt (restOf u) in
     elim (c .match .came) [
       | inl w ↦
-          let a = accepts u _ (w .1 .given .1) (omega arith) .makes in
+          let a = accepts u _ (w .1 .given .1) .makes in
           let n = read-length _ _ a in
           record {
             carried = elim (w .6 .came) [
@@ -155,7 +155,7 @@ served c =
             size = w .10 ∙ sym (n .1);
           }
       | inr (inl w) ↦
-          let a = accepts u _ (w .1 .given .1) (omega arith) .makes in
+          let a = accepts u _ (w .1 .given .1) .makes in
           let n = write-length _ _ _ a in
           let part : (x : WritePart) → w .3 .result ≡ x → x ≡ _ = λ x e. sym e ∙ w .3 .ensures in
           let put = w .9 ∙ w .6 .ensures in
@@ -178,7 +178,7 @@ served c =
             size = w .12 ∙ sym (n .1);
           }
       | inr (inr (inl w)) ↦
-          let a = accepts u _ (w .1 .given .1) (omega arith) .makes in
+          let a = accepts u _ (w .1 .given .1) .makes in
           let n = pass-length _ _ _ _ a in
           let i = w .7 .inv in
           record {
@@ -192,13 +192,11 @@ served c =
             size = w .22 ∙ w .18 .ensures ∙ sym (n .1);
           }
       | inr (inr (inr w)) ↦
-          let k = other-kind (u .step-of .result) (w .0 .keys5) in
-          let a = other-accepts u k in
-          let d = other-is u k (w .1 .result) (w .1 .ensures) in
+          let d = other-is u (w .0 .keys5) (w .1 .result) (w .1 .ensures) in
           record {
             carried =
-                other-carried b s at buf call (clear b (restOf u) (roomOf u) (a .accepted) .own) (u .step-of .result) k
-                (a .makes) (w .1 .result) (w .1 .ensures) _ (w .12) _ (w .15) _ (w .11 ∙ w .6 .ensures);
+                other-carried b s at buf (restOf u) (roomOf u) (u .step-of .result) (other-at u (w .0 .keys5))
+                (w .1 .result) (w .1 .ensures) _ (w .12) _ (w .15) _ (w .11 ∙ w .6 .ensures);
             used = w .13 ∙ ap (λ (m : ℕ). usedOf u + m) (w .9 .ensures ∙ sym (d .called));
             size = w .14 ∙ w .10 .ensures ∙ sym (d .put);
           }
