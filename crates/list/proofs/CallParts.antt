@@ -47,7 +47,7 @@ use Rattle.list.specs.declared.parts.Step.the-variants.{Deadline as Dead
 use Rattle.list.specs.declared.parts.Step.the-variants.{ControllerRead as ControllerReadStep}
 use Rattle.list.specs.declared.parts.Step.the-variants.{ControllerWrite as ControllerWriteStep}
 use Rattle.list.specs.declared.parts.Step.the-variants.{Output as OutputStep}
-use Rattle.list.specs.CodeParts.{Makes, SkipIs, Accepts, StepIs, otherCall, Changed, passedPut, otherPut}
+use Rattle.list.specs.CodeParts.{Makes, SkipIs, StepIs, otherCall, Changed, passedPut, otherPut}
 use Rattle.list.proofs.parts.Step as S
 
 -- ---- arms of several cases, by the positions of the variants
@@ -98,10 +98,13 @@ module _ (b : Board) (p : SkipAdvance) (e : p ≡ skipAdvanceOf (skipLength b)) 
 
   module _ (z : p .refusal ≡ 0) where
     pub skip-passes : p .made ≡ true → SkipIs b (Pass false (p .cycles .0))
-    skip-passes m = (sym own-skip ∙ z, (refl, skip-advance-some p (skipLength b) e m))
+    skip-passes m = (
+      sym own-skip ∙ z,
+      record { advance = λ q. absurd (false≢true q); skip = λ _. (refl, skip-advance-some p (skipLength b) e m) },
+    )
 
     pub skip-stays : p .made ≡ false → SkipIs b Stay
-    skip-stays m = (sym own-skip ∙ z, skip-advance-none p (skipLength b) e z m .0)
+    skip-stays m = (sym own-skip ∙ z, (refl, skip-advance-none p (skipLength b) e z m .0))
 
 -- ---- the step: d is what is found of the call at the front
 
@@ -120,43 +123,17 @@ module _ (b : Board) (l : List ℕ) (room : ℕ) (d : Decoded) (e : d ≡ decode
     there : callAt l ≡ call
     there = sym (decoded-accepted l room found .0) ∙ ap (λ (x : Decoded). x .call) (sym e) ∙ k
 
+    own : refusalAt b l room ≡ effectOf call b .refusal
+    own = accepted-refusal b l room found ∙ ap (λ (x : Call). effectOf x b .refusal) there
+
     -- of a call whose members decide its own refusal
-    pub step-accepted : effectOf call b .refusal ≡ valueRefusal call → (step : Step) → Makes call b step →
-        Accepts b l room step
+    pub step-accepted : effectOf call b .refusal ≡ valueRefusal call → (step : Step) → Makes 0 call b step →
+        StepIs b l room step
     step-accepted v step m =
-        record {
-          accepted =
-              accepted-refusal b l room found
-              ∙ ap (λ (x : Call). effectOf x b .refusal) there
-              ∙ v
-              ∙ ap valueRefusal (sym there)
-              ∙ decoded-accepted l room found .1 .1 .0;
-          makes = rw there m;
-        }
+        rw (own ∙ v ∙ ap valueRefusal (sym there) ∙ decoded-accepted l room found .1 .1 .0, there) m
 
-  module _ (z : d .refusal ≡ 0) (k : d .call ≡ Skip) where
-    own : refusalAt b l room ≡ effectOf Skip b .refusal
-    own = accepted-refusal b l room (rw e at z) ∙ ap (λ (x : Call). effectOf x b .refusal) (there z Skip k)
-
-    pub step-skips : (step : Step) → SkipIs b step → StepIs b l room step
-    step-skips (Refused refusal) s = (s .0 ∙ sym own, s .1)
-    step-skips (ReadStep offset) s = absurd s
-    step-skips (WriteStep byte offset) s = absurd s
-    step-skips (Pass counted c) s =
-        record {
-          accepted = own ∙ s .0;
-          makes = record {
-            advance = λ e. absurd (false≢true (sym (s .1 .0) ∙ e));
-            skip = λ _. (there z Skip k, s .1 .1);
-          };
-        }
-    step-skips (HostTimeStep nanoseconds seconds) s = absurd s
-    step-skips Stay s = record { accepted = own ∙ s .0; makes = (there z Skip k, s .1) }
-    step-skips DeadlineStep s = absurd s
-    step-skips (SourceStep number level) s = absurd s
-    step-skips (ControllerReadStep address) s = absurd s
-    step-skips (ControllerWriteStep byte address) s = absurd s
-    step-skips OutputStep s = absurd s
+  pub step-skips : d .refusal ≡ 0 → d .call ≡ Skip → (step : Step) → SkipIs b step → StepIs b l room step
+  step-skips z k step m = rw (own z Skip k, there z Skip k) m
 
 -- ---- the calls that change host time or the controller at most
 

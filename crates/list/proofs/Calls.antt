@@ -56,7 +56,7 @@ use Rattle.list.specs.declared.parts.Step.the-variants.{ControllerRead a
 use Rattle.list.specs.declared.parts.Step.the-variants.{ControllerWrite as ControllerWriteStep}
 use Rattle.list.specs.declared.parts.Step.the-variants.{Output as OutputStep}
 use Rattle.list.specs.declared.parts.Changes.{Changes}
-use Rattle.list.specs.CodeParts.{Reads, Writes, Passes, Makes, Accepts, StepIs, otherCall, withChanges}
+use Rattle.list.specs.CodeParts.{Reads, Writes, Passes, StepIs, otherCall, withChanges}
 use Rattle.list.specs.CodeParts.{ChangesAre, Changed, passCall, begunPut, passedPut, otherPut}
 use Rattle.list.proofs.parts.Step.{the-type}
 use Rattle.list.proofs.Advances.{begun-length}
@@ -264,16 +264,16 @@ module _ (b : Board) (s : sound b ≡ true) (at : ℕ) (buf : List ℕ) where
   other-does l room (Pass counted c) k h = absurd (miss others 3 tt k)
   other-does l room (HostTimeStep nanoseconds seconds) k h =
       let w = host-time-still (record { seconds = seconds; nanoseconds = nanoseconds }) in
-      (h .accepted, (h .makes, (w, λ c x. x)))
-  other-does l room Stay k h = (h .accepted, (h .makes .0, (rw (h .makes .1) (wired-sound b s), λ c x. x (h .makes .1))))
-  other-does l room DeadlineStep k h = (h .accepted, (h .makes, (wired-sound b s, λ c x. x)))
+      (h .0, (h .1, (w, λ c x. x)))
+  other-does l room Stay k h = (h .0, (h .1 .0, (rw (h .1 .1) (wired-sound b s), λ c x. x (h .1 .1))))
+  other-does l room DeadlineStep k h = (h .0, (h .1, (wired-sound b s, λ c x. x)))
   other-does l room (SourceStep number level) k h =
-      let z = rw (h .makes) at (clear b l room (h .accepted) .own) in
-      (h .accepted, (h .makes, (source-still (number .0) level z, λ c x. x)))
-  other-does l room (ControllerReadStep address) k h = (h .accepted, (h .makes, (wired-sound b s, λ c x. x)))
+      let z = rw (h .1) at (clear b l room (h .0) .own) in
+      (h .0, (h .1, (source-still (number .0) level z, λ c x. x)))
+  other-does l room (ControllerReadStep address) k h = (h .0, (h .1, (wired-sound b s, λ c x. x)))
   other-does l room (ControllerWriteStep byte address) k h =
-      (h .accepted, (h .makes, (controller-write-still byte address, λ c x. x)))
-  other-does l room OutputStep k h = (h .accepted, (h .makes, (wired-sound b s, λ c x. x)))
+      (h .0, (h .1, (controller-write-still byte address, λ c x. x)))
+  other-does l room OutputStep k h = (h .0, (h .1, (wired-sound b s, λ c x. x)))
 
   -- the bytes of the answer are as many as the record has
   pub other-size : (call : Call) (value ms : List ℕ) → value ≡ answerBytes (tagOf call) ms →

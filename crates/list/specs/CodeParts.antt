@@ -48,52 +48,27 @@ pub record Passes (call : Call) (b : Board) (counted : Bool) (c : ℕ) : Type 0 
   pub advance : counted ≡ true → call ≡ advanceBy c
   pub skip : counted ≡ false → (call ≡ Skip) × (skipLength b ≡ some c)
 
--- the call that a step is of
-abbrev pub Makes : Call → Board → Step → Type 0
-Makes call b (Refused refusal) = ⊥
-Makes call b (ReadStep offset) = Reads call offset
-Makes call b (WriteStep byte offset) = Writes call byte offset
-Makes call b (Pass counted c) = Passes call b counted c
-Makes call b (HostTimeStep nanoseconds seconds) = call ≡ HostTime nanoseconds seconds
-Makes call b Stay = (call ≡ Skip) × (skipLength b ≡ none)
-Makes call b DeadlineStep = call ≡ Deadline
-Makes call b (SourceStep number level) = call ≡ Source number level
-Makes call b (ControllerReadStep address) = call ≡ ControllerRead address
-Makes call b (ControllerWriteStep byte address) = call ≡ ControllerWrite byte address
-Makes call b OutputStep = call ≡ Output
+-- the step of a call whose refusal is n
+abbrev pub Makes : ℕ → Call → Board → Step → Type 0
+Makes n call b (Refused refusal) = (refusal ≡ n) × (eqb refusal 0 ≡ false)
+Makes n call b (ReadStep offset) = (n ≡ 0) × Reads call offset
+Makes n call b (WriteStep byte offset) = (n ≡ 0) × Writes call byte offset
+Makes n call b (Pass counted c) = (n ≡ 0) × Passes call b counted c
+Makes n call b (HostTimeStep nanoseconds seconds) = (n ≡ 0) × (call ≡ HostTime nanoseconds seconds)
+Makes n call b Stay = (n ≡ 0) × ((call ≡ Skip) × (skipLength b ≡ none))
+Makes n call b DeadlineStep = (n ≡ 0) × (call ≡ Deadline)
+Makes n call b (SourceStep number level) = (n ≡ 0) × (call ≡ Source number level)
+Makes n call b (ControllerReadStep address) = (n ≡ 0) × (call ≡ ControllerRead address)
+Makes n call b (ControllerWriteStep byte address) = (n ≡ 0) × (call ≡ ControllerWrite byte address)
+Makes n call b OutputStep = (n ≡ 0) × (call ≡ Output)
 
 -- the step of a skip
 abbrev pub SkipIs : Board → Step → Type 0
-SkipIs b (Refused refusal) = (refusal ≡ effectOf Skip b .refusal) × (eqb refusal 0 ≡ false)
-SkipIs b (ReadStep offset) = ⊥
-SkipIs b (WriteStep byte offset) = ⊥
-SkipIs b (Pass counted c) = (effectOf Skip b .refusal ≡ 0) × ((counted ≡ false) × (skipLength b ≡ some c))
-SkipIs b (HostTimeStep nanoseconds seconds) = ⊥
-SkipIs b Stay = (effectOf Skip b .refusal ≡ 0) × (skipLength b ≡ none)
-SkipIs b DeadlineStep = ⊥
-SkipIs b (SourceStep number level) = ⊥
-SkipIs b (ControllerReadStep address) = ⊥
-SkipIs b (ControllerWriteStep byte address) = ⊥
-SkipIs b OutputStep = ⊥
-
--- a call that is accepted, and its step
-pub record Accepts (b : Board) (l : List ℕ) (room : ℕ) (step : Step) : Type 0 where
-  pub accepted : refusalAt b l room ≡ 0
-  pub makes : Makes (callAt l) b step
+SkipIs b step = Makes (effectOf Skip b .refusal) Skip b step
 
 -- the step of the call at the front, with so much room for its answer
 abbrev pub StepIs : Board → List ℕ → ℕ → Step → Type 0
-StepIs b l room (Refused refusal) = (refusal ≡ refusalAt b l room) × (eqb refusal 0 ≡ false)
-StepIs b l room (ReadStep offset) = Accepts b l room (ReadStep offset)
-StepIs b l room (WriteStep byte offset) = Accepts b l room (WriteStep byte offset)
-StepIs b l room (Pass counted c) = Accepts b l room (Pass counted c)
-StepIs b l room (HostTimeStep nanoseconds seconds) = Accepts b l room (HostTimeStep nanoseconds seconds)
-StepIs b l room Stay = Accepts b l room Stay
-StepIs b l room DeadlineStep = Accepts b l room DeadlineStep
-StepIs b l room (SourceStep number level) = Accepts b l room (SourceStep number level)
-StepIs b l room (ControllerReadStep address) = Accepts b l room (ControllerReadStep address)
-StepIs b l room (ControllerWriteStep byte address) = Accepts b l room (ControllerWriteStep byte address)
-StepIs b l room OutputStep = Accepts b l room OutputStep
+StepIs b l room step = Makes (refusalAt b l room) (callAt l) b step
 
 -- ---- the calls that change host time or the controller at most
 

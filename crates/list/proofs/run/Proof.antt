@@ -53,7 +53,7 @@ plain-at-requires c κs = (
 
 put-byte-requires : tie.Need-put-byte-requires Inv-loop2 μ-loop2 Inv-loop μ-loop
 put-byte-requires c κs = let u = c .before .before .before .before .before .before .before .before .before .before .before in let a = accepts u _ (c .before .before .before .before .before .before .before .before .before .step2 .given .1) in
-    omega (arith, answer-inside u (a .accepted), read-length _ _ (a .makes) .1)
+    omega (arith, answer-inside u (a .0), read-length _ _ (a .1) .1)
 
 reading-at-requires : tie.Need-reading-at-requires Inv-loop2 μ-loop2 Inv-loop μ-loop
 reading-at-requires c κs = (
@@ -63,22 +63,22 @@ reading-at-requires c κs = (
 
 put-byte-requires-2 : tie.Need-put-byte-requires-2 Inv-loop2 μ-loop2 Inv-loop μ-loop
 put-byte-requires-2 c κs = let u = c .before .before .before .before .before .before .before .before .before .before .before .before in let a = accepts u _ (c .before .before .before .before .before .before .before .before .before .before .step2 .given .1) in
-    omega (arith, answer-inside u (a .accepted), read-length _ _ (a .makes) .1)
+    omega (arith, answer-inside u (a .0), read-length _ _ (a .1) .1)
 
 add-used : tie.Need-add-used Inv-loop2 μ-loop2 Inv-loop μ-loop
 add-used c = let u = c .before .before .before .before .before .before .before in let a = accepts u _ (c .before .before .before .before .before .step2 .given .1) in
-    omega (arith, call-inside u (a .accepted), read-length _ _ (a .makes) .0, u .before .before .before .before .before .before .before .before .good)
+    omega (arith, call-inside u (a .0), read-length _ _ (a .1) .0, u .before .before .before .before .before .before .before .before .good)
 
 clock-after-requires : tie.Need-clock-after-requires Inv-loop2 μ-loop2 Inv-loop μ-loop
 clock-after-requires c κs = sound-times _ (c .before .before .before .before .before .before .before .before .before .before .loop .inv .good .fits .clock) (good-sound (c .before .before .before .before .before .before .before .before .before .before .loop .inv .good))
 
 put-header-requires : tie.Need-put-header-requires Inv-loop2 μ-loop2 Inv-loop μ-loop
 put-header-requires c κs = let u = c .before .before .before .before .before .before in let a = accepts u _ (c .before .before .before .before .step3 .given .1) in
-    omega (arith, answer-inside u (a .accepted), write-length _ _ _ (a .makes) .1)
+    omega (arith, answer-inside u (a .0), write-length _ _ _ (a .1) .1)
 
 add-used-2 : tie.Need-add-used-2 Inv-loop2 μ-loop2 Inv-loop μ-loop
 add-used-2 c = let u = c .before .before .before .before .before .before .before .before .before in let a = accepts u _ (c .before .before .before .before .before .before .before .step3 .given .1) in
-    omega (arith, call-inside u (a .accepted), write-length _ _ _ (a .makes) .0, u .before .before .before .before .before .before .before .before .good)
+    omega (arith, call-inside u (a .0), write-length _ _ _ (a .1) .0, u .before .before .before .before .before .before .before .before .good)
 
 loop2-holds : tie.Need-loop2-holds Inv-loop2 μ-loop2 Inv-loop μ-loop
 loop2-holds c = let g = c .before .before .before .before .before .before .before .before .before .before .loop .inv .good in (
@@ -90,7 +90,7 @@ put-points-requires : tie.Need-put-points-requires Inv-loop2 μ-loop2 Inv-loop �
 put-points-requires c κs = let u = c .before .before .before .before .before .before .before .before .before .before .before .before .before .before .before .before .before in let a = accepts u _ (c .before .before .before .before .before .before .before .before .before .before .before .before .before .before .before .step4 .given .1) in
     let l = c .before .before .before .before .before .before .before .before .before .loop2 in
     let h = c .before .before .before .before .before .before .before .before .loop2-test .taken in
-    let room = begun-room _ _ _ _ (a .makes) _ _ _ (c .before .before .before .before .before .before .before .before .before .before .before .before .put-begun .ensures) (answer-inside u (a .accepted)) in
+    let room = begun-room _ _ _ _ (a .1) _ _ _ (c .before .before .before .before .before .before .before .before .before .before .before .before .put-begun .ensures) (answer-inside u (a .0)) in
     let m = counts-same _ _ _ _ _ _ _ (l .inv .0) _ _ (l .inv .1) in (
       h,
       λ e. (omega (arith, room .0 e, m), next-zero _ _ _ _ _ _ _ (l .inv .0) _ _ (l .inv .1) h e),
@@ -120,14 +120,14 @@ advance-requires c κs = let g = c .before .before .before .before .before .befo
 put-passed-requires : tie.Need-put-passed-requires Inv-loop2 μ-loop2 Inv-loop μ-loop
 put-passed-requires c κs = let u = c .before .before .before .before .before .before .before .before .before .before .before .before .before .before in let a = accepts u _ (c .before .before .before .before .before .before .before .before .before .before .before .before .step4 .given .1) in
     let l = c .before .before .before .before .before .before .loop2 in
-    let room = begun-room _ _ _ _ (a .makes) _ _ _ (c .before .before .before .before .before .before .before .before .before .put-begun .ensures) (answer-inside u (a .accepted)) in
+    let room = begun-room _ _ _ _ (a .1) _ _ _ (c .before .before .before .before .before .before .before .before .before .put-begun .ensures) (answer-inside u (a .0)) in
     let m = counts-same _ _ _ _ _ _ _ (l .inv .0) _ _ (l .inv .1) in
     omega (arith, room .1, m)
 
 add-used-3 : tie.Need-add-used-3 Inv-loop2 μ-loop2 Inv-loop μ-loop
 add-used-3 c = let u = c .before .before .before .before .before .before .before .before .before .before .before .before .before .before .before .before .before .before in let a = accepts u _ (c .before .before .before .before .before .before .before .before .before .before .before .before .before .before .before .before .step4 .given .1) in
-    let n = pass-length _ _ _ _ (a .makes) .0 in
-    omega (arith, call-inside u (a .accepted), n, c .pass-length .ensures, u .before .before .before .before .before .before .before .before .good)
+    let n = pass-length _ _ _ _ (a .1) .0 in
+    omega (arith, call-inside u (a .0), n, c .pass-length .ensures, u .before .before .before .before .before .before .before .before .good)
 
 put-other-requires : tie.Need-put-other-requires Inv-loop2 μ-loop2 Inv-loop μ-loop
 put-other-requires c κs =
@@ -190,7 +190,7 @@ run-spec =
     (sym (c .before .before .before .before .before .part-at .ensures) ∙ c .before .before .before .enum-told5 .given .1))
     put-header-requires add-used-2 (λ c. search needs)
     (λ c κs. let u = c .before .before .before .before in let a = accepts u _ (c .before .before .step4 .given .1)
-    in pass-room _ _ _ _ (a .makes) _ _ (answer-inside u (a .accepted)))
+    in pass-room _ _ _ _ (a .1) _ _ (answer-inside u (a .0)))
     loop2-holds (λ c. omega (arith, c .loop2-test .taken)) (λ c. c .loop2-test .taken)
     (λ c. omega (arith, c .before .loop2-test .taken)) (λ c κs. tt) (λ c κs. tt)
     (λ c κs. next-phase _ _ _ _ _ (c .before .before .before .before .before .loop2 .inv .0)

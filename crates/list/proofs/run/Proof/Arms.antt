@@ -123,9 +123,9 @@ Met = tie.At-match-came Inv-loop2 μ-loop2 Inv-loop μ-loop
 -- the call is accepted
 pub met-accepted : (c : Met) → refusalAt (boardOf (c .before)) (restOf (c .before)) (roomOf (c .before)) ≡ 0
 met-accepted c = elim (c .match .came) [
-  | inl w ↦ accepts (c .before) _ (w .1 .given .1) .accepted
-  | inr (inl w) ↦ accepts (c .before) _ (w .1 .given .1) .accepted
-  | inr (inr (inl w)) ↦ accepts (c .before) _ (w .1 .given .1) .accepted
+  | inl w ↦ accepts (c .before) _ (w .1 .given .1) .0
+  | inr (inl w) ↦ accepts (c .before) _ (w .1 .given .1) .0
+  | inr (inr (inl w)) ↦ accepts (c .before) _ (w .1 .given .1) .0
   | inr (inr (inr w)) ↦ other-at (c .before) (w .0 .keys5) .0
 ]
 
@@ -142,7 +142,7 @@ served c =
     let call = callAt (restOf u) in
     elim (c .match .came) [
       | inl w ↦
-          let a = accepts u _ (w .1 .given .1) .makes in
+          let a = accepts u _ (w .1 .given .1) .1 in
           let n = read-length _ _ a in
           record {
             carried = elim (w .6 .came) [
@@ -155,7 +155,7 @@ served c =
             size = w .10 ∙ sym (n .1);
           }
       | inr (inl w) ↦
-          let a = accepts u _ (w .1 .given .1) .makes in
+          let a = accepts u _ (w .1 .given .1) .1 in
           let n = write-length _ _ _ a in
           let part : (x : WritePart) → w .3 .result ≡ x → x ≡ _ = λ x e. sym e ∙ w .3 .ensures in
           let put = w .9 ∙ w .6 .ensures in
@@ -178,7 +178,7 @@ served c =
             size = w .12 ∙ sym (n .1);
           }
       | inr (inr (inl w)) ↦
-          let a = accepts u _ (w .1 .given .1) .makes in
+          let a = accepts u _ (w .1 .given .1) .1 in
           let n = pass-length _ _ _ _ a in
           let i = w .7 .inv in
           record {
