@@ -22,8 +22,8 @@ use Rattle.board.specs.Calls.{movedBoard}
 use Rattle.board.specs.Channels.{allSound, advancedAll, matchesAll}
 use Rattle.channel.proofs.Law.{advanced-still}
 use Rattle.channel.proofs.Counting.{still-matches}
-use Rattle.board.proofs.Loops.{mapTo, next-is, map-goes, map-ends, map-length, givenTo, given-length, given-next}
-use Rattle.board.proofs.Loops.{given-starts, given-goes, given-ends}
+use Rattle.board.proofs.Loops.{mapTo, next-is, map-goes, map-ends, givenTo, given-length, given-next, given-starts}
+use Rattle.board.proofs.Loops.{given-goes, given-ends}
 use Rattle.board.proofs.Phases.{phase-next}
 use Rattle.format.specs.CodeAnswers.{wides}
 use Rattle.list.specs.CodeParts.{countsAt, begunPut, countPut}

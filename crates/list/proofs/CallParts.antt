@@ -13,25 +13,19 @@ use denote.Enum.Declared.{tagOf as variantOf}
 use borrow.Author.Tests.{ne-eqb}
 use Rattle.wide.specs.Bits.{bit, flagOf}
 use Rattle.wide.specs.Fields.{be}
-use Rattle.wide.proofs.Forms.{wide-value}
 use Rattle.wide.proofs.BigEndian.{length-be}
-use Rattle.controller.specs.declared.IrqController.{IrqController}
-use Rattle.controller.specs.declared.IrqOutput.{IrqOutput}
-use Rattle.controller.specs.declared.SourceNumber.{SourceNumber}
-use Rattle.controller.specs.Controller.{sourceSet, controllerRead, controllerWritten, outputOf}
 use Rattle.board.specs.declared.Board.{Board}
 use Rattle.board.specs.declared.calls.Call.{Call}
 use Rattle.board.specs.declared.calls.Call.the-variants.{HostTime, Read, Write, Advance, Deadline, Skip, Source}
 use Rattle.board.specs.declared.calls.Call.the-variants.{ControllerRead, ControllerWrite, Output}
 use Rattle.board.specs.declared.calls.SkipAdvance.{SkipAdvance}
-use Rattle.board.specs.declared.calls.DeadlineMembers.{DeadlineMembers}
-use Rattle.board.specs.Board.{line, exactDeadline, sound}
+use Rattle.board.specs.Board.{line, sound}
 use Rattle.board.specs.Calls.{effectOf, skipLength}
-use Rattle.board.specs.CodeCalls.{deadlineGiven, skipAdvanceOf}
+use Rattle.board.specs.CodeCalls.{skipAdvanceOf}
 use Rattle.board.proofs.Answers.{skip-advance-refusal, skip-advance-some, skip-advance-none}
 use Rattle.board.proofs.Soundness.{sound-facts}
 use Rattle.board.proofs.calls.Call as C
-use Rattle.format.specs.declared.Answer.the-variants.{Empty, Byte, Deadline as DeadlineBytes, Skip as SkipBytes, Pair}
+use Rattle.format.specs.declared.Answer.the-variants.{Skip as SkipBytes}
 use Rattle.format.specs.declared.Decoded.{Decoded}
 use Rattle.format.specs.declared.Lengths.{Lengths}
 use Rattle.format.specs.Format.{lengthsOf, headerLength, membersBytes, answerBytes, valueBytes, recordOf}
@@ -157,54 +151,6 @@ pub rest-tag : (step : Step) → Rest step → _≡_ {A = ℕ} 6 (tagOf (otherCa
 rest-tag =
     rest-cases (λ step. _≡_ {A = ℕ} 6 (tagOf (otherCall step))) (λ _. refl) (λ _. refl) (λ _ _. refl) (λ _ _. refl)
     refl
-
--- what each changes
-module _ (b : Board) (step : Step) where
-  pub host-changes : (nanoseconds seconds : ℕ) → step ≡ HostTimeStep nanoseconds seconds →
-      Changed step b
-      (record {
-        host = record { seconds = seconds; nanoseconds = nanoseconds };
-        controller = b .controller;
-        answer = Empty;
-      })
-  unfolding membersBytes valueBytes
-  host-changes nanoseconds seconds k = rw k (refl, refl)
-
-  pub source-changes : (number : SourceNumber) (level : ℕ) → step ≡ SourceStep number level → (q : IrqController) →
-      q ≡ sourceSet (b .controller) (number .0) (eqb level 1) →
-      Changed step b (record { host = b .clock .host; controller = q; answer = Empty })
-  unfolding membersBytes valueBytes
-  source-changes number level k q e = rw (k, e) (refl, refl)
-
-  pub read-changes : (address : ℕ) → step ≡ ControllerReadStep address → (v : ℕ) →
-      v ≡ controllerRead (b .controller) address →
-      Changed step b (record { host = b .clock .host; controller = b .controller; answer = Byte v })
-  unfolding valueBytes
-  read-changes address k v e = rw (k, e) (refl, refl)
-
-  pub write-changes : (byte address : ℕ) → step ≡ ControllerWriteStep byte address → (q : IrqController) →
-      q ≡ controllerWritten (b .controller) address byte →
-      Changed step b (record { host = b .clock .host; controller = q; answer = Empty })
-  unfolding membersBytes valueBytes
-  write-changes byte address k q e = rw (k, e) (refl, refl)
-
-  pub output-changes : step ≡ OutputStep → (o : IrqOutput) → o ≡ outputOf (b .controller) → (v : ℕ) →
-      v ≡ flagOf (o .valid) →
-      Changed step b
-      (record { host = b .clock .host; controller = b .controller; answer = Pair v (o .number .0) })
-  unfolding valueBytes
-  output-changes k o e v f = rw (k, f, e) (refl, refl)
-
-  pub deadline-changes : step ≡ DeadlineStep → (m : DeadlineMembers) → m ≡ deadlineGiven (exactDeadline b) → (v : ℕ) →
-      v ≡ flagOf (m .present) →
-      Changed step b
-      (record {
-        host = b .clock .host;
-        controller = b .controller;
-        answer = DeadlineBytes v (m .exact) (m .word .0);
-      })
-  unfolding valueBytes
-  deadline-changes k m e v f = rw (k, f, e, wide-value) (refl, refl)
 
 -- a skip that stays: the level of source 3 is the line
 pub rest-changes : (b : Board) → sound b ≡ true → (step : Step) → Rest step → (level : Bool) →

@@ -3,16 +3,16 @@
 use Prim.Native.Nat.{ℕ, _+_, _≤_}
 use native.Mathlib.Omega.{arith}
 use mathlib.Core.Path.{_≡_, refl, sym, ap, _∙_, subst}
-use mathlib.Core.Bool.{Bool, true, false, true≢false, false≢true, cond}
-use mathlib.Core.Option.{Option, none, some}
+use mathlib.Core.Bool.{Bool, true, false, true≢false, false≢true}
+use mathlib.Core.Option.{Option}
 use mathlib.Core.List.{List, [], _∷_, append-nil}
 use lib.ListN.{length}
 use lib.Seq.{sets}
-use lib.Dec.{eqb, ltb}
+use lib.Dec.{eqb}
 use types.Run.{OneOf, miss}
 use denote.Enum.Declared as Declared
 use Rattle.wide.specs.Bits.{bit, flagOf}
-use Rattle.wide.proofs.Choices.{choose, either}
+use Rattle.wide.proofs.Choices.{choose}
 use Rattle.channel.specs.Registers.{byteWritten}
 use Rattle.channel.specs.Matches.{matchesOf}
 use Rattle.clock.specs.declared.HostTime.{HostTime as HostTimeOf}
@@ -23,16 +23,14 @@ use Rattle.controller.proofs.Laws.{steady, level-other}
 use Rattle.board.specs.declared.Board.{Board}
 use Rattle.board.specs.declared.Latches.{Latches}
 use Rattle.board.specs.declared.calls.Call.{Call}
-use Rattle.board.specs.declared.calls.Call.the-variants.{HostTime, Read, Write, Advance, Deadline, Skip, Source}
-use Rattle.board.specs.declared.calls.Call.the-variants.{ControllerRead, ControllerWrite, Output}
-use Rattle.board.specs.Registers.{base, registerOf, byteOf, placeOf}
+use Rattle.board.specs.declared.calls.Call.the-variants.{Read, Write}
+use Rattle.board.specs.Registers.{registerOf, byteOf, placeOf}
 use Rattle.board.specs.Fields.{withClock, withController, channelAt, withChannel}
 use Rattle.board.specs.Board.{line, wired, sound}
 use Rattle.board.specs.Channels.{matchesAll}
-use Rattle.board.specs.Calls.{effectOf, boardAfter, orZero, advanceBy, movedBoard, skipLength, movedBy, sourceRefusal}
-use Rattle.board.specs.Calls.{sourceOfLine}
+use Rattle.board.specs.Calls.{effectOf, boardAfter, orZero, movedBoard, movedBy, sourceRefusal}
 use Rattle.board.proofs.Loops.{map-length}
-use Rattle.board.proofs.Soundness.{sound-facts, wired-sound, wired-line, wired-level}
+use Rattle.board.proofs.Soundness.{sound-facts, wired-sound}
 use Rattle.registers.specs.declared.reads.LatchedReading.{LatchedReading}
 use Rattle.registers.specs.declared.reads.PlainReading.{PlainReading}
 use Rattle.registers.specs.declared.writes.WritePart.{WritePart}
@@ -56,8 +54,8 @@ use Rattle.list.specs.declared.parts.Step.the-variants.{ControllerRead a
 use Rattle.list.specs.declared.parts.Step.the-variants.{ControllerWrite as ControllerWriteStep}
 use Rattle.list.specs.declared.parts.Step.the-variants.{Output as OutputStep}
 use Rattle.list.specs.declared.parts.Changes.{Changes}
-use Rattle.list.specs.CodeParts.{Reads, Writes, Passes, StepIs, otherCall, withChanges}
-use Rattle.list.specs.CodeParts.{ChangesAre, Changed, passCall, begunPut, passedPut, otherPut}
+use Rattle.list.specs.CodeParts.{Reads, Writes, Passes, StepIs, otherCall, withChanges, ChangesAre, Changed}
+use Rattle.list.specs.CodeParts.{passCall, begunPut, passedPut, otherPut}
 use Rattle.list.proofs.parts.Step.{the-type}
 use Rattle.list.proofs.Advances.{begun-length}
 use Rattle.list.proofs.Records.{countsPut, counts-over, other-record, advance-record, skip-record}

@@ -24,8 +24,8 @@ use Rattle.list.proofs.Calls.{read-length, write-length, pass-length, p
 use Rattle.list.proofs.run.Statement.{statement}
 use Rattle.list.proofs.run.Tie as tie
 use Rattle.list.proofs.run.Proof.Arms.{Inv-loop2, μ-loop2, Inv-loop, μ-loop, listOf, usedOf, boardOf, restOf}
-use Rattle.list.proofs.run.Proof.Arms.{roomOf, rest-is, board-sound, accepts, other-at, other-is}
-use Rattle.list.proofs.run.Proof.Arms.{met-accepted, served, board-set, call-inside, answer-inside}
+use Rattle.list.proofs.run.Proof.Arms.{roomOf, rest-is, board-sound, accepts, other-at, other-is, met-accepted}
+use Rattle.list.proofs.run.Proof.Arms.{served, board-set, call-inside, answer-inside}
 
 returns : tie.Need-returns Inv-loop2 μ-loop2 Inv-loop μ-loop
 unfolding runOf over

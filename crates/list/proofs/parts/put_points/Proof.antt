@@ -5,15 +5,8 @@ use borrow.Author.Needs.{needs}
 use Rattle.list.proofs.parts.put_points.Statement.{statement}
 use Rattle.list.proofs.parts.put_points.Tie as tie
 
-returns : tie.Need-returns
-unfolding countPut
-returns c = rw (c .before .before .before .before .if1 .taken) (c .before .before .put-count .ensures)
-
-returns-2 : tie.Need-returns-2
-unfolding countPut
-returns-2 c = rw (c .if1 .left)
-
 pub put-points-spec : {M : Type 1} → statement M
+unfolding countPut
 put-points-spec =
     tie.close
     (tie.spec (λ c. let s = c .before .before .before in omega (arith, s .pre .1 (c .before .if1 .taken) .0, s .good))
@@ -22,4 +15,6 @@ put-points-spec =
     (arith, s .pre .0, s .pre .1 (c .before .if1 .taken) .0, s .good))
     (λ c κs. let s = c .before .before .before in let r = s .pre .1 (c .before .if1 .taken) in
     (omega (arith, s .pre .0, r .0), r .1))
-    (λ c. search needs) returns returns-2)
+    (λ c. search needs)
+    (λ c. rw (c .before .before .before .before .if1 .taken) (c .before .before .put-count .ensures))
+    (λ c. rw (c .if1 .left)))

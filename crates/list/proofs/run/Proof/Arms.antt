@@ -5,7 +5,6 @@ use mathlib.Core.Bool.{true}
 use mathlib.Core.Logic.{inl, inr}
 use mathlib.Core.List.{List}
 use Prim.Native.Nat.{ℕ, _+_, _-_, _≤_}
-use native.Mathlib.Omega.{arith}
 use lib.ListN.{length, take, drop}
 use Rattle.board.specs.declared.Board.{Board}
 use Rattle.board.specs.Board.{sound}
@@ -25,8 +24,8 @@ use Rattle.list.specs.CodeParts.{StepIs, Changed, otherCall}
 use Rattle.list.proofs.Advances.{Advancing, all-advanced, Counted, counts-end}
 use Rattle.list.proofs.Runs.{Running, stateOf, used-inside, written-inside}
 use Rattle.list.proofs.Calls.{Other, OtherDoes, other-does, plain-carried, read-carried, channel-written}
-use Rattle.list.proofs.Calls.{write-carried, pass-carried, other-size, other-carried}
-use Rattle.list.proofs.Calls.{read-length, write-length, pass-length, Served, set-after}
+use Rattle.list.proofs.Calls.{write-carried, pass-carried, other-size, other-carried, read-length}
+use Rattle.list.proofs.Calls.{write-length, pass-length, Served, set-after}
 use Rattle.list.proofs.run.Tie as tie
 
 abbrev pub Inv-loop2 : tie.InvT-loop2
