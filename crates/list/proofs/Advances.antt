@@ -103,7 +103,7 @@ countsTo enable c i b = givenTo (λ k h. matchesOf (bit k enable) c h) 0 i 0 (b 
 abbrev pub Counted : (enable c i : ℕ) → Bool → ℕ → Board → List ℕ → List ℕ → Type 0
 Counted enable c i v at b₀ buf₀ buf = buf ≡ countsPut v at (countsTo enable c i b₀) buf₀
 
-abbrev noCounts : List ℕ
+abbrev pub noCounts : List ℕ
 noCounts = 0 ∷ 0 ∷ 0 ∷ 0 ∷ []
 
 -- buf₀ is the buffer that the pass begins with

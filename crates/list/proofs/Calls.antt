@@ -57,7 +57,7 @@ use Rattle.list.specs.declared.parts.Changes.{Changes}
 use Rattle.list.specs.CodeParts.{Reads, Writes, Passes, StepIs, otherCall, withChanges, ChangesAre, Changed}
 use Rattle.list.specs.CodeParts.{passCall, begunPut, passedPut, otherPut}
 use Rattle.list.proofs.parts.Step.{the-type}
-use Rattle.list.proofs.Advances.{begun-length}
+use Rattle.list.proofs.Advances.{begun-length, noCounts}
 use Rattle.list.proofs.Records.{countsPut, counts-over, other-record, advance-record, skip-record}
 
 -- the steps without an arm of their own
@@ -155,9 +155,6 @@ module _ (b : Board) (s : sound b ≡ true) (at : ℕ) (buf : List ℕ) where
       (p ∙ ap (sets buf at) (sym (append-nil (headerBytes 3 0)))))
 
   -- ---- advance, and a skip that makes one
-
-  abbrev noCounts : List ℕ
-  noCounts = 0 ∷ 0 ∷ 0 ∷ 0 ∷ []
 
   -- z is the board with the cycles passed, v its line, and buf₁ and buf₂ the buffer ahead of them and with the counts
   module _ (c : ℕ) (z : Board) (m : z ≡ movedBoard c b) (v : Bool) (e : v ≡ line z) (q : IrqController)

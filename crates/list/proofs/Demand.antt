@@ -1,6 +1,6 @@
 -- The calls 01 and 04 that a run carries out one after another are a list of the deadline's promise. Assumes nothing.
 use Prim.Native.Nat.{ℕ, zero, suc, _+_, _-_, _<_}
-use native.Mathlib.Nat.{add-zero, zero-add}
+use native.Mathlib.Nat.{add-zero}
 use native.Mathlib.Omega.{arith}
 use mathlib.Core.Path.{_≡_, refl, sym, ap, _∙_, subst}
 use mathlib.Core.Bool.{Bool, true, false, false≢true}
@@ -143,21 +143,12 @@ carried rate (a ∷ calls) w l room s out g h =
         (subst (λ (k : ℕ). ListIs (drop k l) calls)
         (sym (done-length l (s .board) (room - length out) a (h .0) b n x e)) (h .1))))
 
--- a run's board is the board after the calls that it has carried out
-pub run-after : (b : Board) (l : List ℕ) (room : ℕ) (calls : List Call) → All PassesTime calls → BoardFits b →
-    sound b ≡ true → ListIs l calls → runOf b l room .outcome .board ≡ afterAll (take (runOf b l room .outcome .calls) calls) b
+-- a run over a sound board
+run-carried : (b : Board) (l : List ℕ) (room : ℕ) (calls : List Call) → All PassesTime calls → BoardFits b →
+    sound b ≡ true → ListIs l calls → Carried calls (nothingDone b 0) (runOf b l room)
 unfolding runOf
-run-after b l room calls w f s h =
-    let c = carried (rateOf (b .clock)) calls w l room (nothingDone b 0) [] (good b f s) h in
-    rw s (c .board ∙ ap (λ (n : ℕ). afterAll (take n calls) b) (sym (c .counted ∙ zero-add (c .count))))
-
--- a run that is not refused has carried out all of them
-run-all : (b : Board) (l : List ℕ) (room : ℕ) (calls : List Call) → All PassesTime calls → BoardFits b →
-    sound b ≡ true → ListIs l calls → runOf b l room .outcome .refusal ≡ 0 → runOf b l room .outcome .calls ≡ length calls
-unfolding runOf
-run-all b l room calls w f s h z =
-    let c = carried (rateOf (b .clock)) calls w l room (nothingDone b 0) [] (good b f s) h in
-    rw s (c .counted ∙ zero-add (c .count) ∙ c .all (rw s at z))
+run-carried b l room calls w f s h =
+    rw s (carried (rateOf (b .clock)) calls w l room (nothingDone b 0) [] (good b f s) h)
 
 -- ---- bytes behind the calls
 
@@ -262,22 +253,20 @@ module _ (b : Board) (first stretch last : List ℕ) (room : ℕ) (calls : List 
   -- by parts: the run through the stretch is the run up to it, and then the stretch by itself
   module _ (e : Through ≡ joined Before Alone) (g : Good (rateOf (b .clock)) AtStart) (w : All PassesTime calls)
       (h : ListIs stretch calls) where
-    starts-sound : sound AtStart ≡ true
-    starts-sound = good-sound g
+    alone : Carried calls (nothingDone AtStart 0) Alone
+    alone = run-carried AtStart stretch (room - length (Before .answers)) calls w (g .fits) (good-sound g) h
 
-    counts : Alone .outcome .calls ≡ Through .outcome .calls - Before .outcome .calls
-    counts = omega (arith, ap (λ (q : Run). q .outcome .calls) e)
+    counts : alone .count ≡ Through .outcome .calls - Before .outcome .calls
+    counts = omega (arith, ap (λ (q : Run). q .outcome .calls) e, alone .counted)
 
     ends-at : Through .outcome .board ≡ afterAll CarriedOut AtStart
     ends-at =
-        ap (λ (q : Run). q .outcome .board) e
-        ∙ run-after AtStart stretch (room - length (Before .answers)) calls w (g .fits) starts-sound h
+        ap (λ (q : Run). q .outcome .board) e ∙ alone .board
         ∙ ap (λ (k : ℕ). afterAll (take k calls) AtStart) counts
 
     carries-all : Through .outcome .refusal ≡ 0 → CarriedOut ≡ calls
     carries-all z =
-        let n = run-all AtStart stretch (room - length (Before .answers)) calls w (g .fits) starts-sound h
-        (sym (ap (λ (q : Run). q .outcome .refusal) e) ∙ z) in
+        let n = alone .all (sym (ap (λ (q : Run). q .outcome .refusal) e) ∙ z) in
         take-all (Through .outcome .calls - Before .outcome .calls) calls (omega (arith, counts, n))
 
   -- what is promised of the deadline holds of every stretch of calls 01 and 04 of a run, whatever stands before it and

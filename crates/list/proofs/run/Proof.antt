@@ -134,14 +134,14 @@ put-other-requires c κs =
     let u = c .before .before .before .before .before .before in
     let k = c .before .before .before .before .before .match .keys5 in
     let d = other-is u k (c .before .before .before .before .changes-of .result) (c .before .before .before .before .changes-of .ensures) in
-    omega (arith, answer-inside u (other-at u k .0), d .put, d .bytes)
+    omega (arith, answer-inside u (other-at u k .0), d .1 .0, d .1 .1)
 
 add-used-4 : tie.Need-add-used-4 Inv-loop2 μ-loop2 Inv-loop μ-loop
 add-used-4 c =
     let u = c .before .before .before .before .before .before .before .before .before .before in
     let k = c .before .before .before .before .before .before .before .before .before .match .keys5 in
     let d = other-is u k (c .before .before .before .before .before .before .before .before .changes-of .result) (c .before .before .before .before .before .before .before .before .changes-of .ensures) in
-    omega (arith, call-inside u (other-at u k .0), d .called, c .call-length .ensures, u .before .before .before .before .before .before .before .before .good)
+    omega (arith, call-inside u (other-at u k .0), d .0, c .call-length .ensures, u .before .before .before .before .before .before .before .before .good)
 
 add-written : tie.Need-add-written Inv-loop2 μ-loop2 Inv-loop μ-loop
 add-written c =

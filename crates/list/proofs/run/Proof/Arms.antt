@@ -97,22 +97,16 @@ other-at u k =
     other-does (boardOf u) (board-sound u) (writtenOf u) (answersOf u) (restOf u) (roomOf u) (u .step-of .result) k
     (u .step-of .ensures)
 
--- its numbers
-pub record OtherIs (u : At) (c : Changes) : Type 0 where
-  pub called : callLength (callAt (restOf u)) ≡ callLength (otherCall (u .step-of .result))
-  pub put : recordLength (callAt (restOf u)) ≡ recordLength (otherCall (u .step-of .result))
-  pub bytes : 3 + length (valueBytes (c .answer)) ≡ recordLength (otherCall (u .step-of .result))
-
+-- its numbers: of the call, of its record, and of the bytes behind the header
 pub other-is : (u : At) → Other (u .step-of .result) → (c : Changes) → Changed (u .step-of .result) (boardOf u) c →
-    OtherIs u c
+    (callLength (callAt (restOf u)) ≡ callLength (otherCall (u .step-of .result)))
+    × ((recordLength (callAt (restOf u)) ≡ recordLength (otherCall (u .step-of .result)))
+    × (3 + length (valueBytes (c .answer)) ≡ recordLength (otherCall (u .step-of .result))))
 other-is u k c h =
     let d = other-at u k .1 in
-    record {
-      called = ap (λ (x : Call). callLength x) (d .0);
-      put = ap (λ (x : Call). recordLength x) (d .0);
-      bytes = other-size (boardOf u) (board-sound u) (writtenOf u) (answersOf u) (otherCall (u .step-of .result)) _ _
-          (d .1 .1 c h .1);
-    }
+    let n = other-size (boardOf u) (board-sound u) (writtenOf u) (answersOf u) (otherCall (u .step-of .result)) _ _
+    (d .1 .1 c h .1) in
+    (ap (λ (x : Call). callLength x) (d .0), (ap (λ (x : Call). recordLength x) (d .0), n))
 
 -- ---- where the arms of the match meet
 
@@ -196,8 +190,8 @@ served c =
             carried =
                 other-carried b s at buf (restOf u) (roomOf u) (u .step-of .result) (other-at u (w .0 .keys5))
                 (w .1 .result) (w .1 .ensures) _ (w .12) _ (w .15) _ (w .11 ∙ w .6 .ensures);
-            used = w .13 ∙ ap (λ (m : ℕ). usedOf u + m) (w .9 .ensures ∙ sym (d .called));
-            size = w .14 ∙ w .10 .ensures ∙ sym (d .put);
+            used = w .13 ∙ ap (λ (m : ℕ). usedOf u + m) (w .9 .ensures ∙ sym (d .0));
+            size = w .14 ∙ w .10 .ensures ∙ sym (d .1 .0);
           }
     ]
 
