@@ -35,12 +35,7 @@ use Rattle.format.specs.CodeDecode.{valueRefusal, decodedOf, boardRefusal, firs
 use Rattle.format.proofs.Frames.{value-below, answer-below, sets-then}
 use Rattle.format.proofs.Decoding.{value-of, answer-of, decoded-accepted, first-refusal, accepted-refusal}
 use Rattle.list.specs.declared.parts.Step.{Step}
-use Rattle.list.specs.declared.parts.Step.the-variants.{Refused, Read as ReadStep, Write as WriteStep, Pass}
-use Rattle.list.specs.declared.parts.Step.the-variants.{HostTime as HostTimeStep, Stay}
-use Rattle.list.specs.declared.parts.Step.the-variants.{Deadline as DeadlineStep, Source as SourceStep}
-use Rattle.list.specs.declared.parts.Step.the-variants.{ControllerRead as ControllerReadStep}
-use Rattle.list.specs.declared.parts.Step.the-variants.{ControllerWrite as ControllerWriteStep}
-use Rattle.list.specs.declared.parts.Step.the-variants.{Output as OutputStep}
+use Rattle.list.specs.declared.parts.Step.the-variants as T
 use Rattle.list.specs.CodeParts.{Makes, SkipIs, StepIs, otherCall, Changed, passedPut, otherPut}
 use Rattle.list.proofs.parts.Step as S
 
@@ -87,17 +82,17 @@ module _ (b : Board) (p : SkipAdvance) (e : p ≡ skipAdvanceOf (skipLength b)) 
     pub first-room : p .refusal ≡ 0 → n ≡ firstOf (boardRefusal call b) n
     first-room z = rw (k, ← own-skip, z)
 
-  pub skip-refuses : (p .refusal ≡ 0 → ⊥) → SkipIs b (Refused (p .refusal))
+  pub skip-refuses : (p .refusal ≡ 0 → ⊥) → SkipIs b (T.Refused (p .refusal))
   skip-refuses f = (own-skip, ne-eqb (p .refusal) 0 f)
 
   module _ (z : p .refusal ≡ 0) where
-    pub skip-passes : p .made ≡ true → SkipIs b (Pass false (p .cycles .0))
+    pub skip-passes : p .made ≡ true → SkipIs b (T.Pass false (p .cycles .0))
     skip-passes m = (
       sym own-skip ∙ z,
       record { advance = λ q. absurd (false≢true q); skip = λ _. (refl, skip-advance-some p (skipLength b) e m) },
     )
 
-    pub skip-stays : p .made ≡ false → SkipIs b Stay
+    pub skip-stays : p .made ≡ false → SkipIs b T.Stay
     skip-stays m = (sym own-skip ∙ z, (refl, skip-advance-none p (skipLength b) e z m .0))
 
 -- ---- the step: d is what is found of the call at the front
@@ -132,20 +127,20 @@ module _ (b : Board) (l : List ℕ) (room : ℕ) (d : Decoded) (e : d ≡ decode
 -- ---- the calls that change host time or the controller at most
 
 -- a property of the rest, step by step
-rest-cases : (P : Step → Type 0) → ((refusal : ℕ) → P (Refused refusal)) → ((offset : ℕ) → P (ReadStep offset)) →
-    ((byte offset : ℕ) → P (WriteStep byte offset)) → ((counted : Bool) (c : ℕ) → P (Pass counted c)) → P Stay →
+rest-cases : (P : Step → Type 0) → ((refusal : ℕ) → P (T.Refused refusal)) → ((offset : ℕ) → P (T.Read offset)) →
+    ((byte offset : ℕ) → P (T.Write byte offset)) → ((counted : Bool) (c : ℕ) → P (T.Pass counted c)) → P T.Stay →
     (step : Step) → Rest step → P step
-rest-cases P p0 p1 p2 p3 p5 (Refused refusal) o = p0 refusal
-rest-cases P p0 p1 p2 p3 p5 (ReadStep offset) o = p1 offset
-rest-cases P p0 p1 p2 p3 p5 (WriteStep byte offset) o = p2 byte offset
-rest-cases P p0 p1 p2 p3 p5 (Pass counted c) o = p3 counted c
-rest-cases P p0 p1 p2 p3 p5 (HostTimeStep nanoseconds seconds) o = absurd (miss rest 4 tt o)
-rest-cases P p0 p1 p2 p3 p5 Stay o = p5
-rest-cases P p0 p1 p2 p3 p5 DeadlineStep o = absurd (miss rest 6 tt o)
-rest-cases P p0 p1 p2 p3 p5 (SourceStep number level) o = absurd (miss rest 7 tt o)
-rest-cases P p0 p1 p2 p3 p5 (ControllerReadStep address) o = absurd (miss rest 8 tt o)
-rest-cases P p0 p1 p2 p3 p5 (ControllerWriteStep byte address) o = absurd (miss rest 9 tt o)
-rest-cases P p0 p1 p2 p3 p5 OutputStep o = absurd (miss rest 10 tt o)
+rest-cases P p0 p1 p2 p3 p5 (T.Refused refusal) o = p0 refusal
+rest-cases P p0 p1 p2 p3 p5 (T.Read offset) o = p1 offset
+rest-cases P p0 p1 p2 p3 p5 (T.Write byte offset) o = p2 byte offset
+rest-cases P p0 p1 p2 p3 p5 (T.Pass counted c) o = p3 counted c
+rest-cases P p0 p1 p2 p3 p5 (T.HostTime nanoseconds seconds) o = absurd (miss rest 4 tt o)
+rest-cases P p0 p1 p2 p3 p5 T.Stay o = p5
+rest-cases P p0 p1 p2 p3 p5 T.Deadline o = absurd (miss rest 6 tt o)
+rest-cases P p0 p1 p2 p3 p5 (T.Source number level) o = absurd (miss rest 7 tt o)
+rest-cases P p0 p1 p2 p3 p5 (T.ControllerRead address) o = absurd (miss rest 8 tt o)
+rest-cases P p0 p1 p2 p3 p5 (T.ControllerWrite byte address) o = absurd (miss rest 9 tt o)
+rest-cases P p0 p1 p2 p3 p5 T.Output o = absurd (miss rest 10 tt o)
 
 pub rest-tag : (step : Step) → Rest step → _≡_ {A = ℕ} 6 (tagOf (otherCall step))
 rest-tag =

@@ -15,8 +15,6 @@ use Rattle.wide.specs.Bits.{bit, flagOf}
 use Rattle.wide.proofs.Choices.{choose}
 use Rattle.channel.specs.Registers.{byteWritten}
 use Rattle.channel.specs.Matches.{matchesOf}
-use Rattle.clock.specs.declared.HostTime.{HostTime as HostTimeOf}
-use Rattle.clock.specs.Fields.{withHost}
 use Rattle.controller.specs.declared.IrqController.{IrqController}
 use Rattle.controller.specs.Controller.{sourceSet, controllerWritten, pendingCleared}
 use Rattle.controller.proofs.Laws.{steady, level-other}
@@ -25,7 +23,7 @@ use Rattle.board.specs.declared.Latches.{Latches}
 use Rattle.board.specs.declared.calls.Call.{Call}
 use Rattle.board.specs.declared.calls.Call.the-variants.{Read, Write}
 use Rattle.board.specs.Registers.{registerOf, byteOf, placeOf}
-use Rattle.board.specs.Fields.{withClock, withController, channelAt, withChannel}
+use Rattle.board.specs.Fields.{withController, channelAt, withChannel}
 use Rattle.board.specs.Board.{line, wired, sound}
 use Rattle.board.specs.Channels.{matchesAll}
 use Rattle.board.specs.Calls.{effectOf, boardAfter, orZero, movedBoard, movedBy, sourceRefusal}
@@ -223,27 +221,6 @@ module _ (b : Board) (s : sound b ≡ true) (at : ℕ) (buf : List ℕ) where
       P : IrqController → Type 0
       P d = d .levels ≡ q .levels
 
-  pub host-time-still : (h : HostTimeOf) →
-      wired (withClock (withHost h (b .clock)) b) ≡ withClock (withHost h (b .clock)) b
-  unfolding line
-  host-time-still h = level-still (withClock (withHost h (b .clock)) b) refl refl
-
-  pub source-still : (number level : ℕ) → sourceRefusal number level ≡ 0 →
-      wired (withController (sourceSet (b .controller) number (eqb level 1)) b)
-      ≡ withController (sourceSet (b .controller) number (eqb level 1)) b
-  unfolding line
-  source-still number level z =
-      level-still (withController (sourceSet (b .controller) number (eqb level 1)) b) refl
-      (level-other (b .controller) 3 number (eqb level 1) (source-apart number level z))
-
-  pub controller-write-still : (byte address : ℕ) →
-      wired (withController (controllerWritten (b .controller) address byte) b)
-      ≡ withController (controllerWritten (b .controller) address byte) b
-  unfolding line
-  controller-write-still byte address =
-      level-still (withController (controllerWritten (b .controller) address byte) b) refl
-      (ap (bit 3) (written-levels (b .controller) address byte))
-
   -- such a step: its call is accepted, leaves source 3 where it is, and has the step's changes
   abbrev pub OtherDoes : List ℕ → ℕ → Step → Type 0
   OtherDoes l room step =
@@ -253,21 +230,21 @@ module _ (b : Board) (s : sound b ≡ true) (at : ℕ) (buf : List ℕ) where
       × ((c : Changes) → Changed step b c → ChangesAre (otherCall step) b c)))
 
   pub other-does : (l : List ℕ) (room : ℕ) (step : Step) → Other step → StepIs b l room step → OtherDoes l room step
+  unfolding line
   other-does l room (Refused refusal) k h = absurd (miss others 0 tt k)
   other-does l room (ReadStep offset) k h = absurd (miss others 1 tt k)
   other-does l room (WriteStep byte offset) k h = absurd (miss others 2 tt k)
   other-does l room (Pass counted c) k h = absurd (miss others 3 tt k)
   other-does l room (HostTimeStep nanoseconds seconds) k h =
-      let w = host-time-still (record { seconds = seconds; nanoseconds = nanoseconds }) in
-      (h .0, (h .1, (w, λ c x. x)))
+      (h .0, (h .1, (level-still _ refl refl, λ c x. x)))
   other-does l room Stay k h = (h .0, (h .1 .0, (rw (h .1 .1) (wired-sound b s), λ c x. x (h .1 .1))))
   other-does l room DeadlineStep k h = (h .0, (h .1, (wired-sound b s, λ c x. x)))
   other-does l room (SourceStep number level) k h =
       let z = rw (h .1) at (clear b l room (h .0) .own) in
-      (h .0, (h .1, (source-still (number .0) level z, λ c x. x)))
+      (h .0, (h .1, (level-still _ refl (level-other (b .controller) 3 (number .0) (eqb level 1) (source-apart (number .0) level z)), λ c x. x)))
   other-does l room (ControllerReadStep address) k h = (h .0, (h .1, (wired-sound b s, λ c x. x)))
   other-does l room (ControllerWriteStep byte address) k h =
-      (h .0, (h .1, (controller-write-still byte address, λ c x. x)))
+      (h .0, (h .1, (level-still _ refl (ap (bit 3) (written-levels (b .controller) address byte)), λ c x. x)))
   other-does l room OutputStep k h = (h .0, (h .1, (wired-sound b s, λ c x. x)))
 
   -- the bytes of the answer are as many as the record has

@@ -7,7 +7,6 @@ use mathlib.Core.Bool.{Bool, true, false, false≢true}
 use mathlib.Core.List.{List, [], _∷_, _++_, append-assoc}
 use lib.ListN.{length, take, drop, getD, length-append}
 use lib.Seq.{take-all, drop-append-le}
-use lib.Dec.{eqb}
 use borrow.Author.Tests.{eq-eqb}
 use Rattle.wide.specs.Bits.{flagOf}
 use Rattle.wide.specs.Fields.{be}
@@ -90,17 +89,6 @@ none-carried : (calls : List Call) (s : Outcome) (r : Run) → r .outcome .calls
 unfolding afterAll
 none-carried calls s r n e h = record { count = 0; counted = n ∙ sym (add-zero (s .calls)); board = e; all = h }
 
-none-at-end : (room : ℕ) (s : Outcome) (out : List ℕ) → Carried [] s (runOn 0 [] room s out)
-unfolding runOn
-none-at-end room s out = none-carried [] s (record { outcome = s; answers = out }) refl refl (λ _. refl)
-
-none-refused : (calls : List Call) (s : Outcome) (n : ℕ) (out : List ℕ) → eqb n 0 ≡ false →
-    Carried calls s (record { outcome = stepped s (refused n); answers = out })
-unfolding stepped
-none-refused calls s n out h =
-    none-carried calls s (record { outcome = stepped s (refused n); answers = out }) refl refl
-    (λ z. absurd (false≢true (sym h ∙ eq-eqb n 0 z)))
-
 -- one call more, ahead of those
 one-more : (a : Call) (calls : List Call) (s : Outcome) (b : Board) (n : ℕ) (x : List ℕ) (r : Run) →
     b ≡ after a (s .board) → Carried calls (stepped s (done b n x)) r → Carried (a ∷ calls) s r
@@ -112,15 +100,10 @@ one-more a calls s b n x r e c = record {
   all = λ z. ap suc (c .all z);
 }
 
-done-good : (rate : ℕ) (a : Call) → PassesTime a → (s : Outcome) (b : Board) (n : ℕ) (x : List ℕ) →
-    Good rate (s .board) → b ≡ after a (s .board) → Good rate (stepped s (done b n x) .board)
-unfolding stepped
-done-good rate a w s b n x g e = subst (Good rate) (sym e) (call-step a w (s .board) g .good)
-
 carried : (rate : ℕ) (calls : List Call) → All PassesTime calls → (l : List ℕ) (room : ℕ) (s : Outcome)
     (out : List ℕ) → Good rate (s .board) → ListIs l calls → Carried calls s (runOn 0 l room s out)
-unfolding ListIs
-carried rate [] w l room s out g e = rw e (none-at-end room s out)
+unfolding ListIs runOn stepped
+carried rate [] w l room s out g e = rw e (none-carried [] s _ refl refl (λ _. refl))
 carried rate (a ∷ calls) w l room s out g h =
     onward (λ n o x q i. carried rate calls (w .1) (drop n l) room o x q i) (resultOf (s .board) l (room - length out))
     refl
@@ -134,12 +117,13 @@ carried rate (a ∷ calls) w l room s out g h =
         (t : Result) → resultOf (s .board) l (room - length out) ≡ t → Carried (a ∷ calls) s (runOn 0 l room s out)
     onward next (refused n) e =
         subst (Carried (a ∷ calls) s) (sym (stop-at l room s out inside n e))
-        (none-refused (a ∷ calls) s n out (refused-numbered (s .board) l (room - length out) n e))
+        (none-carried (a ∷ calls) s (record { outcome = stepped s (refused n); answers = out }) refl refl
+        (λ z. absurd (false≢true (sym (refused-numbered (s .board) l (room - length out) n e) ∙ eq-eqb n 0 z))))
     onward next (done b n x) e =
         let q = done-after l (s .board) (room - length out) a (h .0) (good-sound g) b n x e in
         subst (Carried (a ∷ calls) s) (sym (go-on l room s out inside b n x e))
         (one-more a calls s b n x (runOn 0 (drop n l) room (stepped s (done b n x)) (out ++ x)) q
-        (next n (stepped s (done b n x)) (out ++ x) (done-good rate a (w .0) s b n x g q)
+        (next n (stepped s (done b n x)) (out ++ x) (subst (Good rate) (sym q) (call-step a (w .0) (s .board) g .good))
         (subst (λ (k : ℕ). ListIs (drop k l) calls)
         (sym (done-length l (s .board) (room - length out) a (h .0) b n x e)) (h .1))))
 
