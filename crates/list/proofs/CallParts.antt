@@ -4,6 +4,7 @@ use Prim.Native.Nat.{ℕ, _+_, _<_}
 use native.Mathlib.Omega.{arith}
 use mathlib.Core.Path.{_≡_, refl, sym, ap, _∙_}
 use mathlib.Core.Bool.{Bool, true, false, false≢true}
+use mathlib.Core.Option.{none}
 use mathlib.Core.List.{List, [], _∷_, _++_}
 use lib.ListN.{length-append}
 use lib.Dec.{eqb}
@@ -36,7 +37,8 @@ use Rattle.format.proofs.Frames.{value-below, answer-below, sets-then}
 use Rattle.format.proofs.Decoding.{value-of, answer-of, decoded-accepted, first-refusal, accepted-refusal}
 use Rattle.list.specs.declared.parts.Step.{Step}
 use Rattle.list.specs.declared.parts.Step.the-variants as T
-use Rattle.list.specs.CodeParts.{Makes, SkipIs, StepIs, otherCall, Changed, passedPut, otherPut}
+use Rattle.list.specs.declared.parts.Changes.{Changes}
+use Rattle.list.specs.CodeParts.{Makes, SkipIs, StepIs, otherCall, ChangesAre, Changed, passedPut, otherPut}
 use Rattle.list.proofs.parts.Step as S
 
 -- ---- arms of several cases, by the positions of the variants
@@ -126,26 +128,23 @@ module _ (b : Board) (l : List ℕ) (room : ℕ) (d : Decoded) (e : d ≡ decode
 
 -- ---- the calls that change host time or the controller at most
 
--- a property of the rest, step by step
-rest-cases : (P : Step → Type 0) → ((refusal : ℕ) → P (T.Refused refusal)) → ((offset : ℕ) → P (T.Read offset)) →
-    ((byte offset : ℕ) → P (T.Write byte offset)) → ((counted : Bool) (c : ℕ) → P (T.Pass counted c)) → P T.Stay →
-    (step : Step) → Rest step → P step
-rest-cases P p0 p1 p2 p3 p5 (T.Refused refusal) o = p0 refusal
-rest-cases P p0 p1 p2 p3 p5 (T.Read offset) o = p1 offset
-rest-cases P p0 p1 p2 p3 p5 (T.Write byte offset) o = p2 byte offset
-rest-cases P p0 p1 p2 p3 p5 (T.Pass counted c) o = p3 counted c
-rest-cases P p0 p1 p2 p3 p5 (T.HostTime nanoseconds seconds) o = absurd (miss rest 4 tt o)
-rest-cases P p0 p1 p2 p3 p5 T.Stay o = p5
-rest-cases P p0 p1 p2 p3 p5 T.Deadline o = absurd (miss rest 6 tt o)
-rest-cases P p0 p1 p2 p3 p5 (T.Source number level) o = absurd (miss rest 7 tt o)
-rest-cases P p0 p1 p2 p3 p5 (T.ControllerRead address) o = absurd (miss rest 8 tt o)
-rest-cases P p0 p1 p2 p3 p5 (T.ControllerWrite byte address) o = absurd (miss rest 9 tt o)
-rest-cases P p0 p1 p2 p3 p5 T.Output o = absurd (miss rest 10 tt o)
+-- the rest: the tag of a skip, and the changes of one that stays
+rest-is : (step : Step) → Rest step → (_≡_ {A = ℕ} 6 (tagOf (otherCall step)))
+    × ((b : Board) (c : Changes) → (skipLength b ≡ none → ChangesAre Skip b c) → Changed step b c)
+rest-is (T.Refused refusal) o = (refl, λ b c h. h)
+rest-is (T.Read offset) o = (refl, λ b c h. h)
+rest-is (T.Write byte offset) o = (refl, λ b c h. h)
+rest-is (T.Pass counted n) o = (refl, λ b c h. h)
+rest-is (T.HostTime nanoseconds seconds) o = absurd (miss rest 4 tt o)
+rest-is T.Stay o = (refl, λ b c h. h)
+rest-is T.Deadline o = absurd (miss rest 6 tt o)
+rest-is (T.Source number level) o = absurd (miss rest 7 tt o)
+rest-is (T.ControllerRead address) o = absurd (miss rest 8 tt o)
+rest-is (T.ControllerWrite byte address) o = absurd (miss rest 9 tt o)
+rest-is T.Output o = absurd (miss rest 10 tt o)
 
 pub rest-tag : (step : Step) → Rest step → _≡_ {A = ℕ} 6 (tagOf (otherCall step))
-rest-tag =
-    rest-cases (λ step. _≡_ {A = ℕ} 6 (tagOf (otherCall step))) (λ _. refl) (λ _. refl) (λ _ _. refl) (λ _ _. refl)
-    refl
+rest-tag step o = rest-is step o .0
 
 -- a skip that stays: the level of source 3 is the line
 pub rest-changes : (b : Board) → sound b ≡ true → (step : Step) → Rest step → (level : Bool) →
@@ -154,9 +153,7 @@ pub rest-changes : (b : Board) → sound b ≡ true → (step : Step) → Rest s
 unfolding valueBytes
 rest-changes b s step o level e v f =
     let q : v ≡ flagOf (line b) = f ∙ ap flagOf (e ∙ sound-facts b s .level) in
-    rest-cases
-    (λ step. Changed step b (record { host = b .clock .host; controller = b .controller; answer = SkipBytes 0 v }))
-    (λ _. tt) (λ _. tt) (λ _ _. tt) (λ _ _. tt) (λ n. rw (n, q) (refl, refl)) step o
+    rest-is step o .1 b _ (λ n. rw (n, q) (refl, refl))
 
 -- ---- stores: m is the buffer with the header, r the buffer with the value behind it
 

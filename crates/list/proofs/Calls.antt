@@ -45,12 +45,7 @@ use Rattle.format.specs.Codec.{tagOf, callLength, answerRecord, recordLength, c
 use Rattle.format.proofs.Frames.{answer-length}
 use Rattle.format.proofs.Decoding.{clear}
 use Rattle.list.specs.declared.parts.Step.{Step}
-use Rattle.list.specs.declared.parts.Step.the-variants.{Refused, Read as ReadStep, Write as WriteStep, Pass}
-use Rattle.list.specs.declared.parts.Step.the-variants.{HostTime as HostTimeStep, Stay}
-use Rattle.list.specs.declared.parts.Step.the-variants.{Deadline as DeadlineStep, Source as SourceStep}
-use Rattle.list.specs.declared.parts.Step.the-variants.{ControllerRead as ControllerReadStep}
-use Rattle.list.specs.declared.parts.Step.the-variants.{ControllerWrite as ControllerWriteStep}
-use Rattle.list.specs.declared.parts.Step.the-variants.{Output as OutputStep}
+use Rattle.list.specs.declared.parts.Step.the-variants as T
 use Rattle.list.specs.declared.parts.Changes.{Changes}
 use Rattle.list.specs.CodeParts.{Reads, Writes, Passes, StepIs, otherCall, withChanges, ChangesAre, Changed}
 use Rattle.list.specs.CodeParts.{passCall, begunPut, passedPut, otherPut}
@@ -231,21 +226,21 @@ module _ (b : Board) (s : sound b ≡ true) (at : ℕ) (buf : List ℕ) where
 
   pub other-does : (l : List ℕ) (room : ℕ) (step : Step) → Other step → StepIs b l room step → OtherDoes l room step
   unfolding line
-  other-does l room (Refused refusal) k h = absurd (miss others 0 tt k)
-  other-does l room (ReadStep offset) k h = absurd (miss others 1 tt k)
-  other-does l room (WriteStep byte offset) k h = absurd (miss others 2 tt k)
-  other-does l room (Pass counted c) k h = absurd (miss others 3 tt k)
-  other-does l room (HostTimeStep nanoseconds seconds) k h =
+  other-does l room (T.Refused refusal) k h = absurd (miss others 0 tt k)
+  other-does l room (T.Read offset) k h = absurd (miss others 1 tt k)
+  other-does l room (T.Write byte offset) k h = absurd (miss others 2 tt k)
+  other-does l room (T.Pass counted c) k h = absurd (miss others 3 tt k)
+  other-does l room (T.HostTime nanoseconds seconds) k h =
       (h .0, (h .1, (level-still _ refl refl, λ c x. x)))
-  other-does l room Stay k h = (h .0, (h .1 .0, (rw (h .1 .1) (wired-sound b s), λ c x. x (h .1 .1))))
-  other-does l room DeadlineStep k h = (h .0, (h .1, (wired-sound b s, λ c x. x)))
-  other-does l room (SourceStep number level) k h =
+  other-does l room T.Stay k h = (h .0, (h .1 .0, (rw (h .1 .1) (wired-sound b s), λ c x. x (h .1 .1))))
+  other-does l room T.Deadline k h = (h .0, (h .1, (wired-sound b s, λ c x. x)))
+  other-does l room (T.Source number level) k h =
       let z = rw (h .1) at (clear b l room (h .0) .own) in
       (h .0, (h .1, (level-still _ refl (level-other (b .controller) 3 (number .0) (eqb level 1) (source-apart (number .0) level z)), λ c x. x)))
-  other-does l room (ControllerReadStep address) k h = (h .0, (h .1, (wired-sound b s, λ c x. x)))
-  other-does l room (ControllerWriteStep byte address) k h =
+  other-does l room (T.ControllerRead address) k h = (h .0, (h .1, (wired-sound b s, λ c x. x)))
+  other-does l room (T.ControllerWrite byte address) k h =
       (h .0, (h .1, (level-still _ refl (ap (bit 3) (written-levels (b .controller) address byte)), λ c x. x)))
-  other-does l room OutputStep k h = (h .0, (h .1, (wired-sound b s, λ c x. x)))
+  other-does l room T.Output k h = (h .0, (h .1, (wired-sound b s, λ c x. x)))
 
   -- the bytes of the answer are as many as the record has
   pub other-size : (call : Call) (value ms : List ℕ) → value ≡ answerBytes (tagOf call) ms →

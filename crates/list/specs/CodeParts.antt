@@ -22,12 +22,7 @@ use Rattle.format.specs.Format.{answerLength, answerBytes, valueBytes}
 use Rattle.format.specs.Codec.{callAt, refusalAt, tagOf}
 use Rattle.format.specs.CodeAnswers.{headerBytes, wides}
 use Rattle.list.specs.declared.parts.Step.{Step}
-use Rattle.list.specs.declared.parts.Step.the-variants.{Refused, Read as ReadStep, Write as WriteStep, Pass}
-use Rattle.list.specs.declared.parts.Step.the-variants.{HostTime as HostTimeStep, Stay}
-use Rattle.list.specs.declared.parts.Step.the-variants.{Deadline as DeadlineStep, Source as SourceStep}
-use Rattle.list.specs.declared.parts.Step.the-variants.{ControllerRead as ControllerReadStep}
-use Rattle.list.specs.declared.parts.Step.the-variants.{ControllerWrite as ControllerWriteStep}
-use Rattle.list.specs.declared.parts.Step.the-variants.{Output as OutputStep}
+use Rattle.list.specs.declared.parts.Step.the-variants as T
 use Rattle.list.specs.declared.parts.Changes.{Changes}
 
 -- ---- the step that the run makes of the call at the front
@@ -50,17 +45,17 @@ pub record Passes (call : Call) (b : Board) (counted : Bool) (c : ℕ) : Type 0 
 
 -- the step of a call whose refusal is n
 abbrev pub Makes : ℕ → Call → Board → Step → Type 0
-Makes n call b (Refused refusal) = (refusal ≡ n) × (eqb refusal 0 ≡ false)
-Makes n call b (ReadStep offset) = (n ≡ 0) × Reads call offset
-Makes n call b (WriteStep byte offset) = (n ≡ 0) × Writes call byte offset
-Makes n call b (Pass counted c) = (n ≡ 0) × Passes call b counted c
-Makes n call b (HostTimeStep nanoseconds seconds) = (n ≡ 0) × (call ≡ HostTime nanoseconds seconds)
-Makes n call b Stay = (n ≡ 0) × ((call ≡ Skip) × (skipLength b ≡ none))
-Makes n call b DeadlineStep = (n ≡ 0) × (call ≡ Deadline)
-Makes n call b (SourceStep number level) = (n ≡ 0) × (call ≡ Source number level)
-Makes n call b (ControllerReadStep address) = (n ≡ 0) × (call ≡ ControllerRead address)
-Makes n call b (ControllerWriteStep byte address) = (n ≡ 0) × (call ≡ ControllerWrite byte address)
-Makes n call b OutputStep = (n ≡ 0) × (call ≡ Output)
+Makes n call b (T.Refused refusal) = (refusal ≡ n) × (eqb refusal 0 ≡ false)
+Makes n call b (T.Read offset) = (n ≡ 0) × Reads call offset
+Makes n call b (T.Write byte offset) = (n ≡ 0) × Writes call byte offset
+Makes n call b (T.Pass counted c) = (n ≡ 0) × Passes call b counted c
+Makes n call b (T.HostTime nanoseconds seconds) = (n ≡ 0) × (call ≡ HostTime nanoseconds seconds)
+Makes n call b T.Stay = (n ≡ 0) × ((call ≡ Skip) × (skipLength b ≡ none))
+Makes n call b T.Deadline = (n ≡ 0) × (call ≡ Deadline)
+Makes n call b (T.Source number level) = (n ≡ 0) × (call ≡ Source number level)
+Makes n call b (T.ControllerRead address) = (n ≡ 0) × (call ≡ ControllerRead address)
+Makes n call b (T.ControllerWrite byte address) = (n ≡ 0) × (call ≡ ControllerWrite byte address)
+Makes n call b T.Output = (n ≡ 0) × (call ≡ Output)
 
 -- the step of a skip
 abbrev pub SkipIs : Board → Step → Type 0
@@ -74,17 +69,17 @@ StepIs b l room step = Makes (refusalAt b l room) (callAt l) b step
 
 -- the call of such a step; of another it is a skip here
 abbrev pub otherCall : Step → Call
-otherCall (Refused refusal) = Skip
-otherCall (ReadStep offset) = Skip
-otherCall (WriteStep byte offset) = Skip
-otherCall (Pass counted c) = Skip
-otherCall (HostTimeStep nanoseconds seconds) = HostTime nanoseconds seconds
-otherCall Stay = Skip
-otherCall DeadlineStep = Deadline
-otherCall (SourceStep number level) = Source number level
-otherCall (ControllerReadStep address) = ControllerRead address
-otherCall (ControllerWriteStep byte address) = ControllerWrite byte address
-otherCall OutputStep = Output
+otherCall (T.Refused refusal) = Skip
+otherCall (T.Read offset) = Skip
+otherCall (T.Write byte offset) = Skip
+otherCall (T.Pass counted c) = Skip
+otherCall (T.HostTime nanoseconds seconds) = HostTime nanoseconds seconds
+otherCall T.Stay = Skip
+otherCall T.Deadline = Deadline
+otherCall (T.Source number level) = Source number level
+otherCall (T.ControllerRead address) = ControllerRead address
+otherCall (T.ControllerWrite byte address) = ControllerWrite byte address
+otherCall T.Output = Output
 
 -- a board with another host time and another controller
 abbrev pub withChanges : HostTimeOf → IrqController → Board → Board
@@ -98,17 +93,17 @@ ChangesAre call b c =
 
 -- what such a step changes
 abbrev pub Changed : Step → Board → Changes → Type 0
-Changed (Refused refusal) b c = Unit {0}
-Changed (ReadStep offset) b c = Unit {0}
-Changed (WriteStep byte offset) b c = Unit {0}
-Changed (Pass counted n) b c = Unit {0}
-Changed (HostTimeStep nanoseconds seconds) b c = ChangesAre (HostTime nanoseconds seconds) b c
-Changed Stay b c = skipLength b ≡ none → ChangesAre Skip b c
-Changed DeadlineStep b c = ChangesAre Deadline b c
-Changed (SourceStep number level) b c = ChangesAre (Source number level) b c
-Changed (ControllerReadStep address) b c = ChangesAre (ControllerRead address) b c
-Changed (ControllerWriteStep byte address) b c = ChangesAre (ControllerWrite byte address) b c
-Changed OutputStep b c = ChangesAre Output b c
+Changed (T.Refused refusal) b c = skipLength b ≡ none → ChangesAre Skip b c
+Changed (T.Read offset) b c = skipLength b ≡ none → ChangesAre Skip b c
+Changed (T.Write byte offset) b c = skipLength b ≡ none → ChangesAre Skip b c
+Changed (T.Pass counted n) b c = skipLength b ≡ none → ChangesAre Skip b c
+Changed (T.HostTime nanoseconds seconds) b c = ChangesAre (HostTime nanoseconds seconds) b c
+Changed T.Stay b c = skipLength b ≡ none → ChangesAre Skip b c
+Changed T.Deadline b c = ChangesAre Deadline b c
+Changed (T.Source number level) b c = ChangesAre (Source number level) b c
+Changed (T.ControllerRead address) b c = ChangesAre (ControllerRead address) b c
+Changed (T.ControllerWrite byte address) b c = ChangesAre (ControllerWrite byte address) b c
+Changed T.Output b c = ChangesAre Output b c
 
 -- ---- the record of an advance or a skip, by whether it has counts
 
