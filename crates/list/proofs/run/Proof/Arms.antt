@@ -10,7 +10,10 @@ use Rattle.board.specs.declared.Board.{Board}
 use Rattle.board.specs.Board.{sound}
 use Rattle.board.specs.Calls.{boardAfter}
 use Rattle.board.specs.Fields.{withTimers, withTimerEnable, withClock, withChannel}
+use Rattle.clock.specs.Clock.{rateOf}
+use Rattle.clock.specs.Sound.{Timed}
 use Rattle.board.proofs.Good.{good-sound}
+use Rattle.registers.proofs.Timing.{sound-times}
 use Rattle.registers.specs.declared.writes.WritePart.{WritePart}
 use Rattle.registers.specs.declared.writes.WritePart.the-variants.{Nothing, Enable, Acknowledge, Clock as OfClock}
 use Rattle.registers.specs.declared.writes.WritePart.the-variants.{Channel}
@@ -73,6 +76,9 @@ rest-is u = part-rest (listOf u) (usedOf u)
 
 pub board-sound : (u : At) → sound (boardOf u) ≡ true
 board-sound u = good-sound (u .before .before .before .loop .inv .good)
+
+pub timed : (u : At) → Timed (rateOf (boardOf u .clock)) (boardOf u .clock)
+timed u = sound-times _ (u .before .before .before .loop .inv .good .fits .clock) (board-sound u)
 
 -- the step, as an arm has it
 pub accepts : (u : At) (s : Step) → u .step-of .result ≡ s → StepIs (boardOf u) (restOf u) (roomOf u) s
