@@ -22,19 +22,8 @@ use Rattle.board.specs.Calls.{movedBoard}
 use Rattle.board.specs.Channels.{allSound, advancedAll, matchesAll}
 use Rattle.channel.proofs.Law.{advanced-still}
 use Rattle.channel.proofs.Counting.{still-matches}
-use Rattle.board.proofs.Loops.{
-  mapTo,
-  next-is,
-  map-goes,
-  map-ends,
-  map-length,
-  givenTo,
-  given-length,
-  given-next,
-  given-starts,
-  given-goes,
-  given-ends,
-}
+use Rattle.board.proofs.Loops.{mapTo, next-is, map-goes, map-ends, givenTo, given-length, given-next, given-starts}
+use Rattle.board.proofs.Loops.{given-goes, given-ends}
 use Rattle.board.proofs.Phases.{phase-next}
 use Rattle.format.specs.CodeAnswers.{wides}
 use Rattle.list.specs.CodeParts.{countsAt, begunPut, countPut}
@@ -114,7 +103,7 @@ countsTo enable c i b = givenTo (λ k h. matchesOf (bit k enable) c h) 0 i 0 (b 
 abbrev pub Counted : (enable c i : ℕ) → Bool → ℕ → Board → List ℕ → List ℕ → Type 0
 Counted enable c i v at b₀ buf₀ buf = buf ≡ countsPut v at (countsTo enable c i b₀) buf₀
 
-abbrev noCounts : List ℕ
+abbrev pub noCounts : List ℕ
 noCounts = 0 ∷ 0 ∷ 0 ∷ 0 ∷ []
 
 -- buf₀ is the buffer that the pass begins with

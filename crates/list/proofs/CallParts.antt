@@ -4,6 +4,7 @@ use Prim.Native.Nat.{ℕ, _+_, _<_}
 use native.Mathlib.Omega.{arith}
 use mathlib.Core.Path.{_≡_, refl, sym, ap, _∙_}
 use mathlib.Core.Bool.{Bool, true, false, false≢true}
+use mathlib.Core.Option.{none}
 use mathlib.Core.List.{List, [], _∷_, _++_}
 use lib.ListN.{length-append}
 use lib.Dec.{eqb}
@@ -13,35 +14,19 @@ use denote.Enum.Declared.{tagOf as variantOf}
 use borrow.Author.Tests.{ne-eqb}
 use Rattle.wide.specs.Bits.{bit, flagOf}
 use Rattle.wide.specs.Fields.{be}
-use Rattle.wide.proofs.Forms.{wide-value}
 use Rattle.wide.proofs.BigEndian.{length-be}
-use Rattle.controller.specs.declared.IrqController.{IrqController}
-use Rattle.controller.specs.declared.IrqOutput.{IrqOutput}
-use Rattle.controller.specs.declared.SourceNumber.{SourceNumber}
-use Rattle.controller.specs.Controller.{sourceSet, controllerRead, controllerWritten, outputOf}
 use Rattle.board.specs.declared.Board.{Board}
 use Rattle.board.specs.declared.calls.Call.{Call}
-use Rattle.board.specs.declared.calls.Call.the-variants.{
-  HostTime,
-  Read,
-  Write,
-  Advance,
-  Deadline,
-  Skip,
-  Source,
-  ControllerRead,
-  ControllerWrite,
-  Output,
-}
+use Rattle.board.specs.declared.calls.Call.the-variants.{HostTime, Read, Write, Advance, Deadline, Skip, Source}
+use Rattle.board.specs.declared.calls.Call.the-variants.{ControllerRead, ControllerWrite, Output}
 use Rattle.board.specs.declared.calls.SkipAdvance.{SkipAdvance}
-use Rattle.board.specs.declared.calls.DeadlineMembers.{DeadlineMembers}
-use Rattle.board.specs.Board.{line, exactDeadline, sound}
+use Rattle.board.specs.Board.{line, sound}
 use Rattle.board.specs.Calls.{effectOf, skipLength}
-use Rattle.board.specs.CodeCalls.{deadlineGiven, skipAdvanceOf}
+use Rattle.board.specs.CodeCalls.{skipAdvanceOf}
 use Rattle.board.proofs.Answers.{skip-advance-refusal, skip-advance-some, skip-advance-none}
 use Rattle.board.proofs.Soundness.{sound-facts}
 use Rattle.board.proofs.calls.Call as C
-use Rattle.format.specs.declared.Answer.the-variants.{Empty, Byte, Deadline as DeadlineBytes, Skip as SkipBytes, Pair}
+use Rattle.format.specs.declared.Answer.the-variants.{Skip as SkipBytes}
 use Rattle.format.specs.declared.Decoded.{Decoded}
 use Rattle.format.specs.declared.Lengths.{Lengths}
 use Rattle.format.specs.Format.{lengthsOf, headerLength, membersBytes, answerBytes, valueBytes, recordOf}
@@ -51,20 +36,9 @@ use Rattle.format.specs.CodeDecode.{valueRefusal, decodedOf, boardRefusal, firs
 use Rattle.format.proofs.Frames.{value-below, answer-below, sets-then}
 use Rattle.format.proofs.Decoding.{value-of, answer-of, decoded-accepted, first-refusal, accepted-refusal}
 use Rattle.list.specs.declared.parts.Step.{Step}
-use Rattle.list.specs.declared.parts.Step.the-variants.{
-  Refused,
-  Read as ReadStep,
-  Write as WriteStep,
-  Pass,
-  HostTime as HostTimeStep,
-  Stay,
-  Deadline as DeadlineStep,
-  Source as SourceStep,
-  ControllerRead as ControllerReadStep,
-  ControllerWrite as ControllerWriteStep,
-  Output as OutputStep,
-}
-use Rattle.list.specs.CodeParts.{Makes, SkipIs, Accepts, StepIs, otherCall, Changed, passedPut, otherPut}
+use Rattle.list.specs.declared.parts.Step.the-variants as T
+use Rattle.list.specs.declared.parts.Changes.{Changes}
+use Rattle.list.specs.CodeParts.{Makes, SkipIs, StepIs, otherCall, ChangesAre, Changed, passedPut, otherPut}
 use Rattle.list.proofs.parts.Step as S
 
 -- ---- arms of several cases, by the positions of the variants
@@ -110,15 +84,18 @@ module _ (b : Board) (p : SkipAdvance) (e : p ≡ skipAdvanceOf (skipLength b)) 
     pub first-room : p .refusal ≡ 0 → n ≡ firstOf (boardRefusal call b) n
     first-room z = rw (k, ← own-skip, z)
 
-  pub skip-refuses : (p .refusal ≡ 0 → ⊥) → SkipIs b (Refused (p .refusal))
+  pub skip-refuses : (p .refusal ≡ 0 → ⊥) → SkipIs b (T.Refused (p .refusal))
   skip-refuses f = (own-skip, ne-eqb (p .refusal) 0 f)
 
   module _ (z : p .refusal ≡ 0) where
-    pub skip-passes : p .made ≡ true → SkipIs b (Pass false (p .cycles .0))
-    skip-passes m = (sym own-skip ∙ z, (refl, skip-advance-some p (skipLength b) e m))
+    pub skip-passes : p .made ≡ true → SkipIs b (T.Pass false (p .cycles .0))
+    skip-passes m = (
+      sym own-skip ∙ z,
+      record { advance = λ q. absurd (false≢true q); skip = λ _. (refl, skip-advance-some p (skipLength b) e m) },
+    )
 
-    pub skip-stays : p .made ≡ false → SkipIs b Stay
-    skip-stays m = (sym own-skip ∙ z, skip-advance-none p (skipLength b) e z m .0)
+    pub skip-stays : p .made ≡ false → SkipIs b T.Stay
+    skip-stays m = (sym own-skip ∙ z, (refl, skip-advance-none p (skipLength b) e z m .0))
 
 -- ---- the step: d is what is found of the call at the front
 
@@ -137,114 +114,37 @@ module _ (b : Board) (l : List ℕ) (room : ℕ) (d : Decoded) (e : d ≡ decode
     there : callAt l ≡ call
     there = sym (decoded-accepted l room found .0) ∙ ap (λ (x : Decoded). x .call) (sym e) ∙ k
 
+    own : refusalAt b l room ≡ effectOf call b .refusal
+    own = accepted-refusal b l room found ∙ ap (λ (x : Call). effectOf x b .refusal) there
+
     -- of a call whose members decide its own refusal
-    pub step-accepted : effectOf call b .refusal ≡ valueRefusal call → (step : Step) → Makes call b step →
-        Accepts b l room step
+    pub step-accepted : effectOf call b .refusal ≡ valueRefusal call → (step : Step) → Makes 0 call b step →
+        StepIs b l room step
     step-accepted v step m =
-        record {
-          accepted =
-              accepted-refusal b l room found
-              ∙ ap (λ (x : Call). effectOf x b .refusal) there
-              ∙ v
-              ∙ ap valueRefusal (sym there)
-              ∙ decoded-accepted l room found .1 .1 .0;
-          makes = rw there m;
-        }
+        rw (own ∙ v ∙ ap valueRefusal (sym there) ∙ decoded-accepted l room found .1 .1 .0, there) m
 
-  module _ (z : d .refusal ≡ 0) (k : d .call ≡ Skip) where
-    own : refusalAt b l room ≡ effectOf Skip b .refusal
-    own = accepted-refusal b l room (rw e at z) ∙ ap (λ (x : Call). effectOf x b .refusal) (there z Skip k)
-
-    pub step-skips : (step : Step) → SkipIs b step → StepIs b l room step
-    step-skips (Refused refusal) s = (s .0 ∙ sym own, s .1)
-    step-skips (ReadStep offset) s = absurd s
-    step-skips (WriteStep byte offset) s = absurd s
-    step-skips (Pass counted c) s =
-        record {
-          accepted = own ∙ s .0;
-          makes = record {
-            advance = λ e. absurd (false≢true (sym (s .1 .0) ∙ e));
-            skip = λ _. (there z Skip k, s .1 .1);
-          };
-        }
-    step-skips (HostTimeStep nanoseconds seconds) s = absurd s
-    step-skips Stay s = record { accepted = own ∙ s .0; makes = (there z Skip k, s .1) }
-    step-skips DeadlineStep s = absurd s
-    step-skips (SourceStep number level) s = absurd s
-    step-skips (ControllerReadStep address) s = absurd s
-    step-skips (ControllerWriteStep byte address) s = absurd s
-    step-skips OutputStep s = absurd s
+  pub step-skips : d .refusal ≡ 0 → d .call ≡ Skip → (step : Step) → SkipIs b step → StepIs b l room step
+  step-skips z k step m = rw (own z Skip k, there z Skip k) m
 
 -- ---- the calls that change host time or the controller at most
 
--- a property of the rest, step by step
-rest-cases : (P : Step → Type 0) → ((refusal : ℕ) → P (Refused refusal)) → ((offset : ℕ) → P (ReadStep offset)) →
-    ((byte offset : ℕ) → P (WriteStep byte offset)) → ((counted : Bool) (c : ℕ) → P (Pass counted c)) → P Stay →
-    (step : Step) → Rest step → P step
-rest-cases P p0 p1 p2 p3 p5 (Refused refusal) o = p0 refusal
-rest-cases P p0 p1 p2 p3 p5 (ReadStep offset) o = p1 offset
-rest-cases P p0 p1 p2 p3 p5 (WriteStep byte offset) o = p2 byte offset
-rest-cases P p0 p1 p2 p3 p5 (Pass counted c) o = p3 counted c
-rest-cases P p0 p1 p2 p3 p5 (HostTimeStep nanoseconds seconds) o = absurd (miss rest 4 tt o)
-rest-cases P p0 p1 p2 p3 p5 Stay o = p5
-rest-cases P p0 p1 p2 p3 p5 DeadlineStep o = absurd (miss rest 6 tt o)
-rest-cases P p0 p1 p2 p3 p5 (SourceStep number level) o = absurd (miss rest 7 tt o)
-rest-cases P p0 p1 p2 p3 p5 (ControllerReadStep address) o = absurd (miss rest 8 tt o)
-rest-cases P p0 p1 p2 p3 p5 (ControllerWriteStep byte address) o = absurd (miss rest 9 tt o)
-rest-cases P p0 p1 p2 p3 p5 OutputStep o = absurd (miss rest 10 tt o)
+-- the rest: the tag of a skip, and the changes of one that stays
+rest-is : (step : Step) → Rest step → (_≡_ {A = ℕ} 6 (tagOf (otherCall step)))
+    × ((b : Board) (c : Changes) → (skipLength b ≡ none → ChangesAre Skip b c) → Changed step b c)
+rest-is (T.Refused refusal) o = (refl, λ b c h. h)
+rest-is (T.Read offset) o = (refl, λ b c h. h)
+rest-is (T.Write byte offset) o = (refl, λ b c h. h)
+rest-is (T.Pass counted n) o = (refl, λ b c h. h)
+rest-is (T.HostTime nanoseconds seconds) o = absurd (miss rest 4 tt o)
+rest-is T.Stay o = (refl, λ b c h. h)
+rest-is T.Deadline o = absurd (miss rest 6 tt o)
+rest-is (T.Source number level) o = absurd (miss rest 7 tt o)
+rest-is (T.ControllerRead address) o = absurd (miss rest 8 tt o)
+rest-is (T.ControllerWrite byte address) o = absurd (miss rest 9 tt o)
+rest-is T.Output o = absurd (miss rest 10 tt o)
 
 pub rest-tag : (step : Step) → Rest step → _≡_ {A = ℕ} 6 (tagOf (otherCall step))
-rest-tag =
-    rest-cases (λ step. _≡_ {A = ℕ} 6 (tagOf (otherCall step))) (λ _. refl) (λ _. refl) (λ _ _. refl) (λ _ _. refl)
-    refl
-
--- what each changes
-module _ (b : Board) (step : Step) where
-  pub host-changes : (nanoseconds seconds : ℕ) → step ≡ HostTimeStep nanoseconds seconds →
-      Changed step b
-      (record {
-        host = record { seconds = seconds; nanoseconds = nanoseconds };
-        controller = b .controller;
-        answer = Empty;
-      })
-  unfolding membersBytes valueBytes
-  host-changes nanoseconds seconds k = rw k (refl, refl)
-
-  pub source-changes : (number : SourceNumber) (level : ℕ) → step ≡ SourceStep number level → (q : IrqController) →
-      q ≡ sourceSet (b .controller) (number .0) (eqb level 1) →
-      Changed step b (record { host = b .clock .host; controller = q; answer = Empty })
-  unfolding membersBytes valueBytes
-  source-changes number level k q e = rw (k, e) (refl, refl)
-
-  pub read-changes : (address : ℕ) → step ≡ ControllerReadStep address → (v : ℕ) →
-      v ≡ controllerRead (b .controller) address →
-      Changed step b (record { host = b .clock .host; controller = b .controller; answer = Byte v })
-  unfolding valueBytes
-  read-changes address k v e = rw (k, e) (refl, refl)
-
-  pub write-changes : (byte address : ℕ) → step ≡ ControllerWriteStep byte address → (q : IrqController) →
-      q ≡ controllerWritten (b .controller) address byte →
-      Changed step b (record { host = b .clock .host; controller = q; answer = Empty })
-  unfolding membersBytes valueBytes
-  write-changes byte address k q e = rw (k, e) (refl, refl)
-
-  pub output-changes : step ≡ OutputStep → (o : IrqOutput) → o ≡ outputOf (b .controller) → (v : ℕ) →
-      v ≡ flagOf (o .valid) →
-      Changed step b
-      (record { host = b .clock .host; controller = b .controller; answer = Pair v (o .number .0) })
-  unfolding valueBytes
-  output-changes k o e v f = rw (k, f, e) (refl, refl)
-
-  pub deadline-changes : step ≡ DeadlineStep → (m : DeadlineMembers) → m ≡ deadlineGiven (exactDeadline b) → (v : ℕ) →
-      v ≡ flagOf (m .present) →
-      Changed step b
-      (record {
-        host = b .clock .host;
-        controller = b .controller;
-        answer = DeadlineBytes v (m .exact) (m .word .0);
-      })
-  unfolding valueBytes
-  deadline-changes k m e v f = rw (k, f, e, wide-value) (refl, refl)
+rest-tag step o = rest-is step o .0
 
 -- a skip that stays: the level of source 3 is the line
 pub rest-changes : (b : Board) → sound b ≡ true → (step : Step) → Rest step → (level : Bool) →
@@ -253,9 +153,7 @@ pub rest-changes : (b : Board) → sound b ≡ true → (step : Step) → Rest s
 unfolding valueBytes
 rest-changes b s step o level e v f =
     let q : v ≡ flagOf (line b) = f ∙ ap flagOf (e ∙ sound-facts b s .level) in
-    rest-cases
-    (λ step. Changed step b (record { host = b .clock .host; controller = b .controller; answer = SkipBytes 0 v }))
-    (λ _. tt) (λ _. tt) (λ _ _. tt) (λ _ _. tt) (λ n. rw (n, q) (refl, refl)) step o
+    rest-is step o .1 b _ (λ n. rw (n, q) (refl, refl))
 
 -- ---- stores: m is the buffer with the header, r the buffer with the value behind it
 

@@ -3,56 +3,32 @@
 use Prim.Native.Nat.{ℕ, _+_, _≤_}
 use native.Mathlib.Omega.{arith}
 use mathlib.Core.Path.{_≡_, refl, sym, ap, _∙_, subst}
-use mathlib.Core.Bool.{Bool, true, false, true≢false, false≢true, cond}
-use mathlib.Core.Option.{Option, none, some}
+use mathlib.Core.Bool.{Bool, true, false, true≢false, false≢true}
+use mathlib.Core.Option.{Option}
 use mathlib.Core.List.{List, [], _∷_, append-nil}
-use mathlib.Core.Logic.{inl, inr}
 use lib.ListN.{length}
 use lib.Seq.{sets}
-use lib.Dec.{eqb, ltb}
-use types.Run.{OneOf}
+use lib.Dec.{eqb}
+use types.Run.{OneOf, miss}
 use denote.Enum.Declared as Declared
 use Rattle.wide.specs.Bits.{bit, flagOf}
-use Rattle.wide.proofs.Choices.{choose, either}
+use Rattle.wide.proofs.Choices.{choose}
 use Rattle.channel.specs.Registers.{byteWritten}
 use Rattle.channel.specs.Matches.{matchesOf}
-use Rattle.clock.specs.declared.HostTime.{HostTime as HostTimeOf}
-use Rattle.clock.specs.Fields.{withHost}
 use Rattle.controller.specs.declared.IrqController.{IrqController}
 use Rattle.controller.specs.Controller.{sourceSet, controllerWritten, pendingCleared}
 use Rattle.controller.proofs.Laws.{steady, level-other}
 use Rattle.board.specs.declared.Board.{Board}
 use Rattle.board.specs.declared.Latches.{Latches}
 use Rattle.board.specs.declared.calls.Call.{Call}
-use Rattle.board.specs.declared.calls.Call.the-variants.{
-  HostTime,
-  Read,
-  Write,
-  Advance,
-  Deadline,
-  Skip,
-  Source,
-  ControllerRead,
-  ControllerWrite,
-  Output,
-}
-use Rattle.board.specs.Registers.{base, registerOf, byteOf, placeOf}
-use Rattle.board.specs.Fields.{withClock, withController, channelAt, withChannel}
+use Rattle.board.specs.declared.calls.Call.the-variants.{Read, Write}
+use Rattle.board.specs.Registers.{registerOf, byteOf, placeOf}
+use Rattle.board.specs.Fields.{withController, channelAt, withChannel}
 use Rattle.board.specs.Board.{line, wired, sound}
 use Rattle.board.specs.Channels.{matchesAll}
-use Rattle.board.specs.Calls.{
-  effectOf,
-  boardAfter,
-  orZero,
-  advanceBy,
-  movedBoard,
-  skipLength,
-  movedBy,
-  sourceRefusal,
-  sourceOfLine,
-}
+use Rattle.board.specs.Calls.{effectOf, boardAfter, orZero, movedBoard, movedBy, sourceRefusal}
 use Rattle.board.proofs.Loops.{map-length}
-use Rattle.board.proofs.Soundness.{sound-facts, wired-sound, wired-line, wired-level}
+use Rattle.board.proofs.Soundness.{sound-facts, wired-sound}
 use Rattle.registers.specs.declared.reads.LatchedReading.{LatchedReading}
 use Rattle.registers.specs.declared.reads.PlainReading.{PlainReading}
 use Rattle.registers.specs.declared.writes.WritePart.{WritePart}
@@ -65,56 +41,24 @@ use Rattle.registers.proofs.Latches.{plain-latches}
 use Rattle.registers.proofs.Line.{write-still, read-still, still-wired}
 use Rattle.format.specs.Format.{membersBytes, answerBytes, valueBytes, recordOf}
 use Rattle.format.specs.CodeAnswers.{headerBytes}
-use Rattle.format.specs.Codec.{tagOf, callLength, answerRecord, recordLength}
+use Rattle.format.specs.Codec.{tagOf, callLength, answerRecord, recordLength, callAt, refusalAt}
 use Rattle.format.proofs.Frames.{answer-length}
+use Rattle.format.proofs.Decoding.{clear}
 use Rattle.list.specs.declared.parts.Step.{Step}
-use Rattle.list.specs.declared.parts.Step.the-variants.{
-  Refused,
-  Read as ReadStep,
-  Write as WriteStep,
-  Pass,
-  HostTime as HostTimeStep,
-  Stay,
-  Deadline as DeadlineStep,
-  Source as SourceStep,
-  ControllerRead as ControllerReadStep,
-  ControllerWrite as ControllerWriteStep,
-  Output as OutputStep,
-}
+use Rattle.list.specs.declared.parts.Step.the-variants as T
 use Rattle.list.specs.declared.parts.Changes.{Changes}
-use Rattle.list.specs.CodeParts.{
-  Reads,
-  Writes,
-  Passes,
-  Makes,
-  Accepts,
-  StepIs,
-  otherCall,
-  withChanges,
-  ChangesAre,
-  Changed,
-  passCall,
-  begunPut,
-  passedPut,
-  otherPut,
-}
+use Rattle.list.specs.CodeParts.{Reads, Writes, Passes, StepIs, otherCall, withChanges, ChangesAre, Changed}
+use Rattle.list.specs.CodeParts.{passCall, begunPut, passedPut, otherPut}
 use Rattle.list.proofs.parts.Step.{the-type}
-use Rattle.list.proofs.Advances.{begun-length}
+use Rattle.list.proofs.Advances.{begun-length, noCounts}
 use Rattle.list.proofs.Records.{countsPut, counts-over, other-record, advance-record, skip-record}
 
--- the number of a step's case, as the enum counts them
-abbrev pub kindOf : Step → ℕ
-kindOf (Refused refusal) = 0
-kindOf (ReadStep offset) = 1
-kindOf (WriteStep byte offset) = 2
-kindOf (Pass counted c) = 3
-kindOf (HostTimeStep nanoseconds seconds) = 4
-kindOf Stay = 5
-kindOf DeadlineStep = 6
-kindOf (SourceStep number level) = 7
-kindOf (ControllerReadStep address) = 8
-kindOf (ControllerWriteStep byte address) = 9
-kindOf OutputStep = 10
+-- the steps without an arm of their own
+abbrev others : List ℕ
+others = 4 ∷ 5 ∷ 6 ∷ 7 ∷ 8 ∷ 9 ∷ 10 ∷ []
+
+abbrev pub Other : Step → Type 0
+Other step = OneOf others (Declared.tagOf the-type step)
 
 -- what a way of the code leaves of a call: the board y, on which source 3 is to be set where `moved` says so, and the
 -- buffer buf′, with the call's record from index at on
@@ -205,9 +149,6 @@ module _ (b : Board) (s : sound b ≡ true) (at : ℕ) (buf : List ℕ) where
 
   -- ---- advance, and a skip that makes one
 
-  abbrev noCounts : List ℕ
-  noCounts = 0 ∷ 0 ∷ 0 ∷ 0 ∷ []
-
   -- z is the board with the cycles passed, v its line, and buf₁ and buf₂ the buffer ahead of them and with the counts
   module _ (c : ℕ) (z : Board) (m : z ≡ movedBoard c b) (v : Bool) (e : v ≡ line z) (q : IrqController)
       (f : q ≡ sourceSet (z .controller) 3 v) (y : Board) (g : y ≡ withController q z) where
@@ -275,122 +216,48 @@ module _ (b : Board) (s : sound b ≡ true) (at : ℕ) (buf : List ℕ) where
       P : IrqController → Type 0
       P d = d .levels ≡ q .levels
 
-  pub host-time-still : (h : HostTimeOf) →
-      wired (withClock (withHost h (b .clock)) b) ≡ withClock (withHost h (b .clock)) b
+  -- such a step: its call is accepted, leaves source 3 where it is, and has the step's changes
+  abbrev pub OtherDoes : List ℕ → ℕ → Step → Type 0
+  OtherDoes l room step =
+      (refusalAt b l room ≡ 0)
+      × ((callAt l ≡ otherCall step)
+      × ((wired (effectOf (otherCall step) b .board) ≡ effectOf (otherCall step) b .board)
+      × ((c : Changes) → Changed step b c → ChangesAre (otherCall step) b c)))
+
+  pub other-does : (l : List ℕ) (room : ℕ) (step : Step) → Other step → StepIs b l room step → OtherDoes l room step
   unfolding line
-  host-time-still h = level-still (withClock (withHost h (b .clock)) b) refl refl
-
-  pub source-still : (number level : ℕ) → sourceRefusal number level ≡ 0 →
-      wired (withController (sourceSet (b .controller) number (eqb level 1)) b)
-      ≡ withController (sourceSet (b .controller) number (eqb level 1)) b
-  unfolding line
-  source-still number level z =
-      level-still (withController (sourceSet (b .controller) number (eqb level 1)) b) refl
-      (level-other (b .controller) 3 number (eqb level 1) (source-apart number level z))
-
-  pub controller-write-still : (byte address : ℕ) →
-      wired (withController (controllerWritten (b .controller) address byte) b)
-      ≡ withController (controllerWritten (b .controller) address byte) b
-  unfolding line
-  controller-write-still byte address =
-      level-still (withController (controllerWritten (b .controller) address byte) b) refl
-      (ap (bit 3) (written-levels (b .controller) address byte))
-
-  -- a call that has another's board, with source 3 where it is
-  still-so : (call other : Call) → call ≡ other → wired (effectOf other b .board) ≡ effectOf other b .board →
-      wired (effectOf call b .board) ≡ effectOf call b .board
-  still-so call other e h = rw e h
-
-  other-still : (call : Call) → effectOf call b .refusal ≡ 0 → (step : Step) → 4 ≤ kindOf step → Makes call b step →
-      wired (effectOf call b .board) ≡ effectOf call b .board
-  other-still call z (Refused refusal) k m = absurd m
-  other-still call z (ReadStep offset) k m = absurd (omega (arith, k))
-  other-still call z (WriteStep byte offset) k m = absurd (omega (arith, k))
-  other-still call z (Pass counted c) k m = absurd (omega (arith, k))
-  other-still call z (HostTimeStep nanoseconds seconds) k m =
-      still-so call (HostTime nanoseconds seconds) m
-      (host-time-still (record { seconds = seconds; nanoseconds = nanoseconds }))
-  other-still call z Stay k m = rw (m .0, m .1) (wired-sound b s)
-  other-still call z DeadlineStep k m = still-so call Deadline m (wired-sound b s)
-  other-still call z (SourceStep number level) k m =
-      still-so call (Source number level) m (source-still (number .0) level (rw m at z))
-  other-still call z (ControllerReadStep address) k m = still-so call (ControllerRead address) m (wired-sound b s)
-  other-still call z (ControllerWriteStep byte address) k m =
-      still-so call (ControllerWrite byte address) m (controller-write-still byte address)
-  other-still call z OutputStep k m = still-so call Output m (wired-sound b s)
-
-  -- the step's changes are its call's
-  pub other-changes : (call : Call) (step : Step) → 4 ≤ kindOf step → Makes call b step → (c : Changes) →
-      Changed step b c → (call ≡ otherCall step) × ChangesAre (otherCall step) b c
-  other-changes call (Refused refusal) k m c h = absurd m
-  other-changes call (ReadStep offset) k m c h = absurd (omega (arith, k))
-  other-changes call (WriteStep byte offset) k m c h = absurd (omega (arith, k))
-  other-changes call (Pass counted n) k m c h = absurd (omega (arith, k))
-  other-changes call (HostTimeStep nanoseconds seconds) k m c h = (m, h)
-  other-changes call Stay k m c h = (m .0, h (m .1))
-  other-changes call DeadlineStep k m c h = (m, h)
-  other-changes call (SourceStep number level) k m c h = (m, h)
-  other-changes call (ControllerReadStep address) k m c h = (m, h)
-  other-changes call (ControllerWriteStep byte address) k m c h = (m, h)
-  other-changes call OutputStep k m c h = (m, h)
+  other-does l room (T.Refused refusal) k h = absurd (miss others 0 tt k)
+  other-does l room (T.Read offset) k h = absurd (miss others 1 tt k)
+  other-does l room (T.Write byte offset) k h = absurd (miss others 2 tt k)
+  other-does l room (T.Pass counted c) k h = absurd (miss others 3 tt k)
+  other-does l room (T.HostTime nanoseconds seconds) k h =
+      (h .0, (h .1, (level-still _ refl refl, λ c x. x)))
+  other-does l room T.Stay k h = (h .0, (h .1 .0, (rw (h .1 .1) (wired-sound b s), λ c x. x (h .1 .1))))
+  other-does l room T.Deadline k h = (h .0, (h .1, (wired-sound b s, λ c x. x)))
+  other-does l room (T.Source number level) k h =
+      let z = rw (h .1) at (clear b l room (h .0) .own) in
+      (h .0, (h .1, (level-still _ refl (level-other (b .controller) 3 (number .0) (eqb level 1) (source-apart (number .0) level z)), λ c x. x)))
+  other-does l room (T.ControllerRead address) k h = (h .0, (h .1, (wired-sound b s, λ c x. x)))
+  other-does l room (T.ControllerWrite byte address) k h =
+      (h .0, (h .1, (level-still _ refl (ap (bit 3) (written-levels (b .controller) address byte)), λ c x. x)))
+  other-does l room T.Output k h = (h .0, (h .1, (wired-sound b s, λ c x. x)))
 
   -- the bytes of the answer are as many as the record has
   pub other-size : (call : Call) (value ms : List ℕ) → value ≡ answerBytes (tagOf call) ms →
       3 + length value ≡ recordLength call
   other-size call value ms e = ap (λ (n : ℕ). 3 + n) (ap length e ∙ answer-length (tagOf call) ms)
 
-  pub other-carried : (call : Call) → effectOf call b .refusal ≡ 0 → (step : Step) → 4 ≤ kindOf step →
-      Makes call b step → (c : Changes) → Changed step b c → (y : Board) →
-      y ≡ withChanges (c .host) (c .controller) b → (moved : Bool) → moved ≡ false → (buf′ : List ℕ) →
-      buf′ ≡ otherPut (tagOf (otherCall step)) at (valueBytes (c .answer)) buf → Carried call b at buf y moved buf′
-  other-carried call z step k m c h y f moved o buf′ p =
-      let a = other-changes call step k m c h in
-      let e : y ≡ effectOf call b .board = f ∙ a .1 .0 ∙ ap (λ (x : Call). effectOf x b .board) (sym (a .0)) in
-      by-effect call y moved buf′ e (λ _. ap wired e ∙ other-still call z step k m ∙ sym e)
-      (p
-      ∙ other-record (tagOf (otherCall step)) at (valueBytes (c .answer)) (effectOf (otherCall step) b .members) buf
-      (a .1 .1)
-      ∙ ap (λ (x : Call). sets buf at (answerRecord x b)) (sym (a .0)))
-
--- ---- the step that the code goes by
-
--- a step that is not a refusal accepts the call at the front
-pub step-accepts : (b : Board) (l : List ℕ) (room : ℕ) (step s : Step) → step ≡ s → 1 ≤ kindOf s → StepIs b l room step →
-    Accepts b l room s
-step-accepts b l room step (Refused refusal) e k h = absurd (omega (arith, k))
-step-accepts b l room step (ReadStep offset) e k h = subst (StepIs b l room) e h
-step-accepts b l room step (WriteStep byte offset) e k h = subst (StepIs b l room) e h
-step-accepts b l room step (Pass counted c) e k h = subst (StepIs b l room) e h
-step-accepts b l room step (HostTimeStep nanoseconds seconds) e k h = subst (StepIs b l room) e h
-step-accepts b l room step Stay e k h = subst (StepIs b l room) e h
-step-accepts b l room step DeadlineStep e k h = subst (StepIs b l room) e h
-step-accepts b l room step (SourceStep number level) e k h = subst (StepIs b l room) e h
-step-accepts b l room step (ControllerReadStep address) e k h = subst (StepIs b l room) e h
-step-accepts b l room step (ControllerWriteStep byte address) e k h = subst (StepIs b l room) e h
-step-accepts b l room step OutputStep e k h = subst (StepIs b l room) e h
-
--- a step that no arm of its own has
-at-least : (n : ℕ) → OneOf (4 ∷ 5 ∷ 6 ∷ 7 ∷ 8 ∷ 9 ∷ 10 ∷ []) n → 4 ≤ n
-at-least n (inl e) = omega (arith, e)
-at-least n (inr (inl e)) = omega (arith, e)
-at-least n (inr (inr (inl e))) = omega (arith, e)
-at-least n (inr (inr (inr (inl e)))) = omega (arith, e)
-at-least n (inr (inr (inr (inr (inl e))))) = omega (arith, e)
-at-least n (inr (inr (inr (inr (inr (inl e)))))) = omega (arith, e)
-at-least n (inr (inr (inr (inr (inr (inr e)))))) = omega (arith, e)
-
-pub other-kind : (step : Step) → OneOf (4 ∷ 5 ∷ 6 ∷ 7 ∷ 8 ∷ 9 ∷ 10 ∷ []) (Declared.tagOf the-type step) → 4 ≤ kindOf step
-other-kind (Refused refusal) h = at-least 0 h
-other-kind (ReadStep offset) h = at-least 1 h
-other-kind (WriteStep byte offset) h = at-least 2 h
-other-kind (Pass counted c) h = at-least 3 h
-other-kind (HostTimeStep nanoseconds seconds) h = omega arith
-other-kind Stay h = omega arith
-other-kind DeadlineStep h = omega arith
-other-kind (SourceStep number level) h = omega arith
-other-kind (ControllerReadStep address) h = omega arith
-other-kind (ControllerWriteStep byte address) h = omega arith
-other-kind OutputStep h = omega arith
+  pub other-carried : (l : List ℕ) (room : ℕ) (step : Step) → OtherDoes l room step → (c : Changes) →
+      Changed step b c → (y : Board) → y ≡ withChanges (c .host) (c .controller) b → (moved : Bool) →
+      moved ≡ false → (buf′ : List ℕ) →
+      buf′ ≡ otherPut (tagOf (otherCall step)) at (valueBytes (c .answer)) buf → Carried (callAt l) b at buf y moved buf′
+  other-carried l room step d c h y f moved o buf′ p =
+      let a = d .1 .1 .1 c h in
+      let e = f ∙ a .0 in
+      subst (λ (x : Call). Carried x b at buf y moved buf′) (sym (d .1 .0))
+      (by-effect (otherCall step) y moved buf′ e (λ _. ap wired e ∙ d .1 .1 .0 ∙ sym e)
+      (p ∙ other-record (tagOf (otherCall step)) at (valueBytes (c .answer)) (effectOf (otherCall step) b .members) buf
+      (a .1)))
 
 -- ---- lengths
 

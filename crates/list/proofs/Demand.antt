@@ -1,13 +1,12 @@
 -- The calls 01 and 04 that a run carries out one after another are a list of the deadline's promise. Assumes nothing.
 use Prim.Native.Nat.{ℕ, zero, suc, _+_, _-_, _<_}
-use native.Mathlib.Nat.{add-zero, zero-add}
+use native.Mathlib.Nat.{add-zero}
 use native.Mathlib.Omega.{arith}
 use mathlib.Core.Path.{_≡_, refl, sym, ap, _∙_, subst}
 use mathlib.Core.Bool.{Bool, true, false, false≢true}
 use mathlib.Core.List.{List, [], _∷_, _++_, append-assoc}
 use lib.ListN.{length, take, drop, getD, length-append}
 use lib.Seq.{take-all, drop-append-le}
-use lib.Dec.{eqb}
 use borrow.Author.Tests.{eq-eqb}
 use Rattle.wide.specs.Bits.{flagOf}
 use Rattle.wide.specs.Fields.{be}
@@ -17,16 +16,7 @@ use Rattle.board.specs.declared.calls.Call.{Call}
 use Rattle.board.specs.Loops.{All}
 use Rattle.board.specs.Channels.{matchesAll}
 use Rattle.board.specs.Board.{BoardFits, line, exactDeadline, wordDeadline, sound}
-use Rattle.board.specs.Calls.{
-  effectOf,
-  DirectAnswer,
-  refusalOf,
-  boardAfter,
-  isPresent,
-  orZero,
-  movedBoard,
-  advanceBy,
-}
+use Rattle.board.specs.Calls.{effectOf, DirectAnswer, refusalOf, boardAfter, isPresent, orZero, movedBoard, advanceBy}
 use Rattle.board.specs.Demand.{PassesTime, after, afterAll, cyclesPassed, PromiseAfter}
 use Rattle.board.proofs.Soundness.{wired-line}
 use Rattle.board.proofs.Good.{Good, good, good-sound}
@@ -99,17 +89,6 @@ none-carried : (calls : List Call) (s : Outcome) (r : Run) → r .outcome .calls
 unfolding afterAll
 none-carried calls s r n e h = record { count = 0; counted = n ∙ sym (add-zero (s .calls)); board = e; all = h }
 
-none-at-end : (room : ℕ) (s : Outcome) (out : List ℕ) → Carried [] s (runOn 0 [] room s out)
-unfolding runOn
-none-at-end room s out = none-carried [] s (record { outcome = s; answers = out }) refl refl (λ _. refl)
-
-none-refused : (calls : List Call) (s : Outcome) (n : ℕ) (out : List ℕ) → eqb n 0 ≡ false →
-    Carried calls s (record { outcome = stepped s (refused n); answers = out })
-unfolding stepped
-none-refused calls s n out h =
-    none-carried calls s (record { outcome = stepped s (refused n); answers = out }) refl refl
-    (λ z. absurd (false≢true (sym h ∙ eq-eqb n 0 z)))
-
 -- one call more, ahead of those
 one-more : (a : Call) (calls : List Call) (s : Outcome) (b : Board) (n : ℕ) (x : List ℕ) (r : Run) →
     b ≡ after a (s .board) → Carried calls (stepped s (done b n x)) r → Carried (a ∷ calls) s r
@@ -121,15 +100,10 @@ one-more a calls s b n x r e c = record {
   all = λ z. ap suc (c .all z);
 }
 
-done-good : (rate : ℕ) (a : Call) → PassesTime a → (s : Outcome) (b : Board) (n : ℕ) (x : List ℕ) →
-    Good rate (s .board) → b ≡ after a (s .board) → Good rate (stepped s (done b n x) .board)
-unfolding stepped
-done-good rate a w s b n x g e = subst (Good rate) (sym e) (call-step a w (s .board) g .good)
-
 carried : (rate : ℕ) (calls : List Call) → All PassesTime calls → (l : List ℕ) (room : ℕ) (s : Outcome)
     (out : List ℕ) → Good rate (s .board) → ListIs l calls → Carried calls s (runOn 0 l room s out)
-unfolding ListIs
-carried rate [] w l room s out g e = rw e (none-at-end room s out)
+unfolding ListIs runOn stepped
+carried rate [] w l room s out g e = rw e (none-carried [] s _ refl refl (λ _. refl))
 carried rate (a ∷ calls) w l room s out g h =
     onward (λ n o x q i. carried rate calls (w .1) (drop n l) room o x q i) (resultOf (s .board) l (room - length out))
     refl
@@ -143,30 +117,22 @@ carried rate (a ∷ calls) w l room s out g h =
         (t : Result) → resultOf (s .board) l (room - length out) ≡ t → Carried (a ∷ calls) s (runOn 0 l room s out)
     onward next (refused n) e =
         subst (Carried (a ∷ calls) s) (sym (stop-at l room s out inside n e))
-        (none-refused (a ∷ calls) s n out (refused-numbered (s .board) l (room - length out) n e))
+        (none-carried (a ∷ calls) s (record { outcome = stepped s (refused n); answers = out }) refl refl
+        (λ z. absurd (false≢true (sym (refused-numbered (s .board) l (room - length out) n e) ∙ eq-eqb n 0 z))))
     onward next (done b n x) e =
         let q = done-after l (s .board) (room - length out) a (h .0) (good-sound g) b n x e in
         subst (Carried (a ∷ calls) s) (sym (go-on l room s out inside b n x e))
         (one-more a calls s b n x (runOn 0 (drop n l) room (stepped s (done b n x)) (out ++ x)) q
-        (next n (stepped s (done b n x)) (out ++ x) (done-good rate a (w .0) s b n x g q)
+        (next n (stepped s (done b n x)) (out ++ x) (subst (Good rate) (sym q) (call-step a (w .0) (s .board) g .good))
         (subst (λ (k : ℕ). ListIs (drop k l) calls)
         (sym (done-length l (s .board) (room - length out) a (h .0) b n x e)) (h .1))))
 
--- a run's board is the board after the calls that it has carried out
-pub run-after : (b : Board) (l : List ℕ) (room : ℕ) (calls : List Call) → All PassesTime calls → BoardFits b →
-    sound b ≡ true → ListIs l calls → runOf b l room .outcome .board ≡ afterAll (take (runOf b l room .outcome .calls) calls) b
+-- a run over a sound board
+run-carried : (b : Board) (l : List ℕ) (room : ℕ) (calls : List Call) → All PassesTime calls → BoardFits b →
+    sound b ≡ true → ListIs l calls → Carried calls (nothingDone b 0) (runOf b l room)
 unfolding runOf
-run-after b l room calls w f s h =
-    let c = carried (rateOf (b .clock)) calls w l room (nothingDone b 0) [] (good b f s) h in
-    rw s (c .board ∙ ap (λ (n : ℕ). afterAll (take n calls) b) (sym (c .counted ∙ zero-add (c .count))))
-
--- a run that is not refused has carried out all of them
-run-all : (b : Board) (l : List ℕ) (room : ℕ) (calls : List Call) → All PassesTime calls → BoardFits b →
-    sound b ≡ true → ListIs l calls → runOf b l room .outcome .refusal ≡ 0 → runOf b l room .outcome .calls ≡ length calls
-unfolding runOf
-run-all b l room calls w f s h z =
-    let c = carried (rateOf (b .clock)) calls w l room (nothingDone b 0) [] (good b f s) h in
-    rw s (c .counted ∙ zero-add (c .count) ∙ c .all (rw s at z))
+run-carried b l room calls w f s h =
+    rw s (carried (rateOf (b .clock)) calls w l room (nothingDone b 0) [] (good b f s) h)
 
 -- ---- bytes behind the calls
 
@@ -271,22 +237,20 @@ module _ (b : Board) (first stretch last : List ℕ) (room : ℕ) (calls : List 
   -- by parts: the run through the stretch is the run up to it, and then the stretch by itself
   module _ (e : Through ≡ joined Before Alone) (g : Good (rateOf (b .clock)) AtStart) (w : All PassesTime calls)
       (h : ListIs stretch calls) where
-    starts-sound : sound AtStart ≡ true
-    starts-sound = good-sound g
+    alone : Carried calls (nothingDone AtStart 0) Alone
+    alone = run-carried AtStart stretch (room - length (Before .answers)) calls w (g .fits) (good-sound g) h
 
-    counts : Alone .outcome .calls ≡ Through .outcome .calls - Before .outcome .calls
-    counts = omega (arith, ap (λ (q : Run). q .outcome .calls) e)
+    counts : alone .count ≡ Through .outcome .calls - Before .outcome .calls
+    counts = omega (arith, ap (λ (q : Run). q .outcome .calls) e, alone .counted)
 
     ends-at : Through .outcome .board ≡ afterAll CarriedOut AtStart
     ends-at =
-        ap (λ (q : Run). q .outcome .board) e
-        ∙ run-after AtStart stretch (room - length (Before .answers)) calls w (g .fits) starts-sound h
+        ap (λ (q : Run). q .outcome .board) e ∙ alone .board
         ∙ ap (λ (k : ℕ). afterAll (take k calls) AtStart) counts
 
     carries-all : Through .outcome .refusal ≡ 0 → CarriedOut ≡ calls
     carries-all z =
-        let n = run-all AtStart stretch (room - length (Before .answers)) calls w (g .fits) starts-sound h
-        (sym (ap (λ (q : Run). q .outcome .refusal) e) ∙ z) in
+        let n = alone .all (sym (ap (λ (q : Run). q .outcome .refusal) e) ∙ z) in
         take-all (Through .outcome .calls - Before .outcome .calls) calls (omega (arith, counts, n))
 
   -- what is promised of the deadline holds of every stretch of calls 01 and 04 of a run, whatever stands before it and

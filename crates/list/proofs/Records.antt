@@ -1,20 +1,19 @@
 -- The record of an answer, as the code's steps write it: whole, or of an advance the counts one by one over counts of 0
 -- and then the header and the line, or of a skip the cycles and then the header and the line. Assumes nothing.
 use Prim.Native.Nat.{ℕ, _+_, _*_, _<_}
-use native.Mathlib.Omega.{arith}
 use mathlib.Core.Path.{_≡_, refl, sym, ap, _∙_}
 use mathlib.Core.Bool.{Bool, true, false, false≢true}
 use mathlib.Core.List.{List, [], _∷_, _++_, append-assoc, append-nil}
 use lib.ListN.{length, getD, set, length-append}
 use lib.Seq.{sets, length-sets}
 use Rattle.wide.specs.Fields.{be}
-use Rattle.wide.proofs.BigEndian.{length-be, sets-append}
+use Rattle.wide.proofs.BigEndian.{length-be}
 use Rattle.board.proofs.Loops.{by-four}
 use Rattle.format.specs.Format.{answerLength, membersBytes, answerBytes, recordOf}
 use Rattle.format.specs.CodeAnswers.{headerBytes, wides}
 use Rattle.format.proofs.Frames.{sets-then, answer-length}
-use Rattle.format.proofs.Stores.{sets-behind, sets-over, wides-set, wides-zero, wides-over}
-use Rattle.list.specs.CodeParts.{countsAt, begunPut, countPut, passedPut, otherPut}
+use Rattle.format.proofs.Stores.{sets-behind, wides-set, wides-zero, wides-over}
+use Rattle.list.specs.CodeParts.{countsAt, countPut, passedPut, otherPut}
 
 -- ---- a record that is written whole
 

@@ -1,7 +1,7 @@
 -- Laws of a run: what it does at its next call, and a run under way. Assumes nothing.
 use mathlib.Core.Path.{_≡_, refl, sym, ap, _∙_}
-use mathlib.Core.List.{List, [], _∷_, _++_, append-nil}
-use mathlib.Core.Bool.{Bool, true, false, true≢false, false≢true}
+use mathlib.Core.List.{List, [], _∷_, _++_}
+use mathlib.Core.Bool.{false}
 use Prim.Native.Nat.{ℕ, zero, suc, _+_, _-_, _≤_, _<_}
 use native.Mathlib.Nat.{zero-add}
 use native.Mathlib.Omega.{arith}
@@ -19,16 +19,6 @@ use Rattle.format.specs.Codec.{callAt, callLength, answerRecord, recordLength, 
 use Rattle.format.proofs.Frames.{sets-then, sets-front, call-length, call-fits, answer-size}
 use Rattle.format.proofs.Decoding.{clear}
 use Rattle.list.proofs.Results.{result-refused, result-done, done-fits}
-
--- whether a call was done
-abbrev pub served : Result → Bool
-served (done b n a) = true
-served (refused n) = false
-
--- the bytes that it writes
-unfoldable pub bytesOf : Result → List ℕ
-bytesOf (done b n a) = a
-bytesOf (refused n) = []
 
 -- ---- the run's next call
 
@@ -133,54 +123,31 @@ module _ (list buf₀ : List ℕ) (s₀ : Outcome) (buf : List ℕ) (s : Outcome
   ended h =
       stopped list buf₀ s₀ buf s (r .out) (r .room) (r .bytes) (rw (drop-of-length-le list h) at (r .whole))
 
-  -- the next call, with the room that the answers so far leave
-  abbrev Next : Result → Type 0
-  Next t = resultOf (s .board) (drop (s .used) list) (length buf - s .written) ≡ t
-
-  here : (t : Result) → Next t → resultOf (s .board) (drop (s .used) list) (length buf₀ - length (r .out)) ≡ t
-  here t e = rw (← r .same, r .counted) e
-
-  module _ (inside : s .used < length list) (buf′ : List ℕ) where
-    left : 0 < length (drop (s .used) list)
-    left = omega (arith, length-drop (s .used) list)
-
-    -- the next call is done: the run goes on, farther in the list
-    pub more : (t : Result) → Next t → buf′ ≡ sets buf (s .written) (bytesOf t) → served t ≡ true →
-        Good (rateOf (s₀ .board .clock)) (stepped s t .board) →
-        Running list buf₀ s₀ buf′ (stepped s t) × (s .used < stepped s t .used)
-    unfolding stepped bytesOf
-    more (refused n) e w served g = absurd (false≢true served)
-    more (done b n a) e w served g =
-        let k = done-fits (s .board) (drop (s .used) list) (length buf - s .written) b n a e in
-        let d = length-drop (s .used) list in
-        let l = length-append (r .out) a in (
-          record {
-            good = g;
-            used-in = omega arith;
-            calls-in = omega arith;
-            out = r .out ++ a;
-            counted = omega arith;
-            room = omega arith;
-            same = rw (w, length-sets) (r .same);
-            bytes = store-more buf₀ buf buf′ (r .out) a (s .written) (r .counted) (r .bytes) w;
-            whole =
-                ap (λ (m : List ℕ). runOn 0 m (length buf₀) (stepped s (done b n a)) (r .out ++ a))
-                (sym (drop-drop n (s .used) list))
-                ∙ sym (go-on (drop (s .used) list) (length buf₀) s (r .out) left b n a (here (done b n a) e))
-                ∙ r .whole;
-          },
-          omega arith,
-        )
-
-    -- the next call is refused: the run has stopped
-    pub stops : (t : Result) → Next t → buf′ ≡ sets buf (s .written) (bytesOf t) → served t ≡ false →
-        Ran list buf₀ s₀ buf′ (stepped s t)
-    unfolding stepped bytesOf
-    stops (done b n a) e w served = absurd (true≢false served)
-    stops (refused n) e w served =
-        stopped list buf₀ s₀ buf′ (stepped s (refused n)) (r .out) (r .room)
-        (rw append-nil at (store-more buf₀ buf buf′ (r .out) [] (s .written) (r .counted) (r .bytes) w))
-        (sym (stop-at (drop (s .used) list) (length buf₀) s (r .out) left n (here (refused n) e)) ∙ r .whole)
+  -- the next call, with the room that the answers so far leave, is done: the run goes on behind it
+  more : s .used < length list → (b : Board) (n : ℕ) (a buf′ : List ℕ) →
+      resultOf (s .board) (drop (s .used) list) (length buf₀ - length (r .out)) ≡ done b n a →
+      buf′ ≡ sets buf (s .written) a → Good (rateOf (s₀ .board .clock)) b →
+      Running list buf₀ s₀ buf′ (stepped s (done b n a))
+  unfolding stepped
+  more inside b n a buf′ e w g =
+      let k = done-fits (s .board) (drop (s .used) list) (length buf₀ - length (r .out)) b n a e in
+      let d = length-drop (s .used) list in
+      let l = length-append (r .out) a in
+      record {
+        good = g;
+        used-in = omega arith;
+        calls-in = omega arith;
+        out = r .out ++ a;
+        counted = omega arith;
+        room = omega arith;
+        same = rw (w, length-sets) (r .same);
+        bytes = store-more buf₀ buf buf′ (r .out) a (s .written) (r .counted) (r .bytes) w;
+        whole =
+            ap (λ (m : List ℕ). runOn 0 m (length buf₀) (stepped s (done b n a)) (r .out ++ a))
+            (sym (drop-drop n (s .used) list))
+            ∙ sym (go-on (drop (s .used) list) (length buf₀) s (r .out) (omega arith) b n a e)
+            ∙ r .whole;
+      }
 
 -- ---- the call at the front of l, which is what is left of the list
 
@@ -192,16 +159,18 @@ module _ (list buf₀ : List ℕ) (s₀ : Outcome) (buf : List ℕ) (b : Board) 
     (r : Running list buf₀ s₀ buf (stateOf b calls used written)) (inside : used < length list)
     (l : List ℕ) (rest : l ≡ drop used list) where
   at-front : (t : Result) → resultOf b l (length buf - written) ≡ t →
-      resultOf b (drop used list) (length buf - written) ≡ t
-  at-front t e = ap (λ (m : List ℕ). resultOf b m (length buf - written)) (sym rest) ∙ e
+      resultOf b (drop used list) (length buf₀ - length (r .out)) ≡ t
+  at-front t e = rw (← rest, ← r .same, r .counted) e
 
   -- it is refused
   pub ends : (n : ℕ) → n ≡ refusalAt b l (length buf - written) → eqb n 0 ≡ false →
       Ran list buf₀ s₀ buf (record { board = b; calls = calls; used = used; written = written; refusal = n })
-  unfolding stepped bytesOf
+  unfolding stepped
   ends n p q =
-      stops list buf₀ s₀ buf (stateOf b calls used written) r inside buf (refused n)
-      (at-front (refused n) (result-refused b l (length buf - written) n p q)) refl refl
+      let d = length-drop used list in
+      let e = at-front (refused n) (result-refused b l (length buf - written) n p q) in
+      stopped list buf₀ s₀ buf _ (r .out) (r .room) (r .bytes)
+      (sym (stop-at (drop used list) (length buf₀) (stateOf b calls used written) (r .out) (omega arith) n e) ∙ r .whole)
 
   module _ (z : refusalAt b l (length buf - written) ≡ 0) where
     -- it is accepted: the numbers of the call are inside the list and the buffer
@@ -222,11 +191,10 @@ module _ (list buf₀ : List ℕ) (s₀ : Outcome) (buf : List ℕ) (b : Board) 
     pub goes-on : ((i : ℕ) → getD l i 0 < 256) → (b′ : Board) → b′ ≡ boardAfter (callAt l) b → (buf′ : List ℕ) →
         buf′ ≡ sets buf written (answerRecord (callAt l) b) → (used′ size : ℕ) → used′ ≡ used + callLength (callAt l) →
         size ≡ recordLength (callAt l) → Running list buf₀ s₀ buf′ (stateOf b′ (calls + 1) used′ (written + size))
-    unfolding stepped bytesOf
+    unfolding stepped
     goes-on bytes b′ e buf′ w used′ size p q =
         let room = length buf - written in
-        let t = done (boardAfter (callAt l) b) (callLength (callAt l)) (answerRecord (callAt l) b) in
         rw (p, q, e, ← answer-size (callAt l) b)
-        (more list buf₀ s₀ buf (stateOf b calls used written) r inside buf′ t (at-front t (result-done b l room z)) w
-        refl
-        (call-keeps (callAt l) (rateOf (s₀ .board .clock)) b (call-fits l bytes) (r .good) (clear b l room z .own)) .0)
+        (more list buf₀ s₀ buf (stateOf b calls used written) r inside (boardAfter (callAt l) b)
+        (callLength (callAt l)) (answerRecord (callAt l) b) buf′ (at-front _ (result-done b l room z)) w
+        (call-keeps (callAt l) (rateOf (s₀ .board .clock)) b (call-fits l bytes) (r .good) (clear b l room z .own)))

@@ -9,20 +9,9 @@ use lib.ListN.{getD, replicate}
 use lib.Dec.{leb, eqb}
 use Rattle.wide.specs.Fields.{beAt, be, withByte}
 use Rattle.channel.specs.declared.HardwareTimer.{HardwareTimer}
-use Rattle.channel.specs.Channel.{
-  freshTimer,
-  enabledOf,
-  irqEnabledOf,
-  disabled,
-  soundTimer,
-  lineOf,
-  withControl as timerControl,
-  withCounter,
-  withCompare,
-  withReload,
-  withPrescaler,
-  withFlags,
-}
+use Rattle.channel.specs.Channel.{freshTimer, enabledOf, irqEnabledOf, disabled, soundTimer, lineOf}
+use Rattle.channel.specs.Channel.{withControl as timerControl, withCounter, withCompare, withReload, withPrescaler}
+use Rattle.channel.specs.Channel.{withFlags}
 use Rattle.channel.specs.Prescaler.{advanced}
 use Rattle.channel.specs.Matches.{pointsMet, matchesIn}
 use Rattle.channel.specs.Modes.{oneShot, reloaded, matched, periodic, distance, freeRunning, tickedIn, ticked}
@@ -30,32 +19,12 @@ use Rattle.channel.specs.Deadline.{ticksToGo, deadlineOf}
 use Rattle.channel.specs.Registers.{wordOf, controlWritten, byteWritten}
 use Rattle.clock.specs.declared.Clock.{Clock}
 use Rattle.clock.specs.Fields.{freshClockAt, freshClock, withControl, withTime, withAlarm, withHost}
-use Rattle.clock.specs.Clock.{
-  shifted,
-  ownNanoseconds,
-  timeOf,
-  timeSeconds,
-  alarmReached,
-  checkAlarm,
-  movedTime,
-  endAdvance,
-  advanceClock,
-}
+use Rattle.clock.specs.Clock.{shifted, ownNanoseconds, timeOf, timeSeconds, alarmReached, checkAlarm, movedTime}
+use Rattle.clock.specs.Clock.{endAdvance, advanceClock}
 use Rattle.clock.specs.Sound.{soundRate, soundOffset, soundAlarm, soundFields, alarmAhead, soundClock}
 use Rattle.clock.specs.Deadline.{clockDeadline}
-use Rattle.clock.specs.Registers.{
-  signedDifference,
-  setTime,
-  timeKept,
-  changeControl,
-  writeControl,
-  marked,
-  shadowByte,
-  offsetFor,
-  commitSeconds,
-  writeSeconds,
-  timeNanoseconds,
-}
+use Rattle.clock.specs.Registers.{signedDifference, setTime, timeKept, changeControl, writeControl, marked}
+use Rattle.clock.specs.Registers.{shadowByte, offsetFor, commitSeconds, writeSeconds, timeNanoseconds}
 use Rattle.controller.specs.declared.IrqOutput.{IrqOutput}
 use Rattle.controller.specs.Bits.{withBit, without}
 use Rattle.controller.specs.Controller.{sourceSet, outputOf, lowestFrom, controllerWritten, pendingCleared}
@@ -64,16 +33,8 @@ use Rattle.board.specs.declared.calls.Call.the-variants.{Read, Write, Skip, Con
 use Rattle.board.specs.Loops.{mapFrom, foldFrom}
 use Rattle.board.specs.Fields.{freshBoardAt, freshBoard, withTimers, withTimerEnable, withClock}
 use Rattle.board.specs.Board.{line, exactDeadline, wired, soundParts, sound}
-use Rattle.board.specs.Calls.{
-  effectOf,
-  boardAfter,
-  answerOf,
-  addressRefusal,
-  movedBoard,
-  advancedBoard,
-  advanceBy,
-  freshOf,
-}
+use Rattle.board.specs.Calls.{effectOf, boardAfter, answerOf, addressRefusal, movedBoard, advancedBoard, advanceBy}
+use Rattle.board.specs.Calls.{freshOf}
 use Rattle.board.specs.Demand.{source3}
 use Rattle.board.specs.RegisterWords.{timerWord, clockWord, liveWord}
 use Rattle.board.specs.RegisterReads.{readLive, readCountHigh, readChannel, secondsLatched, readLow, readHigh, readAt}

@@ -13,18 +13,8 @@ use Rattle.clock.specs.Fields.{withHost}
 use Rattle.controller.specs.declared.IrqController.{IrqController}
 use Rattle.board.specs.declared.Board.{Board}
 use Rattle.board.specs.declared.calls.Call.{Call}
-use Rattle.board.specs.declared.calls.Call.the-variants.{
-  HostTime,
-  Read,
-  Write,
-  Advance,
-  Deadline,
-  Skip,
-  Source,
-  ControllerRead,
-  ControllerWrite,
-  Output,
-}
+use Rattle.board.specs.declared.calls.Call.the-variants.{HostTime, Read, Write, Deadline, Skip, Source}
+use Rattle.board.specs.declared.calls.Call.the-variants.{ControllerRead, ControllerWrite, Output}
 use Rattle.board.specs.Registers.{base}
 use Rattle.board.specs.Fields.{withClock, withController}
 use Rattle.board.specs.Calls.{effectOf, advanceBy, skipLength}
@@ -32,19 +22,7 @@ use Rattle.format.specs.Format.{answerLength, answerBytes, valueBytes}
 use Rattle.format.specs.Codec.{callAt, refusalAt, tagOf}
 use Rattle.format.specs.CodeAnswers.{headerBytes, wides}
 use Rattle.list.specs.declared.parts.Step.{Step}
-use Rattle.list.specs.declared.parts.Step.the-variants.{
-  Refused,
-  Read as ReadStep,
-  Write as WriteStep,
-  Pass,
-  HostTime as HostTimeStep,
-  Stay,
-  Deadline as DeadlineStep,
-  Source as SourceStep,
-  ControllerRead as ControllerReadStep,
-  ControllerWrite as ControllerWriteStep,
-  Output as OutputStep,
-}
+use Rattle.list.specs.declared.parts.Step.the-variants as T
 use Rattle.list.specs.declared.parts.Changes.{Changes}
 
 -- ---- the step that the run makes of the call at the front
@@ -65,68 +43,43 @@ pub record Passes (call : Call) (b : Board) (counted : Bool) (c : ℕ) : Type 0 
   pub advance : counted ≡ true → call ≡ advanceBy c
   pub skip : counted ≡ false → (call ≡ Skip) × (skipLength b ≡ some c)
 
--- the call that a step is of
-abbrev pub Makes : Call → Board → Step → Type 0
-Makes call b (Refused refusal) = ⊥
-Makes call b (ReadStep offset) = Reads call offset
-Makes call b (WriteStep byte offset) = Writes call byte offset
-Makes call b (Pass counted c) = Passes call b counted c
-Makes call b (HostTimeStep nanoseconds seconds) = call ≡ HostTime nanoseconds seconds
-Makes call b Stay = (call ≡ Skip) × (skipLength b ≡ none)
-Makes call b DeadlineStep = call ≡ Deadline
-Makes call b (SourceStep number level) = call ≡ Source number level
-Makes call b (ControllerReadStep address) = call ≡ ControllerRead address
-Makes call b (ControllerWriteStep byte address) = call ≡ ControllerWrite byte address
-Makes call b OutputStep = call ≡ Output
+-- the step of a call whose refusal is n
+abbrev pub Makes : ℕ → Call → Board → Step → Type 0
+Makes n call b (T.Refused refusal) = (refusal ≡ n) × (eqb refusal 0 ≡ false)
+Makes n call b (T.Read offset) = (n ≡ 0) × Reads call offset
+Makes n call b (T.Write byte offset) = (n ≡ 0) × Writes call byte offset
+Makes n call b (T.Pass counted c) = (n ≡ 0) × Passes call b counted c
+Makes n call b (T.HostTime nanoseconds seconds) = (n ≡ 0) × (call ≡ HostTime nanoseconds seconds)
+Makes n call b T.Stay = (n ≡ 0) × ((call ≡ Skip) × (skipLength b ≡ none))
+Makes n call b T.Deadline = (n ≡ 0) × (call ≡ Deadline)
+Makes n call b (T.Source number level) = (n ≡ 0) × (call ≡ Source number level)
+Makes n call b (T.ControllerRead address) = (n ≡ 0) × (call ≡ ControllerRead address)
+Makes n call b (T.ControllerWrite byte address) = (n ≡ 0) × (call ≡ ControllerWrite byte address)
+Makes n call b T.Output = (n ≡ 0) × (call ≡ Output)
 
 -- the step of a skip
 abbrev pub SkipIs : Board → Step → Type 0
-SkipIs b (Refused refusal) = (refusal ≡ effectOf Skip b .refusal) × (eqb refusal 0 ≡ false)
-SkipIs b (ReadStep offset) = ⊥
-SkipIs b (WriteStep byte offset) = ⊥
-SkipIs b (Pass counted c) = (effectOf Skip b .refusal ≡ 0) × ((counted ≡ false) × (skipLength b ≡ some c))
-SkipIs b (HostTimeStep nanoseconds seconds) = ⊥
-SkipIs b Stay = (effectOf Skip b .refusal ≡ 0) × (skipLength b ≡ none)
-SkipIs b DeadlineStep = ⊥
-SkipIs b (SourceStep number level) = ⊥
-SkipIs b (ControllerReadStep address) = ⊥
-SkipIs b (ControllerWriteStep byte address) = ⊥
-SkipIs b OutputStep = ⊥
-
--- a call that is accepted, and its step
-pub record Accepts (b : Board) (l : List ℕ) (room : ℕ) (step : Step) : Type 0 where
-  pub accepted : refusalAt b l room ≡ 0
-  pub makes : Makes (callAt l) b step
+SkipIs b step = Makes (effectOf Skip b .refusal) Skip b step
 
 -- the step of the call at the front, with so much room for its answer
 abbrev pub StepIs : Board → List ℕ → ℕ → Step → Type 0
-StepIs b l room (Refused refusal) = (refusal ≡ refusalAt b l room) × (eqb refusal 0 ≡ false)
-StepIs b l room (ReadStep offset) = Accepts b l room (ReadStep offset)
-StepIs b l room (WriteStep byte offset) = Accepts b l room (WriteStep byte offset)
-StepIs b l room (Pass counted c) = Accepts b l room (Pass counted c)
-StepIs b l room (HostTimeStep nanoseconds seconds) = Accepts b l room (HostTimeStep nanoseconds seconds)
-StepIs b l room Stay = Accepts b l room Stay
-StepIs b l room DeadlineStep = Accepts b l room DeadlineStep
-StepIs b l room (SourceStep number level) = Accepts b l room (SourceStep number level)
-StepIs b l room (ControllerReadStep address) = Accepts b l room (ControllerReadStep address)
-StepIs b l room (ControllerWriteStep byte address) = Accepts b l room (ControllerWriteStep byte address)
-StepIs b l room OutputStep = Accepts b l room OutputStep
+StepIs b l room step = Makes (refusalAt b l room) (callAt l) b step
 
 -- ---- the calls that change host time or the controller at most
 
 -- the call of such a step; of another it is a skip here
 abbrev pub otherCall : Step → Call
-otherCall (Refused refusal) = Skip
-otherCall (ReadStep offset) = Skip
-otherCall (WriteStep byte offset) = Skip
-otherCall (Pass counted c) = Skip
-otherCall (HostTimeStep nanoseconds seconds) = HostTime nanoseconds seconds
-otherCall Stay = Skip
-otherCall DeadlineStep = Deadline
-otherCall (SourceStep number level) = Source number level
-otherCall (ControllerReadStep address) = ControllerRead address
-otherCall (ControllerWriteStep byte address) = ControllerWrite byte address
-otherCall OutputStep = Output
+otherCall (T.Refused refusal) = Skip
+otherCall (T.Read offset) = Skip
+otherCall (T.Write byte offset) = Skip
+otherCall (T.Pass counted c) = Skip
+otherCall (T.HostTime nanoseconds seconds) = HostTime nanoseconds seconds
+otherCall T.Stay = Skip
+otherCall T.Deadline = Deadline
+otherCall (T.Source number level) = Source number level
+otherCall (T.ControllerRead address) = ControllerRead address
+otherCall (T.ControllerWrite byte address) = ControllerWrite byte address
+otherCall T.Output = Output
 
 -- a board with another host time and another controller
 abbrev pub withChanges : HostTimeOf → IrqController → Board → Board
@@ -140,17 +93,17 @@ ChangesAre call b c =
 
 -- what such a step changes
 abbrev pub Changed : Step → Board → Changes → Type 0
-Changed (Refused refusal) b c = Unit {0}
-Changed (ReadStep offset) b c = Unit {0}
-Changed (WriteStep byte offset) b c = Unit {0}
-Changed (Pass counted n) b c = Unit {0}
-Changed (HostTimeStep nanoseconds seconds) b c = ChangesAre (HostTime nanoseconds seconds) b c
-Changed Stay b c = skipLength b ≡ none → ChangesAre Skip b c
-Changed DeadlineStep b c = ChangesAre Deadline b c
-Changed (SourceStep number level) b c = ChangesAre (Source number level) b c
-Changed (ControllerReadStep address) b c = ChangesAre (ControllerRead address) b c
-Changed (ControllerWriteStep byte address) b c = ChangesAre (ControllerWrite byte address) b c
-Changed OutputStep b c = ChangesAre Output b c
+Changed (T.Refused refusal) b c = skipLength b ≡ none → ChangesAre Skip b c
+Changed (T.Read offset) b c = skipLength b ≡ none → ChangesAre Skip b c
+Changed (T.Write byte offset) b c = skipLength b ≡ none → ChangesAre Skip b c
+Changed (T.Pass counted n) b c = skipLength b ≡ none → ChangesAre Skip b c
+Changed (T.HostTime nanoseconds seconds) b c = ChangesAre (HostTime nanoseconds seconds) b c
+Changed T.Stay b c = skipLength b ≡ none → ChangesAre Skip b c
+Changed T.Deadline b c = ChangesAre Deadline b c
+Changed (T.Source number level) b c = ChangesAre (Source number level) b c
+Changed (T.ControllerRead address) b c = ChangesAre (ControllerRead address) b c
+Changed (T.ControllerWrite byte address) b c = ChangesAre (ControllerWrite byte address) b c
+Changed T.Output b c = ChangesAre Output b c
 
 -- ---- the record of an advance or a skip, by whether it has counts
 

@@ -11,48 +11,26 @@ use borrow.Author.Needs.{needs}
 use Rattle.board.specs.Board.{sound}
 use Rattle.board.specs.Fields.{channelAt}
 use Rattle.board.proofs.Good.{good, good-sound}
-use Rattle.registers.proofs.Timing.{sound-times}
 use Rattle.registers.proofs.CodeWrites.{channel-range}
 use Rattle.format.specs.Codec.{callAt}
 use Rattle.format.proofs.Frames.{call-least}
 use Rattle.list.specs.CodeParts.{StepIs}
 use Rattle.list.specs.Run.{runOf, over}
-use Rattle.list.proofs.Advances.{begins, next-phase, advances, passed-over, still-timed, counts-begin, next-zero, counts-next, counts-passed, counts-same}
+use Rattle.list.proofs.Advances.{begins, next-phase, advances, passed-over, still-timed, counts-begin}
+use Rattle.list.proofs.Advances.{next-zero, counts-next, counts-passed, counts-same}
 use Rattle.list.proofs.Runs.{Ran, begun, ended, ends, rest-bytes, goes-on}
-use Rattle.list.proofs.Calls.{other-kind, read-length, write-length, pass-length, pass-room, begun-room}
+use Rattle.list.proofs.Calls.{read-length, write-length, pass-length, pass-room, begun-room}
 use Rattle.list.proofs.run.Statement.{statement}
 use Rattle.list.proofs.run.Tie as tie
-use Rattle.list.proofs.run.Proof.Arms.{Inv-loop2, μ-loop2, Inv-loop, μ-loop, listOf, usedOf, boardOf, restOf, roomOf, rest-is, board-sound, accepts, other-accepts, other-is, met-accepted, served, board-set, call-inside, answer-inside}
+use Rattle.list.proofs.run.Proof.Arms.{Inv-loop2, μ-loop2, Inv-loop, μ-loop, listOf, usedOf, boardOf, restOf}
+use Rattle.list.proofs.run.Proof.Arms.{timed, roomOf, rest-is, board-sound, accepts, other-at, other-is}
+use Rattle.list.proofs.run.Proof.Arms.{met-accepted, served, board-set, call-inside, answer-inside}
 
 returns : tie.Need-returns Inv-loop2 μ-loop2 Inv-loop μ-loop
 unfolding runOf over
 returns c =
     let e : sound (c .before .before .before .before .before .args .board) ≡ false = sym (c .before .before .sound .ensures .0) ∙ not-true _ (c .before .if1 .taken) in
     rw e (c .stopped .ensures, refl)
-
-loop-holds : tie.Need-loop-holds Inv-loop2 μ-loop2 Inv-loop μ-loop
-loop-holds c =
-    begun _ _ _
-    (good _ (c .before .sound .ensures .1) (sym (c .before .sound .ensures .0) ∙ not-false _ (c .if1 .left))) refl refl
-    refl
-
-sub-rest : tie.Need-sub-rest Inv-loop2 μ-loop2 Inv-loop μ-loop
-sub-rest c = omega (arith, c .before .loop .inv .used-in)
-
-part-rest-start : tie.Need-part-rest-start Inv-loop2 μ-loop2 Inv-loop μ-loop
-part-rest-start c = omega (arith, c .before .loop .inv .used-in)
-
-part-rest-end : tie.Need-part-rest-end Inv-loop2 μ-loop2 Inv-loop μ-loop
-part-rest-end c = omega (arith, c .before .loop .inv .used-in)
-
-sub-step-of : tie.Need-sub-step-of Inv-loop2 μ-loop2 Inv-loop μ-loop
-sub-step-of c = omega (arith, c .before .before .loop .inv .counted, c .before .before .loop .inv .room, c .before .before .loop .inv .same)
-
-step-of-requires : tie.Need-step-of-requires Inv-loop2 μ-loop2 Inv-loop μ-loop
-step-of-requires c κs = good-sound (c .before .before .loop .inv .good)
-
-same-length : tie.Need-same-length Inv-loop2 μ-loop2 Inv-loop μ-loop
-same-length c = omega (arith, c .before .before .before .before .before .before .before .loop .inv .same)
 
 returns-2 : tie.Need-returns-2 Inv-loop2 μ-loop2 Inv-loop μ-loop
 unfolding runOf Ran
@@ -65,69 +43,27 @@ returns-2 c =
     (rw (c .stopped2 .ensures)
     (ends _ _ _ _ _ _ _ _ (u .before .before .before .loop .inv) (u .before .before .loop-test .taken) _ (rest-is u) _ (r .0) (r .1)))
 
-mul-timer : tie.Need-mul-timer Inv-loop2 μ-loop2 Inv-loop μ-loop
-mul-timer c = omega (arith, c .channel-index .ensures .1)
-
-element-copy-out-timer : tie.Need-element-copy-out-timer Inv-loop2 μ-loop2 Inv-loop μ-loop
-element-copy-out-timer c = c .channel-index .ensures .1
-
 plain-at-requires : tie.Need-plain-at-requires Inv-loop2 μ-loop2 Inv-loop μ-loop
-plain-at-requires c κs = (
-  sym (c .before .plain .ensures) ∙ c .if2 .taken,
-  sound-times _ (c .before .before .before .before .before .before .before .before .before .before .loop .inv .good .fits .clock) (good-sound (c .before .before .before .before .before .before .before .before .before .before .loop .inv .good)),
-  ap (λ (j : ℕ). channelAt j (c .before .before .before .before .before .before .before .before .before .before .loop .b)) (c .before .before .before .channel-index .ensures .0),
-)
+plain-at-requires c κs =
+    let u = c .before .before .before .before .before .before .before in
+    let i = ap (λ (j : ℕ). channelAt j (boardOf u)) (c .before .before .before .channel-index .ensures .0) in
+    (sym (c .before .plain .ensures) ∙ c .if2 .taken, timed u, i)
 
 put-byte-requires : tie.Need-put-byte-requires Inv-loop2 μ-loop2 Inv-loop μ-loop
-put-byte-requires c κs = let u = c .before .before .before .before .before .before .before .before .before .before .before in let a = accepts u _ (c .before .before .before .before .before .before .before .before .before .step2 .given .1) (omega arith) in
-    omega (arith, answer-inside u (a .accepted), read-length _ _ (a .makes) .1)
-
-reading-at-requires : tie.Need-reading-at-requires Inv-loop2 μ-loop2 Inv-loop μ-loop
-reading-at-requires c κs = (
-  sound-times _ (c .before .before .before .before .before .before .before .before .before .before .loop .inv .good .fits .clock) (good-sound (c .before .before .before .before .before .before .before .before .before .before .loop .inv .good)),
-  ap (λ (j : ℕ). channelAt j (c .before .before .before .before .before .before .before .before .before .before .loop .b)) (c .before .before .before .channel-index .ensures .0),
-)
+put-byte-requires c κs = let u = c .before .before .before .before .before .before .before .before .before .before .before in let a = accepts u _ (c .before .before .before .before .before .before .before .before .before .step2 .given .1) in
+    omega (arith, answer-inside u (a .0), read-length _ _ (a .1) .1)
 
 put-byte-requires-2 : tie.Need-put-byte-requires-2 Inv-loop2 μ-loop2 Inv-loop μ-loop
-put-byte-requires-2 c κs = let u = c .before .before .before .before .before .before .before .before .before .before .before .before in let a = accepts u _ (c .before .before .before .before .before .before .before .before .before .before .step2 .given .1) (omega arith) in
-    omega (arith, answer-inside u (a .accepted), read-length _ _ (a .makes) .1)
+put-byte-requires-2 c κs = let u = c .before .before .before .before .before .before .before .before .before .before .before .before in let a = accepts u _ (c .before .before .before .before .before .before .before .before .before .before .step2 .given .1) in
+    omega (arith, answer-inside u (a .0), read-length _ _ (a .1) .1)
 
 add-used : tie.Need-add-used Inv-loop2 μ-loop2 Inv-loop μ-loop
-add-used c = let u = c .before .before .before .before .before .before .before in let a = accepts u _ (c .before .before .before .before .before .step2 .given .1) (omega arith) in
-    omega (arith, call-inside u (a .accepted), read-length _ _ (a .makes) .0, u .before .before .before .before .before .before .before .before .good)
-
-clock-after-requires : tie.Need-clock-after-requires Inv-loop2 μ-loop2 Inv-loop μ-loop
-clock-after-requires c κs = sound-times _ (c .before .before .before .before .before .before .before .before .before .before .loop .inv .good .fits .clock) (good-sound (c .before .before .before .before .before .before .before .before .before .before .loop .inv .good))
-
-mul-timer-after : tie.Need-mul-timer-after Inv-loop2 μ-loop2 Inv-loop μ-loop
-mul-timer-after c = omega (arith, c .channel-index2 .ensures .1)
-
-element-copy-out-timer-after : tie.Need-element-copy-out-timer-after Inv-loop2 μ-loop2 Inv-loop μ-loop
-element-copy-out-timer-after c = c .channel-index2 .ensures .1
-
-timer-after-requires : tie.Need-timer-after-requires Inv-loop2 μ-loop2 Inv-loop μ-loop
-timer-after-requires c κs = channel-range _ (sym (c .before .before .before .before .part-at .ensures) ∙ c .before .before .enum-told5 .given .1)
-
-mul-after : tie.Need-mul-after Inv-loop2 μ-loop2 Inv-loop μ-loop
-mul-after c = omega (arith, c .before .before .channel-index2 .ensures .1)
-
-element-set-from-after : tie.Need-element-set-from-after Inv-loop2 μ-loop2 Inv-loop μ-loop
-element-set-from-after c = c .before .before .channel-index2 .ensures .1
-
-at-control-requires : tie.Need-at-control-requires Inv-loop2 μ-loop2 Inv-loop μ-loop
-at-control-requires c κs = channel-range _ (sym (c .before .before .before .before .before .part-at .ensures) ∙ c .before .before .before .enum-told5 .given .1)
-
-put-header-requires : tie.Need-put-header-requires Inv-loop2 μ-loop2 Inv-loop μ-loop
-put-header-requires c κs = let u = c .before .before .before .before .before .before in let a = accepts u _ (c .before .before .before .before .step3 .given .1) (omega arith) in
-    omega (arith, answer-inside u (a .accepted), write-length _ _ _ (a .makes) .1)
+add-used c = let u = c .before .before .before .before .before .before .before in let a = accepts u _ (c .before .before .before .before .before .step2 .given .1) in
+    omega (arith, call-inside u (a .0), read-length _ _ (a .1) .0, u .before .before .before .before .before .before .before .before .good)
 
 add-used-2 : tie.Need-add-used-2 Inv-loop2 μ-loop2 Inv-loop μ-loop
-add-used-2 c = let u = c .before .before .before .before .before .before .before .before .before in let a = accepts u _ (c .before .before .before .before .before .before .before .step3 .given .1) (omega arith) in
-    omega (arith, call-inside u (a .accepted), write-length _ _ _ (a .makes) .0, u .before .before .before .before .before .before .before .before .good)
-
-put-begun-requires : tie.Need-put-begun-requires Inv-loop2 μ-loop2 Inv-loop μ-loop
-put-begun-requires c κs = let u = c .before .before .before .before in let a = accepts u _ (c .before .before .step4 .given .1) (omega arith) in
-    pass-room _ _ _ _ (a .makes) _ _ (answer-inside u (a .accepted))
+add-used-2 c = let u = c .before .before .before .before .before .before .before .before .before in let a = accepts u _ (c .before .before .before .before .before .before .before .step3 .given .1) in
+    omega (arith, call-inside u (a .0), write-length _ _ _ (a .1) .0, u .before .before .before .before .before .before .before .before .good)
 
 loop2-holds : tie.Need-loop2-holds Inv-loop2 μ-loop2 Inv-loop μ-loop
 loop2-holds c = let g = c .before .before .before .before .before .before .before .before .before .before .loop .inv .good in (
@@ -135,39 +71,15 @@ loop2-holds c = let g = c .before .before .before .before .before .before .befor
   counts-begin _ _ _ _ (c .before .before .before .before .before .before .before .before .before .before .loop .b) (g .fits .four) _ _ (c .before .before .put-begun .ensures),
 )
 
-mul-timer-2 : tie.Need-mul-timer-2 Inv-loop2 μ-loop2 Inv-loop μ-loop
-mul-timer-2 c = omega (arith, c .loop2-test .taken)
-
-element-copy-out-timer-2 : tie.Need-element-copy-out-timer-2 Inv-loop2 μ-loop2 Inv-loop μ-loop
-element-copy-out-timer-2 c = c .loop2-test .taken
-
-cast-t84 : tie.Need-cast-t84 Inv-loop2 μ-loop2 Inv-loop μ-loop
-cast-t84 c = omega (arith, c .before .loop2-test .taken)
-
-advance-cycles-requires : tie.Need-advance-cycles-requires Inv-loop2 μ-loop2 Inv-loop μ-loop
-advance-cycles-requires c κs = next-phase _ _ _ _ _ (c .before .before .before .before .before .loop2 .inv .0) (c .before .before .before .before .loop2-test .taken)
-
-mul-timer-after-2 : tie.Need-mul-timer-after-2 Inv-loop2 μ-loop2 Inv-loop μ-loop
-mul-timer-after-2 c = omega (arith, c .before .before .before .before .before .before .loop2-test .taken)
-
-element-set-from-timer-after : tie.Need-element-set-from-timer-after Inv-loop2 μ-loop2 Inv-loop μ-loop
-element-set-from-timer-after c = c .before .before .before .before .before .before .loop2-test .taken
-
 put-points-requires : tie.Need-put-points-requires Inv-loop2 μ-loop2 Inv-loop μ-loop
-put-points-requires c κs = let u = c .before .before .before .before .before .before .before .before .before .before .before .before .before .before .before .before .before in let a = accepts u _ (c .before .before .before .before .before .before .before .before .before .before .before .before .before .before .before .step4 .given .1) (omega arith) in
+put-points-requires c κs = let u = c .before .before .before .before .before .before .before .before .before .before .before .before .before .before .before .before .before in let a = accepts u _ (c .before .before .before .before .before .before .before .before .before .before .before .before .before .before .before .step4 .given .1) in
     let l = c .before .before .before .before .before .before .before .before .before .loop2 in
     let h = c .before .before .before .before .before .before .before .before .loop2-test .taken in
-    let room = begun-room _ _ _ _ (a .makes) _ _ _ (c .before .before .before .before .before .before .before .before .before .before .before .before .put-begun .ensures) (answer-inside u (a .accepted)) in
+    let room = begun-room _ _ _ _ (a .1) _ _ _ (c .before .before .before .before .before .before .before .before .before .before .before .before .put-begun .ensures) (answer-inside u (a .0)) in
     let m = counts-same _ _ _ _ _ _ _ (l .inv .0) _ _ (l .inv .1) in (
       h,
       λ e. (omega (arith, room .0 e, m), next-zero _ _ _ _ _ _ _ (l .inv .0) _ _ (l .inv .1) h e),
     )
-
-add-i : tie.Need-add-i Inv-loop2 μ-loop2 Inv-loop μ-loop
-add-i c = omega (arith, c .before .before .before .before .loop2-test .taken)
-
-loop2-less : tie.Need-loop2-less Inv-loop2 μ-loop2 Inv-loop μ-loop
-loop2-less c = omega (arith, c .before .before .before .before .loop2-test .taken)
 
 loop2-again : tie.Need-loop2-again Inv-loop2 μ-loop2 Inv-loop μ-loop
 loop2-again c =
@@ -186,54 +98,37 @@ loop2-again c =
           )
     ]
 
-advance-requires : tie.Need-advance-requires Inv-loop2 μ-loop2 Inv-loop μ-loop
-advance-requires c κs = let g = c .before .before .before .before .before .before .before .before .before .before .before .before .before .loop .inv .good in
-    still-timed _ _ _ _ _ (c .before .before .loop2 .inv .0) (sound-times _ (g .fits .clock) (good-sound g))
-
 put-passed-requires : tie.Need-put-passed-requires Inv-loop2 μ-loop2 Inv-loop μ-loop
-put-passed-requires c κs = let u = c .before .before .before .before .before .before .before .before .before .before .before .before .before .before in let a = accepts u _ (c .before .before .before .before .before .before .before .before .before .before .before .before .step4 .given .1) (omega arith) in
+put-passed-requires c κs = let u = c .before .before .before .before .before .before .before .before .before .before .before .before .before .before in let a = accepts u _ (c .before .before .before .before .before .before .before .before .before .before .before .before .step4 .given .1) in
     let l = c .before .before .before .before .before .before .loop2 in
-    let room = begun-room _ _ _ _ (a .makes) _ _ _ (c .before .before .before .before .before .before .before .before .before .put-begun .ensures) (answer-inside u (a .accepted)) in
+    let room = begun-room _ _ _ _ (a .1) _ _ _ (c .before .before .before .before .before .before .before .before .before .put-begun .ensures) (answer-inside u (a .0)) in
     let m = counts-same _ _ _ _ _ _ _ (l .inv .0) _ _ (l .inv .1) in
     omega (arith, room .1, m)
 
 add-used-3 : tie.Need-add-used-3 Inv-loop2 μ-loop2 Inv-loop μ-loop
-add-used-3 c = let u = c .before .before .before .before .before .before .before .before .before .before .before .before .before .before .before .before .before .before in let a = accepts u _ (c .before .before .before .before .before .before .before .before .before .before .before .before .before .before .before .before .step4 .given .1) (omega arith) in
-    let n = pass-length _ _ _ _ (a .makes) .0 in
-    omega (arith, call-inside u (a .accepted), n, c .pass-length .ensures, u .before .before .before .before .before .before .before .before .good)
-
-changes-of-requires : tie.Need-changes-of-requires Inv-loop2 μ-loop2 Inv-loop μ-loop
-changes-of-requires c κs = board-sound (c .before)
+add-used-3 c = let u = c .before .before .before .before .before .before .before .before .before .before .before .before .before .before .before .before .before .before in let a = accepts u _ (c .before .before .before .before .before .before .before .before .before .before .before .before .before .before .before .before .step4 .given .1) in
+    let n = pass-length _ _ _ _ (a .1) .0 in
+    omega (arith, call-inside u (a .0), n, c .pass-length .ensures, u .before .before .before .before .before .before .before .before .good)
 
 put-other-requires : tie.Need-put-other-requires Inv-loop2 μ-loop2 Inv-loop μ-loop
 put-other-requires c κs =
     let u = c .before .before .before .before .before .before in
-    let k = other-kind (u .step-of .result) (c .before .before .before .before .before .match .keys5) in
+    let k = c .before .before .before .before .before .match .keys5 in
     let d = other-is u k (c .before .before .before .before .changes-of .result) (c .before .before .before .before .changes-of .ensures) in
-    omega (arith, answer-inside u (other-accepts u k .accepted), d .put, d .bytes)
+    omega (arith, answer-inside u (other-at u k .0), d .1 .0, d .1 .1)
 
 add-used-4 : tie.Need-add-used-4 Inv-loop2 μ-loop2 Inv-loop μ-loop
 add-used-4 c =
     let u = c .before .before .before .before .before .before .before .before .before .before in
-    let k = other-kind (u .step-of .result) (c .before .before .before .before .before .before .before .before .before .match .keys5) in
+    let k = c .before .before .before .before .before .before .before .before .before .match .keys5 in
     let d = other-is u k (c .before .before .before .before .before .before .before .before .changes-of .result) (c .before .before .before .before .before .before .before .before .changes-of .ensures) in
-    omega (arith, call-inside u (other-accepts u k .accepted), d .called, c .call-length .ensures, u .before .before .before .before .before .before .before .before .good)
-
-add-calls : tie.Need-add-calls Inv-loop2 μ-loop2 Inv-loop μ-loop
-add-calls c = let u = c .before .before in
-    omega (arith, u .before .before .before .loop .inv .calls-in, u .before .before .loop-test .taken, u .before .before .before .before .before .before .before .before .good)
+    omega (arith, call-inside u (other-at u k .0), d .0, c .call-length .ensures, u .before .before .before .before .before .before .before .before .good)
 
 add-written : tie.Need-add-written Inv-loop2 μ-loop2 Inv-loop μ-loop
 add-written c =
     let m = c .before .before in let u = m .before in
     let k = served m in
     omega (arith, answer-inside u (met-accepted m), k .size, u .before .before .before .loop .inv .same, u .before .before .before .before .before .before .before .before .good)
-
-loop-less : tie.Need-loop-less Inv-loop2 μ-loop2 Inv-loop μ-loop
-loop-less c =
-    let m = c .before .before in let u = m .before in
-    let k = served m in
-    omega (arith, u .before .before .loop-test .taken, k .used, call-least (callAt (restOf u)))
 
 loop-again : tie.Need-loop-again Inv-loop2 μ-loop2 Inv-loop μ-loop
 loop-again c =
@@ -242,9 +137,6 @@ loop-again c =
     goes-on _ _ _ _ _ _ _ _ (u .before .before .before .loop .inv) (u .before .before .loop-test .taken) (restOf u) (rest-is u)
     (met-accepted m) (rest-bytes (listOf u) (restOf u) (usedOf u) (rest-is u) (λ i. omega (arith, u .before .before .before .before .before .before .before .shared-slice-known .given i))) _ (board-set (c .before)) _
     (k .carried .put) _ _ (k .used) (k .size)
-
-same-length-2 : tie.Need-same-length-2 Inv-loop2 μ-loop2 Inv-loop μ-loop
-same-length-2 c = omega (arith, c .before .before .loop .inv .same)
 
 returns-3 : tie.Need-returns-3 Inv-loop2 μ-loop2 Inv-loop μ-loop
 unfolding runOf Ran
@@ -256,86 +148,52 @@ returns-3 c =
 pub run-spec : {M : Type 1} → statement M
 run-spec =
     tie.close
-    (tie.spec
-    Inv-loop2
-    μ-loop2
-    Inv-loop
-    μ-loop
+    (tie.spec Inv-loop2 μ-loop2 Inv-loop μ-loop (λ c κs. tt) (λ c κs. tt) returns
+    (λ c. begun _ _ _
+    (good _ (c .before .sound .ensures .1) (sym (c .before .sound .ensures .0) ∙ not-false _ (c .if1 .left))) refl
+    refl refl)
+    (λ c. omega (arith, c .before .loop .inv .used-in)) (λ c. omega (arith, c .before .loop .inv .used-in))
+    (λ c. omega (arith, c .before .loop .inv .used-in))
+    (λ c. omega
+    (arith, c .before .before .loop .inv .counted, c .before .before .loop .inv .room, c .before .before .loop .inv .same))
+    (λ c κs. good-sound (c .before .before .loop .inv .good)) (λ c. search needs) (λ c κs. tt)
+    (λ c. omega (arith, c .before .before .before .before .before .before .before .loop .inv .same)) returns-2
+    (λ c. search needs) (λ c κs. tt) (λ c. omega (arith, c .channel-index .ensures .1))
+    (λ c. c .channel-index .ensures .1) (λ c κs. tt) plain-at-requires put-byte-requires
+    (λ c κs. let u = c .before .before .before .before .before .before .before in
+    (timed u, ap (λ (j : ℕ). channelAt j (boardOf u)) (c .before .before .before .channel-index .ensures .0)))
+    put-byte-requires-2 add-used (λ c. search needs) (λ c κs. tt) (λ c. search needs) (λ c. search needs)
+    (λ c κs. tt) (λ c. search needs) (λ c κs. tt) (λ c. search needs)
+    (λ c κs. timed (c .before .before .before .before .before .before .before)) (λ c. search needs) (λ c κs. tt)
+    (λ c. omega (arith, c .channel-index2 .ensures .1)) (λ c. c .channel-index2 .ensures .1)
+    (λ c κs. channel-range _
+    (sym (c .before .before .before .before .part-at .ensures) ∙ c .before .before .enum-told5 .given .1))
+    (λ c. omega (arith, c .before .before .channel-index2 .ensures .1))
+    (λ c. c .before .before .channel-index2 .ensures .1)
+    (λ c κs. channel-range _
+    (sym (c .before .before .before .before .before .part-at .ensures) ∙ c .before .before .before .enum-told5 .given .1))
+    (λ c κs. let u = c .before .before .before .before .before .before in let a = accepts u _
+    (c .before .before .before .before .step3 .given .1) in omega
+    (arith, answer-inside u (a .0), write-length _ _ _ (a .1) .1))
+    add-used-2 (λ c. search needs)
+    (λ c κs. let u = c .before .before .before .before in let a = accepts u _ (c .before .before .step4 .given .1) in
+    pass-room _ _ _ _ (a .1) _ _ (answer-inside u (a .0)))
+    loop2-holds (λ c. omega (arith, c .loop2-test .taken)) (λ c. c .loop2-test .taken)
+    (λ c. omega (arith, c .before .loop2-test .taken)) (λ c κs. tt) (λ c κs. tt)
+    (λ c κs. next-phase _ _ _ _ _ (c .before .before .before .before .before .loop2 .inv .0)
+    (c .before .before .before .before .loop2-test .taken))
+    (λ c. omega (arith, c .before .before .before .before .before .before .loop2-test .taken))
+    (λ c. c .before .before .before .before .before .before .loop2-test .taken) put-points-requires
+    (λ c. omega (arith, c .before .before .before .before .loop2-test .taken))
+    (λ c. omega (arith, c .before .before .before .before .loop2-test .taken)) loop2-again
+    (λ c κs. still-timed _ _ _ _ _ (c .before .before .loop2 .inv .0)
+    (timed (c .before .before .before .before .before .before .before .before .before .before)))
+    (λ c κs. tt) (λ c κs. tt) put-passed-requires (λ c κs. tt) add-used-3 (λ c κs. tt)
+    (λ c κs. board-sound (c .before)) put-other-requires (λ c κs. tt) add-used-4 (λ c κs. tt) (λ c κs. tt)
     (λ c κs. tt)
-    (λ c κs. tt)
-    returns
-    loop-holds
-    sub-rest
-    part-rest-start
-    part-rest-end
-    sub-step-of
-    step-of-requires
-    (λ c. search needs)
-    (λ c κs. tt)
-    same-length
-    returns-2
-    (λ c. search needs)
-    (λ c κs. tt)
-    mul-timer
-    element-copy-out-timer
-    (λ c κs. tt)
-    plain-at-requires
-    put-byte-requires
-    reading-at-requires
-    put-byte-requires-2
-    add-used
-    (λ c. search needs)
-    (λ c κs. tt)
-    (λ c. search needs)
-    (λ c. search needs)
-    (λ c κs. tt)
-    (λ c. search needs)
-    (λ c κs. tt)
-    (λ c. search needs)
-    clock-after-requires
-    (λ c. search needs)
-    (λ c κs. tt)
-    mul-timer-after
-    element-copy-out-timer-after
-    timer-after-requires
-    mul-after
-    element-set-from-after
-    at-control-requires
-    put-header-requires
-    add-used-2
-    (λ c. search needs)
-    put-begun-requires
-    loop2-holds
-    mul-timer-2
-    element-copy-out-timer-2
-    cast-t84
-    (λ c κs. tt)
-    (λ c κs. tt)
-    advance-cycles-requires
-    mul-timer-after-2
-    element-set-from-timer-after
-    put-points-requires
-    add-i
-    loop2-less
-    loop2-again
-    advance-requires
-    (λ c κs. tt)
-    (λ c κs. tt)
-    put-passed-requires
-    (λ c κs. tt)
-    add-used-3
-    (λ c κs. tt)
-    changes-of-requires
-    put-other-requires
-    (λ c κs. tt)
-    add-used-4
-    (λ c κs. tt)
-    (λ c κs. tt)
-    (λ c κs. tt)
-    add-calls
+    (λ c. let u = c .before .before in omega
+    (arith, u .before .before .before .loop .inv .calls-in, u .before .before .loop-test .taken, u .before .before .before .before .before .before .before .before .good))
     add-written
-    loop-less
-    loop-again
-    (λ c κs. tt)
-    same-length-2
-    returns-3)
+    (λ c. let m = c .before .before in let u = m .before in let k = served m in omega
+    (arith, u .before .before .loop-test .taken, k .used, call-least (callAt (restOf u))))
+    loop-again (λ c κs. tt) (λ c. omega (arith, c .before .before .loop .inv .same)) returns-3)

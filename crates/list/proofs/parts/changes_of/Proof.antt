@@ -1,68 +1,25 @@
 -- `changes_of` meets its contract. Assumes nothing.
-use Rattle.list.proofs.CallParts.{
-  host-changes,
-  source-changes,
-  read-changes,
-  write-changes,
-  output-changes,
-  deadline-changes,
-  rest-changes,
-}
+use mathlib.Core.Path.{refl}
+use Rattle.wide.proofs.Forms.{wide-value}
+use Rattle.format.specs.Format.{membersBytes, valueBytes}
+use Rattle.list.proofs.CallParts.{rest-changes}
 use borrow.Author.Needs.{needs}
 use Rattle.list.proofs.parts.changes_of.Statement.{statement}
 use Rattle.list.proofs.parts.changes_of.Tie as tie
 
-returns : tie.Need-returns
-returns c = host-changes _ _ _ _ (c .before .step .given .1)
-
-returns-2 : tie.Need-returns-2
-returns-2 c = source-changes _ _ _ _ (c .before .before .step2 .given .1) _ (c .with-source .ensures)
-
-returns-3 : tie.Need-returns-3
-returns-3 c = read-changes _ _ _ (c .before .before .step3 .given .1) _ (c .read-of .ensures)
-
-returns-4 : tie.Need-returns-4
-returns-4 c = write-changes _ _ _ _ (c .before .before .step4 .given .1) _ (c .written .ensures)
-
-returns-5 : tie.Need-returns-5
-returns-5 c =
-    output-changes _ _ (c .before .before .enum-told .given .1) _ (c .before .output-of .ensures) _
-    (c .flag .ensures)
-
-returns-6 : tie.Need-returns-6
-returns-6 c =
-    deadline-changes _ _ (c .before .before .before .before .enum-told2 .given .1) _
-    (c .before .before .before .deadline-members .ensures) _ (c .flag2 .ensures)
-
-returns-7 : tie.Need-returns-7
-returns-7 c =
-    let s = c .before .before .before .before .before .before in
-    rest-changes _ (s .pre) (s .args .step) (c .before .before .match .keys7) _ (c .before .level-of .ensures) _
-    (c .flag3 .ensures)
-
 pub changes-of-spec : {M : Type 1} → statement M
+unfolding membersBytes valueBytes
 changes-of-spec =
     tie.close
-    (tie.spec
-    (λ c. search needs)
-    (λ c. search needs)
-    (λ c κs. search needs)
-    (λ c. search needs)
-    (λ c κs. search needs)
-    (λ c. search needs)
-    (λ c κs. search needs)
-    (λ c. search needs)
-    (λ c κs. search needs)
-    (λ c κs. search needs)
-    (λ c. search needs)
-    (λ c κs. search needs)
-    (λ c κs. search needs)
-    (λ c κs. search needs)
-    (λ c κs. search needs)
-    returns
-    returns-2
-    returns-3
-    returns-4
-    returns-5
-    returns-6
-    returns-7)
+    (tie.spec (λ c. search needs) (λ c. search needs) (λ c κs. search needs) (λ c. search needs)
+    (λ c κs. search needs) (λ c. search needs) (λ c κs. search needs) (λ c. search needs) (λ c κs. search needs)
+    (λ c κs. search needs) (λ c. search needs) (λ c κs. search needs) (λ c κs. search needs) (λ c κs. search needs)
+    (λ c κs. search needs) (λ c. rw (c .before .step .given .1) (refl, refl))
+    (λ c. rw (c .before .before .step2 .given .1, c .with-source .ensures) (refl, refl))
+    (λ c. rw (c .before .before .step3 .given .1, c .read-of .ensures) (refl, refl))
+    (λ c. rw (c .before .before .step4 .given .1, c .written .ensures) (refl, refl))
+    (λ c. rw (c .before .before .enum-told .given .1, c .flag .ensures, c .before .output-of .ensures) (refl, refl))
+    (λ c. let m = c .before .before .before in
+    rw (m .before .enum-told2 .given .1, c .flag2 .ensures, m .deadline-members .ensures, wide-value) (refl, refl))
+    (λ c. let s = c .before .before .before .before .before .before in rest-changes _ (s .pre) (s .args .step)
+    (c .before .before .match .keys7) _ (c .before .level-of .ensures) _ (c .flag3 .ensures)))

@@ -5,27 +5,11 @@ use borrow.Author.Needs.{needs}
 use Rattle.list.proofs.parts.put_begun.Statement.{statement}
 use Rattle.list.proofs.parts.put_begun.Tie as tie
 
-put-no-counts-requires : tie.Need-put-no-counts-requires
-put-no-counts-requires c κs = omega (arith, c .before .before .before .pre .0 (c .before .if1 .taken))
-
-returns : tie.Need-returns
-unfolding begunPut
-returns c =
-    rw (c .before .before .before .before .if1 .taken) (c .before .before .put-no-counts .ensures)
-
-returns-2 : tie.Need-returns-2
-unfolding begunPut
-returns-2 c = rw (c .before .before .before .before .if1 .left) (c .before .before .put .ensures)
-
 pub put-begun-spec : {M : Type 1} → statement M
+unfolding begunPut
 put-begun-spec =
     tie.close
-    (tie.spec
-    (λ c. search needs)
-    put-no-counts-requires
-    (λ c. search needs)
-    (λ c κs. search needs)
-    (λ c. search needs)
-    returns
-    (λ c. search needs)
-    returns-2)
+    (tie.spec (λ c. search needs) (λ c κs. omega (arith, c .before .before .before .pre .0 (c .before .if1 .taken)))
+    (λ c. search needs) (λ c κs. search needs) (λ c. search needs)
+    (λ c. rw (c .before .before .before .before .if1 .taken) (c .before .before .put-no-counts .ensures))
+    (λ c. search needs) (λ c. rw (c .before .before .before .before .if1 .left) (c .before .before .put .ensures)))

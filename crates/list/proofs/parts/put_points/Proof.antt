@@ -5,38 +5,16 @@ use borrow.Author.Needs.{needs}
 use Rattle.list.proofs.parts.put_points.Statement.{statement}
 use Rattle.list.proofs.parts.put_points.Tie as tie
 
-add-put-count : tie.Need-add-put-count
-add-put-count c =
-    let s = c .before .before .before in
-    omega (arith, s .pre .1 (c .before .if1 .taken) .0, s .good)
-
-add-put-count-2 : tie.Need-add-put-count-2
-add-put-count-2 c =
-    let s = c .before .before .before in
-    omega (arith, s .pre .0, s .pre .1 (c .before .if1 .taken) .0, s .good)
-
-put-count-requires : tie.Need-put-count-requires
-put-count-requires c κs =
-    let s = c .before .before .before in
-    let r = s .pre .1 (c .before .if1 .taken) in
-    (omega (arith, s .pre .0, r .0), r .1)
-
-returns : tie.Need-returns
-unfolding countPut
-returns c = rw (c .before .before .before .before .if1 .taken) (c .before .before .put-count .ensures)
-
-returns-2 : tie.Need-returns-2
-unfolding countPut
-returns-2 c = rw (c .if1 .left)
-
 pub put-points-spec : {M : Type 1} → statement M
+unfolding countPut
 put-points-spec =
     tie.close
-    (tie.spec
-    add-put-count
+    (tie.spec (λ c. let s = c .before .before .before in omega (arith, s .pre .1 (c .before .if1 .taken) .0, s .good))
     (λ c. search needs)
-    add-put-count-2
-    put-count-requires
+    (λ c. let s = c .before .before .before in omega
+    (arith, s .pre .0, s .pre .1 (c .before .if1 .taken) .0, s .good))
+    (λ c κs. let s = c .before .before .before in let r = s .pre .1 (c .before .if1 .taken) in
+    (omega (arith, s .pre .0, r .0), r .1))
     (λ c. search needs)
-    returns
-    returns-2)
+    (λ c. rw (c .before .before .before .before .if1 .taken) (c .before .before .put-count .ensures))
+    (λ c. rw (c .if1 .left)))

@@ -6,18 +6,9 @@ use borrow.Author.Needs.{needs}
 use Rattle.list.proofs.parts.record_length.Statement.{statement}
 use Rattle.list.proofs.parts.record_length.Tie as tie
 
-add-result : tie.Need-add-result
-add-result c =
-    let s = c .before .before in
-    let b = record-bytes (otherCall (s .before .args .step)) _ (s .tag-of .ensures) _
-    (c .before .lengths-of .ensures) in
-    omega (arith, b .0)
-
-returns : tie.Need-returns
-returns c =
-    let s = c .before .before in
-    record-bytes (otherCall (s .before .args .step)) _ (s .tag-of .ensures) _
-    (c .before .lengths-of .ensures) .1
-
 pub record-length-spec : {M : Type 1} → statement M
-record-length-spec = tie.close (tie.spec (λ c κs. search needs) (λ c κs. search needs) add-result returns)
+record-length-spec = tie.close (tie.spec (λ c κs. search needs) (λ c κs. search needs)
+    (λ c. let s = c .before .before in let b = record-bytes (otherCall (s .before .args .step)) _
+    (s .tag-of .ensures) _ (c .before .lengths-of .ensures) in omega (arith, b .0))
+    (λ c. let s = c .before .before in record-bytes (otherCall (s .before .args .step)) _ (s .tag-of .ensures) _
+    (c .before .lengths-of .ensures) .1))

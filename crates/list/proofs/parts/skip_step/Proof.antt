@@ -4,21 +4,11 @@ use borrow.Author.Needs.{needs}
 use Rattle.list.proofs.parts.skip_step.Statement.{statement}
 use Rattle.list.proofs.parts.skip_step.Tie as tie
 
-returns : tie.Need-returns
-returns c =
-    let s = c .before .before in
-    skip-refuses (s .before .args .board) _ (s .skip-length .ensures) (c .if1 .taken)
-
-returns-2 : tie.Need-returns-2
-returns-2 c =
-    let s = c .before .before .before .before in
-    skip-passes (s .before .args .board) _ (s .skip-length .ensures) (c .before .before .if1 .left)
-    (c .before .if2 .taken)
-
-returns-3 : tie.Need-returns-3
-returns-3 c =
-    let s = c .before .before .before in
-    skip-stays (s .before .args .board) _ (s .skip-length .ensures) (c .before .if1 .left) (c .if2 .left)
-
 pub skip-step-spec : {M : Type 1} → statement M
-skip-step-spec = tie.close (tie.spec (λ c κs. search needs) returns returns-2 returns-3)
+skip-step-spec = tie.close (tie.spec (λ c κs. search needs)
+    (λ c. let s = c .before .before in skip-refuses (s .before .args .board) _ (s .skip-length .ensures)
+    (c .if1 .taken))
+    (λ c. let s = c .before .before .before .before in skip-passes (s .before .args .board) _
+    (s .skip-length .ensures) (c .before .before .if1 .left) (c .before .if2 .taken))
+    (λ c. let s = c .before .before .before in skip-stays (s .before .args .board) _ (s .skip-length .ensures)
+    (c .before .if1 .left) (c .if2 .left)))

@@ -4,23 +4,9 @@ use borrow.Author.Needs.{needs}
 use Rattle.list.proofs.parts.tag_of.Statement.{statement}
 use Rattle.list.proofs.parts.tag_of.Tie as tie
 
-returns-7 : tie.Need-returns-7
-returns-7 c = rest-tag (c .before .args .step) (c .match .keys7)
-
 pub tag-of-spec : {M : Type 1} → statement M
 tag-of-spec =
     tie.close
-    (tie.spec
-    (λ c. search needs)
-    (λ c. search needs)
-    (λ c. search needs)
-    (λ c. search needs)
-    (λ c. search needs)
-    (λ c. search needs)
-    (λ c. search needs)
-    (λ c. search needs)
-    (λ c. search needs)
-    (λ c. search needs)
-    (λ c. search needs)
-    (λ c. search needs)
-    returns-7)
+    (tie.spec (λ c. search needs) (λ c. search needs) (λ c. search needs) (λ c. search needs) (λ c. search needs)
+    (λ c. search needs) (λ c. search needs) (λ c. search needs) (λ c. search needs) (λ c. search needs)
+    (λ c. search needs) (λ c. search needs) (λ c. rest-tag (c .before .args .step) (c .match .keys7)))
