@@ -30,17 +30,17 @@ use Rattle.board.specs.Calls.{
 use Rattle.board.specs.Demand.{PassesTime, after, afterAll, cyclesPassed, PromiseAfter}
 use Rattle.board.proofs.Soundness.{wired-line}
 use Rattle.board.proofs.Good.{Good, good, good-sound}
-use Rattle.board.proofs.Steps.{call-step}
 use Rattle.board.proofs.Answers.{answer-accepted}
 use Rattle.board.proofs.Demand3.{demand-3}
+use Rattle.registers.proofs.Kept.{call-keeps}
 use Rattle.format.specs.Format.{membersBytes, answerBytes, recordOf}
 use Rattle.format.specs.Codec.{frameRefusal, callAt, callLength, answerRecord}
-use Rattle.format.proofs.Frames.{framed}
+use Rattle.format.proofs.Frames.{framed, call-fits}
 use Rattle.list.specs.declared.Outcome.{Outcome}
 use Rattle.list.specs.Run.{Result, done, refused, resultOf, stepped, Run, runOn, nothingDone, runOf}
 use Rattle.list.specs.Demand.{FrontIs, ListIs}
 use Rattle.list.proofs.Results.{refused-numbered, done-placed, done-fits}
-use Rattle.list.proofs.Runs.{go-on, stop-at}
+use Rattle.list.proofs.Runs.{go-on, stop-at, rest-bytes}
 use Rattle.list.proofs.TwoParts.{result-before, joined, two-parts}
 use Rattle.list.proofs.Kept.{began-sound, run-keeps}
 
@@ -121,18 +121,23 @@ one-more a calls s b n x r e c = record {
   all = λ z. ap suc (c .all z);
 }
 
-done-good : (rate : ℕ) (a : Call) → PassesTime a → (s : Outcome) (b : Board) (n : ℕ) (x : List ℕ) →
-    Good rate (s .board) → b ≡ after a (s .board) → Good rate (stepped s (done b n x) .board)
+-- the call at the front of bytes leaves a good board
+done-good : (rate : ℕ) (l : List ℕ) → ((i : ℕ) → getD l i 0 < 256) → (room : ℕ) (s : Outcome) (b : Board) (n : ℕ)
+    (x : List ℕ) → Good rate (s .board) → resultOf (s .board) l room ≡ done b n x →
+    Good rate (stepped s (done b n x) .board)
 unfolding stepped
-done-good rate a w s b n x g e = subst (Good rate) (sym e) (call-step a w (s .board) g .good)
+done-good rate l bytes room s b n x g e =
+    let p = done-placed (s .board) l room b n x e in
+    subst (Good rate) (sym (p .1 .1 .1 .0))
+    (call-keeps (callAt l) rate (s .board) (call-fits l bytes) g (p .0 .own))
 
-carried : (rate : ℕ) (calls : List Call) → All PassesTime calls → (l : List ℕ) (room : ℕ) (s : Outcome)
+carried : (rate : ℕ) (calls : List Call) (l : List ℕ) → ((i : ℕ) → getD l i 0 < 256) → (room : ℕ) (s : Outcome)
     (out : List ℕ) → Good rate (s .board) → ListIs l calls → Carried calls s (runOn 0 l room s out)
 unfolding ListIs
-carried rate [] w l room s out g e = rw e (none-at-end room s out)
-carried rate (a ∷ calls) w l room s out g h =
-    onward (λ n o x q i. carried rate calls (w .1) (drop n l) room o x q i) (resultOf (s .board) l (room - length out))
-    refl
+carried rate [] l bytes room s out g e = rw e (none-at-end room s out)
+carried rate (a ∷ calls) l bytes room s out g h =
+    onward (λ n o x q i. carried rate calls (drop n l) (rest-bytes l (drop n l) n refl bytes) room o x q i)
+    (resultOf (s .board) l (room - length out)) refl
   where
     inside : 0 < length l
     inside = omega (arith, framed l (h .0 .0))
@@ -148,25 +153,24 @@ carried rate (a ∷ calls) w l room s out g h =
         let q = done-after l (s .board) (room - length out) a (h .0) (good-sound g) b n x e in
         subst (Carried (a ∷ calls) s) (sym (go-on l room s out inside b n x e))
         (one-more a calls s b n x (runOn 0 (drop n l) room (stepped s (done b n x)) (out ++ x)) q
-        (next n (stepped s (done b n x)) (out ++ x) (done-good rate a (w .0) s b n x g q)
+        (next n (stepped s (done b n x)) (out ++ x) (done-good rate l bytes (room - length out) s b n x g e)
         (subst (λ (k : ℕ). ListIs (drop k l) calls)
         (sym (done-length l (s .board) (room - length out) a (h .0) b n x e)) (h .1))))
 
--- a run's board is the board after the calls that it has carried out
-pub run-after : (b : Board) (l : List ℕ) (room : ℕ) (calls : List Call) → All PassesTime calls → BoardFits b →
-    sound b ≡ true → ListIs l calls → runOf b l room .outcome .board ≡ afterAll (take (runOf b l room .outcome .calls) calls) b
-unfolding runOf
-run-after b l room calls w f s h =
-    let c = carried (rateOf (b .clock)) calls w l room (nothingDone b 0) [] (good b f s) h in
-    rw s (c .board ∙ ap (λ (n : ℕ). afterAll (take n calls) b) (sym (c .counted ∙ zero-add (c .count))))
+module _ (b : Board) (l : List ℕ) (room : ℕ) (calls : List Call) (f : BoardFits b) (s : sound b ≡ true)
+    (bytes : (i : ℕ) → getD l i 0 < 256) (h : ListIs l calls) where
+  C : Carried calls (nothingDone b 0) (runOn 0 l room (nothingDone b 0) [])
+  C = carried (rateOf (b .clock)) calls l bytes room (nothingDone b 0) [] (good b f s) h
 
--- a run that is not refused has carried out all of them
-run-all : (b : Board) (l : List ℕ) (room : ℕ) (calls : List Call) → All PassesTime calls → BoardFits b →
-    sound b ≡ true → ListIs l calls → runOf b l room .outcome .refusal ≡ 0 → runOf b l room .outcome .calls ≡ length calls
-unfolding runOf
-run-all b l room calls w f s h z =
-    let c = carried (rateOf (b .clock)) calls w l room (nothingDone b 0) [] (good b f s) h in
-    rw s (c .counted ∙ zero-add (c .count) ∙ c .all (rw s at z))
+  -- a run's board is the board after the calls that it has carried out
+  pub run-after : runOf b l room .outcome .board ≡ afterAll (take (runOf b l room .outcome .calls) calls) b
+  unfolding runOf
+  run-after = rw s (C .board ∙ ap (λ (n : ℕ). afterAll (take n calls) b) (sym (C .counted ∙ zero-add (C .count))))
+
+  -- a run that is not refused has carried out all of them
+  run-all : runOf b l room .outcome .refusal ≡ 0 → runOf b l room .outcome .calls ≡ length calls
+  unfolding runOf
+  run-all z = rw s (C .counted ∙ zero-add (C .count) ∙ C .all (rw s at z))
 
 -- ---- bytes behind the calls
 
@@ -223,6 +227,11 @@ bytes-before [] m h i = omega arith
 bytes-before (x ∷ l) m h zero = h 0
 bytes-before (x ∷ l) m h (suc i) = bytes-before l m (λ j. h (suc j)) i
 
+-- and behind
+bytes-behind : (l m : List ℕ) → ((i : ℕ) → getD (l ++ m) i 0 < 256) → (i : ℕ) → getD m i 0 < 256
+bytes-behind [] m h i = h i
+bytes-behind (x ∷ l) m h i = bytes-behind l m (λ j. h (suc j)) i
+
 -- a run over a sound board is refused inside the calls: what stands behind them has no part in it
 run-ends : (b : Board) (l m : List ℕ) (room : ℕ) (calls : List Call) → sound b ≡ true → ListIs l calls →
     (runOf b l room .outcome .refusal ≡ 0 → ⊥) → runOf b (l ++ m) room ≡ runOf b l room
@@ -269,8 +278,8 @@ module _ (b : Board) (first stretch last : List ℕ) (room : ℕ) (calls : List 
   Alone = runOf AtStart stretch (room - length (Before .answers))
 
   -- by parts: the run through the stretch is the run up to it, and then the stretch by itself
-  module _ (e : Through ≡ joined Before Alone) (g : Good (rateOf (b .clock)) AtStart) (w : All PassesTime calls)
-      (h : ListIs stretch calls) where
+  module _ (e : Through ≡ joined Before Alone) (g : Good (rateOf (b .clock)) AtStart)
+      (bytes : (i : ℕ) → getD stretch i 0 < 256) (h : ListIs stretch calls) where
     starts-sound : sound AtStart ≡ true
     starts-sound = good-sound g
 
@@ -280,12 +289,12 @@ module _ (b : Board) (first stretch last : List ℕ) (room : ℕ) (calls : List 
     ends-at : Through .outcome .board ≡ afterAll CarriedOut AtStart
     ends-at =
         ap (λ (q : Run). q .outcome .board) e
-        ∙ run-after AtStart stretch (room - length (Before .answers)) calls w (g .fits) starts-sound h
+        ∙ run-after AtStart stretch (room - length (Before .answers)) calls (g .fits) starts-sound bytes h
         ∙ ap (λ (k : ℕ). afterAll (take k calls) AtStart) counts
 
     carries-all : Through .outcome .refusal ≡ 0 → CarriedOut ≡ calls
     carries-all z =
-        let n = run-all AtStart stretch (room - length (Before .answers)) calls w (g .fits) starts-sound h
+        let n = run-all AtStart stretch (room - length (Before .answers)) calls (g .fits) starts-sound bytes h
         (sym (ap (λ (q : Run). q .outcome .refusal) e) ∙ z) in
         take-all (Through .outcome .calls - Before .outcome .calls) calls (omega (arith, counts, n))
 
@@ -296,11 +305,12 @@ module _ (b : Board) (first stretch last : List ℕ) (room : ℕ) (calls : List 
       fromHost (AtStart .clock .control) ≡ false → Stretch
   run-demand-3 f bytes w h z low o =
       let few = bytes-before first stretch bytes in
+      let those = bytes-behind first stretch bytes in
       let g = run-keeps b first room f few (began-sound b first room z) in
       let e = two-parts b first stretch room f few z in
       record {
-        board = ends-at e g w h;
-        all = carries-all e g w h;
+        board = ends-at e g those h;
+        all = carries-all e g those h;
         promise = demand-3 AtStart (g .fits) (good-sound g) low o CarriedOut
             (all-take PassesTime (Through .outcome .calls - Before .outcome .calls) calls w);
         goes-on = two-parts b (first ++ stretch) last room f bytes;
