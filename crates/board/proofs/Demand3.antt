@@ -25,14 +25,15 @@ use Rattle.board.specs.Demand.{
   PromiseAfter,
   Promise,
 }
-use Rattle.board.proofs.Good.{Good, good}
-use Rattle.board.proofs.Steps.{boardDue, line-due, Step, call-step}
+use Rattle.board.proofs.Good.{Good}
+use Rattle.board.proofs.Steps.{boardDue, line-due, Step}
+use Rattle.board.proofs.Calm.{calm, calm-line, calm-due, calm-good, calm-step}
 
 -- ---- a list of calls
 
--- y is x after c cycles in some number of calls; p is source 3's pending bit at the start
+-- y is x after c cycles in some number of calls, and good when it is calm; p is source 3's pending bit at the start
 record Ran (rate : ℕ) (p : Bool) (c : ℕ) (x y : Board) : Type 0 where
-  good : Good rate y
+  good : Good rate (calm y)
   due : (t : ℕ) → boardDue y t ≡ boardDue x (c + t)
   source : source3 y ≡ (p || line y)
 
@@ -55,7 +56,11 @@ high-due : (b : Board) (t : ℕ) → line b ≡ true → boardDue b t ≡ true
 unfolding boardDue
 high-due b t e = rw e
 
-ran : {rate : ℕ} (p : Bool) (calls : List Call) → All PassesTime calls → (b : Board) → Good rate b →
+-- the line of a board that is good when it is calm is what is due at once
+now-due : {rate : ℕ} (b : Board) → Good rate (calm b) → line b ≡ boardDue b 0
+now-due b g = sym (calm-line b) ∙ line-due (calm b) g ∙ calm-due b 0
+
+ran : {rate : ℕ} (p : Bool) (calls : List Call) → All PassesTime calls → (b : Board) → Good rate (calm b) →
     fromHost (b .clock .control) ≡ false → source3 b ≡ (p || line b) →
     Ran rate p (cyclesPassed calls b) b (afterAll calls b)
 unfolding afterAll cyclesPassed
@@ -63,16 +68,22 @@ ran p [] w b g o h = record { good = g; due = λ t. ap (boardDue b) (sym (zero-a
 ran {rate} p (a ∷ calls) w b g o h =
     onto
     (ran p calls (w .1) y (S .good) (S .own o)
-    (S .source ∙ ap (λ v. (line y && not (line b)) || v) h ∙ latched p (line b) (line y) stays))
+    (rises ∙ ap (λ v. (line y && not (line b)) || v) h ∙ latched p (line b) (line y) stays))
   where
     y : Board
     y = after a b
 
-    S : Step rate (adds a b) b y
-    S = call-step a (w .0) b g
+    S : Step rate (adds a b) (calm b) (calm y)
+    S = calm-step b g o a (w .0)
+
+    moves : (t : ℕ) → boardDue y t ≡ boardDue b (adds a b + t)
+    moves t = sym (calm-due y t) ∙ S .due o t ∙ calm-due b (adds a b + t)
+
+    rises : source3 y ≡ ((line y && not (line b)) || source3 b)
+    rises = rw (calm-line y, calm-line b) at (S .source)
 
     stays : line b ≡ true → line y ≡ true
-    stays e = line-due y (S .good) ∙ S .due o 0 ∙ high-due b (adds a b + 0) e
+    stays e = now-due y (S .good) ∙ moves 0 ∙ high-due b (adds a b + 0) e
 
     onto : Ran rate p (cyclesPassed calls y) y (afterAll calls y) →
         Ran rate p (adds a b + cyclesPassed calls y) b (afterAll calls y)
@@ -81,7 +92,7 @@ ran {rate} p (a ∷ calls) w b g o h =
           good = R .good;
           due = λ t.
               R .due t
-              ∙ S .due o (cyclesPassed calls y + t)
+              ∙ moves (cyclesPassed calls y + t)
               ∙ ap (boardDue b) (sym (add-assoc (adds a b) (cyclesPassed calls y) t));
           source = R .source;
         }
@@ -99,12 +110,12 @@ or-iff v false a t e =
 module _ (b : Board) (f : BoardFits b) (s : sound b ≡ true) (low : line b ≡ false)
     (o : fromHost (b .clock .control) ≡ false) (calls : List Call) (w : All PassesTime calls) where
   R : Ran (rateOf (b .clock)) (source3 b) (cyclesPassed calls b) b (afterAll calls b)
-  R = ran (source3 b) calls w b (good b f s) o (sym (ap (λ v. source3 b || v) low ∙ or-false (source3 b)))
+  R = ran (source3 b) calls w b (calm-good b f s) o (sym (ap (λ v. source3 b || v) low ∙ or-false (source3 b)))
 
   -- the line after the list is what was due
   pub line-after : line (afterAll calls b) ≡ due (exactDeadline b) (cyclesPassed calls b)
   unfolding boardDue
-  line-after = line-due (afterAll calls b) (R .good) ∙ R .due 0 ∙ rw (low, add-zero)
+  line-after = now-due (afterAll calls b) (R .good) ∙ R .due 0 ∙ rw (low, add-zero)
 
   pub source-after : source3 (afterAll calls b) ≡ (source3 b || due (exactDeadline b) (cyclesPassed calls b))
   source-after = R .source ∙ ap (λ v. source3 b || v) line-after

@@ -6,6 +6,7 @@ pub mod Soundness
 pub mod Good
 pub mod Kept
 pub mod Steps
+pub mod Calm
 pub mod Demand3
 pub mod Answers
 pub mod Corollaries

@@ -163,7 +163,7 @@ module _ (c : ℕ) (b : Board) {rate : ℕ} (g : Good rate b) where
           (ap (λ v. channelsDue e 0 (b .timers) c || v) (sym (due-host (rateOf (b .clock)) (b .clock) c h))
           ∙ sym (due-parts b c) ∙ ap (λ v. line b || v) d ∙ or-true (line b)))
 
-same-step : {rate : ℕ} (b : Board) → Good rate b → Step rate 0 b b
+pub same-step : {rate : ℕ} (b : Board) → Good rate b → Step rate 0 b b
 same-step b g =
     record {
       good = g;
@@ -183,7 +183,7 @@ module _ (h : HostTimeOf) (b : Board) {rate : ℕ} (w : h .seconds < 2 ^ 64) (n 
       ∙ ap (λ v. channelsDue (b .«timer_enable») 0 (b .timers) t || v) (host-due (rateOf (b .clock)) h (b .clock) t)
       ∙ sym (due-parts b t)
 
-  host-step : Step rate 0 b (boardAfter (hostTimeTo h) b)
+  pub host-step : Step rate 0 b (boardAfter (hostTimeTo h) b)
   unfolding wired
   host-step =
       record {
@@ -195,30 +195,43 @@ module _ (h : HostTimeOf) (b : Board) {rate : ℕ} (w : h .seconds < 2 ^ 64) (n 
 
 -- ---- a call, refused or not
 
-advance-accepted : (c : ℕ) (b : Board) → sound b ≡ true →
+pub advance-accepted : (c : ℕ) (b : Board) → sound b ≡ true →
     (after (advanceBy c) b ≡ advancedBoard c b) × (adds (advanceBy c) b ≡ c)
 unfolding after adds answerOf advancedBoard
 advance-accepted c b e = (rw (e, after), rw (e, adds))
 
-host-accepted : (h : HostTimeOf) (b : Board) → sound b ≡ true → leb nanosPerSecond (h .nanoseconds) ≡ false →
+pub host-accepted : (h : HostTimeOf) (b : Board) → sound b ≡ true → leb nanosPerSecond (h .nanoseconds) ≡ false →
     after (hostTimeTo h) b ≡ boardAfter (hostTimeTo h) b
 unfolding after answerOf hostTimeRefusal
 host-accepted h b e n = rw (n, e, after)
 
-host-refused : (h : HostTimeOf) (b : Board) → sound b ≡ true → leb nanosPerSecond (h .nanoseconds) ≡ true →
+pub host-refused : (h : HostTimeOf) (b : Board) → sound b ≡ true → leb nanosPerSecond (h .nanoseconds) ≡ true →
     after (hostTimeTo h) b ≡ b
 unfolding after answerOf hostTimeRefusal
 host-refused h b e n = rw (n, e, after)
 
-host-adds : (h : HostTimeOf) (b : Board) → adds (hostTimeTo h) b ≡ 0
+pub host-adds : (h : HostTimeOf) (b : Board) → adds (hostTimeTo h) b ≡ 0
 unfolding adds
 host-adds h b = either (eqb (answerOf (hostTimeTo h) b .refusal) 0) (λ e. rw e) (λ e. rw e)
 
+-- an advance, and a host time whose seconds are a word
+module _ {rate : ℕ} (b : Board) (g : Good rate b) where
+  pub advance-call-step : (c : ℕ) → Step rate (adds (advanceBy c) b) b (after (advanceBy c) b)
+  advance-call-step c = let e = advance-accepted c b (good-sound g) in rw (e .0, e .1) (advance-step c b g)
+
+  pub host-call-step : (h : HostTimeOf) → h .seconds < 2 ^ 64 →
+      Step rate (adds (hostTimeTo h) b) b (after (hostTimeTo h) b)
+  host-call-step h w =
+      rw (host-adds h b)
+      (either (leb nanosPerSecond (h .nanoseconds)) (λ e. rw (host-refused h b (good-sound g) e) (same-step b g))
+      (λ e. rw (host-accepted h b (good-sound g) e)
+      (host-step h b w (leb-false nanosPerSecond (h .nanoseconds) e) g)))
+
 -- a call of the promise's lists is one of two
-pub passing-cases : (P : Call → Type 0) → ((h : HostTimeOf) → h .seconds < 2 ^ 64 → P (hostTimeTo h)) →
-    ((c : ℕ) → P (advanceBy c)) → (call : Call) → PassesTime call → P call
+pub passing-cases : (P : Call → Type 0) → ((h : HostTimeOf) → P (hostTimeTo h)) → ((c : ℕ) → P (advanceBy c)) →
+    (call : Call) → PassesTime call → P call
 passing-cases P host advance (HostTime nanoseconds seconds) p =
-    host (record { seconds = seconds; nanoseconds = nanoseconds }) p
+    host (record { seconds = seconds; nanoseconds = nanoseconds })
 passing-cases P host advance (Read address) p = absurd p
 passing-cases P host advance (Write byte address) p = absurd p
 passing-cases P host advance (Advance c) p = advance (c .0)
@@ -228,19 +241,3 @@ passing-cases P host advance (Source number level) p = absurd p
 passing-cases P host advance (ControllerRead address) p = absurd p
 passing-cases P host advance (ControllerWrite byte address) p = absurd p
 passing-cases P host advance Output p = absurd p
-
-pub call-step : {rate : ℕ} (call : Call) → PassesTime call → (b : Board) → Good rate b →
-    Step rate (adds call b) b (after call b)
-call-step {rate} call p b g =
-    passing-cases (λ a. Step rate (adds a b) b (after a b)) hosts
-    (λ c. let e = advance-accepted c b s in rw (e .0, e .1) (advance-step c b g))
-    call p
-  where
-    s : sound b ≡ true
-    s = good-sound g
-
-    hosts : (h : HostTimeOf) → h .seconds < 2 ^ 64 → Step rate (adds (hostTimeTo h) b) b (after (hostTimeTo h) b)
-    hosts h w =
-        rw (host-adds h b)
-        (either (leb nanosPerSecond (h .nanoseconds)) (λ e. rw (host-refused h b s e) (same-step b g))
-        (λ e. rw (host-accepted h b s e) (host-step h b w (leb-false nanosPerSecond (h .nanoseconds) e) g)))

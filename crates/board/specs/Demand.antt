@@ -1,7 +1,7 @@
 -- What is promised of the deadline: of a sound board with its line low and its clock not running from host time,
 -- after any list of advances and host-time calls, the line and source 3 by the deadline that the board gave. And what
 -- is promised of a skip.
-use Prim.Native.Nat.{ℕ, _+_, _^_, _≤_, _<_, min}
+use Prim.Native.Nat.{ℕ, _+_, _≤_, min}
 use mathlib.Core.Path.{_≡_}
 use mathlib.Core.Logic.{_↔_, _⊎_}
 use mathlib.Core.Bool.{Bool, true, false, cond}
@@ -30,9 +30,9 @@ use Rattle.board.specs.declared.calls.Call.the-variants.{
 use Rattle.board.specs.Loops.{All}
 use Rattle.board.specs.Calls.{answerOf}
 
--- a call of the promise's lists: an advance, or a host-time call with seconds of eight bytes
+-- a call of the promise's lists: an advance, or a host-time call
 abbrev pub PassesTime : Call → Type 0
-PassesTime (HostTime nanoseconds seconds) = seconds < 2 ^ 64
+PassesTime (HostTime nanoseconds seconds) = Unit {0}
 PassesTime (Read address) = ⊥
 PassesTime (Write byte address) = ⊥
 PassesTime (Advance c) = Unit {0}

@@ -61,7 +61,7 @@ argumentsOf (Write byte address) = address ∷ byte ∷ []
 argumentsOf (Advance c) = c .0 ∷ []
 argumentsOf Deadline = []
 argumentsOf Skip = []
-argumentsOf (Source number level) = number .0 ∷ level ∷ []
+argumentsOf (Source number level) = number ∷ level ∷ []
 argumentsOf (ControllerRead address) = address ∷ []
 argumentsOf (ControllerWrite byte address) = address ∷ byte ∷ []
 argumentsOf Output = []
@@ -101,7 +101,7 @@ callOf tag m =
     (cond (eqb tag 0x04) (Advance (record { 0 = argument 0 m }))
     (cond (eqb tag 0x05) Deadline
     (cond (eqb tag 0x06) Skip
-    (cond (eqb tag 0x07) (Source (record { 0 = argument 0 m }) (argument 1 m))
+    (cond (eqb tag 0x07) (Source (argument 0 m) (argument 1 m))
     (cond (eqb tag 0x08) (ControllerRead (argument 0 m))
     (cond (eqb tag 0x09) (ControllerWrite (argument 1 m) (argument 0 m))
     Output))))))))

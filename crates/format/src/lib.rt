@@ -8,7 +8,7 @@ ghost use lib.Seq.{sets};
 ghost use lib.Dec.{eqb};
 ghost use Rattle.wide.specs.Number.{valueOf};
 ghost use Rattle.wide.specs.Fields.{beAt, be};
-ghost use Rattle.board.specs.Calls.{advanceBy, sourceTo};
+ghost use Rattle.board.specs.Calls.{advanceBy};
 ghost use Rattle.format.specs.Format.{valueLength, lengthsOf, valueBytes};
 ghost use Rattle.format.specs.Codec.{tagOf};
 ghost use Rattle.format.specs.CodeDecode.{refusedBy, isFramed, framedAs, Unframed, Bare, decodedOf};
@@ -261,16 +261,16 @@ fn advance_at(rest: &[u8], room: usize) -> Decoded
 fn source_at(rest: &[u8], room: usize) -> Decoded
     requires { ⌜ 3 ≤ length (now rest) ⌝ }
     ensures { λ r. ⌜ r
-        ≡ framedAs 2 (sourceTo (beAt (now (rest .entry)) 3 1) (beAt (now (rest .entry)) 4 1))
+        ≡ framedAs 2 (Call.Source (beAt (now (rest .entry)) 3 1) (beAt (now (rest .entry)) 4 1))
         (now (rest .entry)) room ⌝ }
 {
     let lengths = lengths_of(7);
     if !framed(rest, lengths.value) {
         return unframed(rest, lengths.value);
     }
-    let number = SourceNumber(byte_at(rest, 3));
+    let number = byte_at(rest, 3);
     let level = byte_at(rest, 4);
-    let own = source_refusal(number, level);
+    let own = source_refusal(SourceNumber(number), level);
     if own != 0 {
         return refused(own);
     }

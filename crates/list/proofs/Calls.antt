@@ -236,7 +236,7 @@ module _ (b : Board) (s : sound b ≡ true) (at : ℕ) (buf : List ℕ) where
   other-does l room T.Deadline k h = (h .0, (h .1, (wired-sound b s, λ c x. x)))
   other-does l room (T.Source number level) k h =
       let z = rw (h .1) at (clear b l room (h .0) .own) in
-      (h .0, (h .1, (level-still _ refl (level-other (b .controller) 3 (number .0) (eqb level 1) (source-apart (number .0) level z)), λ c x. x)))
+      (h .0, (h .1, (level-still _ refl (level-other (b .controller) 3 number (eqb level 1) (source-apart number level z)), λ c x. x)))
   other-does l room (T.ControllerRead address) k h = (h .0, (h .1, (wired-sound b s, λ c x. x)))
   other-does l room (T.ControllerWrite byte address) k h =
       (h .0, (h .1, (level-still _ refl (ap (bit 3) (written-levels (b .controller) address byte)), λ c x. x)))

@@ -20,7 +20,6 @@ use Rattle.board.specs.Calls.{effectOf, DirectAnswer, refusalOf, boardAfter, is
 use Rattle.board.specs.Demand.{PassesTime, after, afterAll, cyclesPassed, PromiseAfter}
 use Rattle.board.proofs.Soundness.{wired-line}
 use Rattle.board.proofs.Good.{Good, good, good-sound}
-use Rattle.board.proofs.Steps.{call-step}
 use Rattle.board.proofs.Answers.{answer-accepted}
 use Rattle.board.proofs.Demand3.{demand-3}
 use Rattle.format.specs.Format.{membersBytes, answerBytes, recordOf}
@@ -29,8 +28,8 @@ use Rattle.format.proofs.Frames.{framed}
 use Rattle.list.specs.declared.Outcome.{Outcome}
 use Rattle.list.specs.Run.{Result, done, refused, resultOf, stepped, Run, runOn, nothingDone, runOf}
 use Rattle.list.specs.Demand.{FrontIs, ListIs}
-use Rattle.list.proofs.Results.{refused-numbered, done-placed, done-fits}
-use Rattle.list.proofs.Runs.{go-on, stop-at}
+use Rattle.list.proofs.Results.{refused-numbered, done-placed, done-fits, step-good}
+use Rattle.list.proofs.Runs.{go-on, stop-at, rest-bytes}
 use Rattle.list.proofs.TwoParts.{result-before, joined, two-parts}
 use Rattle.list.proofs.Kept.{began-sound, run-keeps}
 
@@ -100,13 +99,13 @@ one-more a calls s b n x r e c = record {
   all = λ z. ap suc (c .all z);
 }
 
-carried : (rate : ℕ) (calls : List Call) → All PassesTime calls → (l : List ℕ) (room : ℕ) (s : Outcome)
+carried : (rate : ℕ) (calls : List Call) (l : List ℕ) → ((i : ℕ) → getD l i 0 < 256) → (room : ℕ) (s : Outcome)
     (out : List ℕ) → Good rate (s .board) → ListIs l calls → Carried calls s (runOn 0 l room s out)
 unfolding ListIs runOn stepped
-carried rate [] w l room s out g e = rw e (none-carried [] s _ refl refl (λ _. refl))
-carried rate (a ∷ calls) w l room s out g h =
-    onward (λ n o x q i. carried rate calls (w .1) (drop n l) room o x q i) (resultOf (s .board) l (room - length out))
-    refl
+carried rate [] l bytes room s out g e = rw e (none-carried [] s _ refl refl (λ _. refl))
+carried rate (a ∷ calls) l bytes room s out g h =
+    onward (λ n o x q i. carried rate calls (drop n l) (rest-bytes l (drop n l) n refl bytes) room o x q i)
+    (resultOf (s .board) l (room - length out)) refl
   where
     inside : 0 < length l
     inside = omega (arith, framed l (h .0 .0))
@@ -123,16 +122,17 @@ carried rate (a ∷ calls) w l room s out g h =
         let q = done-after l (s .board) (room - length out) a (h .0) (good-sound g) b n x e in
         subst (Carried (a ∷ calls) s) (sym (go-on l room s out inside b n x e))
         (one-more a calls s b n x (runOn 0 (drop n l) room (stepped s (done b n x)) (out ++ x)) q
-        (next n (stepped s (done b n x)) (out ++ x) (subst (Good rate) (sym q) (call-step a (w .0) (s .board) g .good))
+        (next n (stepped s (done b n x)) (out ++ x)
+        (subst (λ (t : Result). Good rate (stepped s t .board)) e (step-good rate l bytes s g (room - length out)))
         (subst (λ (k : ℕ). ListIs (drop k l) calls)
         (sym (done-length l (s .board) (room - length out) a (h .0) b n x e)) (h .1))))
 
 -- a run over a sound board
-run-carried : (b : Board) (l : List ℕ) (room : ℕ) (calls : List Call) → All PassesTime calls → BoardFits b →
+run-carried : (b : Board) (l : List ℕ) (room : ℕ) (calls : List Call) → ((i : ℕ) → getD l i 0 < 256) → BoardFits b →
     sound b ≡ true → ListIs l calls → Carried calls (nothingDone b 0) (runOf b l room)
 unfolding runOf
-run-carried b l room calls w f s h =
-    rw s (carried (rateOf (b .clock)) calls w l room (nothingDone b 0) [] (good b f s) h)
+run-carried b l room calls bytes f s h =
+    rw s (carried (rateOf (b .clock)) calls l bytes room (nothingDone b 0) [] (good b f s) h)
 
 -- ---- bytes behind the calls
 
@@ -189,6 +189,11 @@ bytes-before [] m h i = omega arith
 bytes-before (x ∷ l) m h zero = h 0
 bytes-before (x ∷ l) m h (suc i) = bytes-before l m (λ j. h (suc j)) i
 
+-- and behind
+bytes-behind : (l m : List ℕ) → ((i : ℕ) → getD (l ++ m) i 0 < 256) → (i : ℕ) → getD m i 0 < 256
+bytes-behind [] m h i = h i
+bytes-behind (x ∷ l) m h i = bytes-behind l m (λ j. h (suc j)) i
+
 -- a run over a sound board is refused inside the calls: what stands behind them has no part in it
 run-ends : (b : Board) (l m : List ℕ) (room : ℕ) (calls : List Call) → sound b ≡ true → ListIs l calls →
     (runOf b l room .outcome .refusal ≡ 0 → ⊥) → runOf b (l ++ m) room ≡ runOf b l room
@@ -235,10 +240,10 @@ module _ (b : Board) (first stretch last : List ℕ) (room : ℕ) (calls : List 
   Alone = runOf AtStart stretch (room - length (Before .answers))
 
   -- by parts: the run through the stretch is the run up to it, and then the stretch by itself
-  module _ (e : Through ≡ joined Before Alone) (g : Good (rateOf (b .clock)) AtStart) (w : All PassesTime calls)
-      (h : ListIs stretch calls) where
+  module _ (e : Through ≡ joined Before Alone) (g : Good (rateOf (b .clock)) AtStart)
+      (bytes : (i : ℕ) → getD stretch i 0 < 256) (h : ListIs stretch calls) where
     alone : Carried calls (nothingDone AtStart 0) Alone
-    alone = run-carried AtStart stretch (room - length (Before .answers)) calls w (g .fits) (good-sound g) h
+    alone = run-carried AtStart stretch (room - length (Before .answers)) calls bytes (g .fits) (good-sound g) h
 
     counts : alone .count ≡ Through .outcome .calls - Before .outcome .calls
     counts = omega (arith, ap (λ (q : Run). q .outcome .calls) e, alone .counted)
@@ -260,11 +265,12 @@ module _ (b : Board) (first stretch last : List ℕ) (room : ℕ) (calls : List 
       fromHost (AtStart .clock .control) ≡ false → Stretch
   run-demand-3 f bytes w h z low o =
       let few = bytes-before first stretch bytes in
+      let those = bytes-behind first stretch bytes in
       let g = run-keeps b first room f few (began-sound b first room z) in
       let e = two-parts b first stretch room f few z in
       record {
-        board = ends-at e g w h;
-        all = carries-all e g w h;
+        board = ends-at e g those h;
+        all = carries-all e g those h;
         promise = demand-3 AtStart (g .fits) (good-sound g) low o CarriedOut
             (all-take PassesTime (Through .outcome .calls - Before .outcome .calls) calls w);
         goes-on = two-parts b (first ++ stretch) last room f bytes;

@@ -42,7 +42,7 @@ pub enum Step {
     // A skip that makes no advance.
     Stay,
     Deadline,
-    Source(SourceNumber, u8),
+    Source(u8, u8),
     ControllerRead(u32),
     ControllerWrite(u8, u32),
     Output,
@@ -140,7 +140,7 @@ pub fn changes_of(board: Board, step: Step) -> Changes
         },
         Step::Source(number, level) => Changes {
             host,
-            controller: controller::with_source(controller, number, level == 1),
+            controller: controller::with_source(controller, SourceNumber(number), level == 1),
             answer: Answer::Empty,
         },
         Step::ControllerRead(address) => Changes {

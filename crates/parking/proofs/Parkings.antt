@@ -16,7 +16,7 @@ use Rattle.board.specs.Board.{BoardFits, exactDeadline, wordDeadline, sound}
 use Rattle.board.specs.Calls.{isPresent, orZero}
 use Rattle.board.specs.Demand.{PassesTime, after, adds, afterAll, cyclesPassed, PromiseAfter}
 use Rattle.board.proofs.Good.{Good, good, good-sound}
-use Rattle.board.proofs.Steps.{call-step}
+use Rattle.board.proofs.Steps.{advance-call-step, host-call-step, passing-cases}
 use Rattle.board.proofs.Demand3.{demand-3}
 use Rattle.parking.specs.declared.Reading.{Reading}
 use Rattle.image.specs.declared.Form.{Form}
@@ -27,6 +27,7 @@ use Rattle.parking.specs.Demand.{
   ParkingCall,
   call,
   parking,
+  HostFits,
   PassesOrParks,
   afterParking,
   addsParking,
@@ -58,12 +59,17 @@ record Same (calls : List ParkingCall) (b : Board) : Type 0 where
   board : afterParkings calls b ≡ afterAll (unparked calls) b
   count : cyclesWithParkings calls b ≡ cyclesPassed (unparked calls) b
 
+call-good : {rate : ℕ} (a : Call) → PassesTime a → HostFits a → (b : Board) → Good rate b → Good rate (after a b)
+call-good {rate} a p w b g =
+    passing-cases (λ y. HostFits y → Good rate (after y b)) (λ h k. host-call-step b g h k .good)
+    (λ c _. advance-call-step b g c .good) a p w
+
 same : {rate : ℕ} (calls : List ParkingCall) → All PassesOrParks calls → (b : Board) → Good rate b → Same calls b
 unfolding afterParkings cyclesWithParkings afterParking addsParking afterAll cyclesPassed
 same [] cs b g = record { passes = tt; board = refl; count = refl }
 same (call a ∷ calls) cs b g =
-    let s = same calls (cs .1) (after a b) (call-step a (cs .0) b g .good) in
-    record { passes = (cs .0, s .passes); board = s .board; count = ap (λ (n : ℕ). adds a b + n) (s .count) }
+    let s = same calls (cs .1) (after a b) (call-good a (cs .0 .0) (cs .0 .1) b g) in
+    record { passes = (cs .0 .0, s .passes); board = s .board; count = ap (λ (n : ℕ). adds a b + n) (s .count) }
 same (parking f ∷ calls) cs b g =
     let back : parkedAndRead f b ≡ b = parked-back f b (good-sound g) (g .fits) in
     let s = same calls (cs .1) b g in

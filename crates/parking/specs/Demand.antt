@@ -1,6 +1,6 @@
 -- S-1: 'Demand 3 holds too where the board is written and read back between calls of the list.' The lists of the
 -- deadline's promise with parkings among their calls.
-use Prim.Native.Nat.{ℕ, _+_}
+use Prim.Native.Nat.{ℕ, _+_, _^_, _<_}
 use mathlib.Core.Path.{_≡_}
 use mathlib.Core.Bool.{Bool, true, false, cond}
 use mathlib.Core.List.{List, [], _∷_}
@@ -8,6 +8,18 @@ use lib.Dec.{eqb}
 use Rattle.clock.specs.Clock.{fromHost}
 use Rattle.board.specs.declared.Board.{Board}
 use Rattle.board.specs.declared.calls.Call.{Call}
+use Rattle.board.specs.declared.calls.Call.the-variants.{
+  HostTime,
+  Read,
+  Write,
+  Advance,
+  Deadline,
+  Skip,
+  Source,
+  ControllerRead,
+  ControllerWrite,
+  Output,
+}
 use Rattle.board.specs.Loops.{All}
 use Rattle.board.specs.Board.{line, sound}
 use Rattle.board.specs.Demand.{PassesTime, after, adds, PromiseAfter}
@@ -26,9 +38,22 @@ pub data ParkingCall : Type 0 where
   call : Call → ParkingCall
   parking : Form → ParkingCall
 
--- of the promise's lists: an advance, a host-time call or a parking
+-- the seconds of a host-time call are a word, as an image has them
+abbrev pub HostFits : Call → Type 0
+HostFits (HostTime nanoseconds seconds) = seconds < 2 ^ 64
+HostFits (Read address) = Unit {0}
+HostFits (Write byte address) = Unit {0}
+HostFits (Advance c) = Unit {0}
+HostFits Deadline = Unit {0}
+HostFits Skip = Unit {0}
+HostFits (Source number level) = Unit {0}
+HostFits (ControllerRead address) = Unit {0}
+HostFits (ControllerWrite byte address) = Unit {0}
+HostFits Output = Unit {0}
+
+-- of the promise's lists: an advance, a host-time call of a machine's host time, or a parking
 abbrev pub PassesOrParks : ParkingCall → Type 0
-PassesOrParks (call a) = PassesTime a
+PassesOrParks (call a) = PassesTime a × HostFits a
 PassesOrParks (parking f) = Unit {0}
 
 unfoldable pub afterParking : ParkingCall → Board → Board
