@@ -23,7 +23,8 @@ use Rattle.controller.specs.Controller.{ControllerFits, sourceSet, controllerWr
 use Rattle.controller.proofs.Widths.{fresh-controller-fits, source-fits, written-fits}
 use Rattle.board.specs.declared.Board.{Board}
 use Rattle.board.specs.declared.calls.Call.{Call}
-use Rattle.board.specs.declared.calls.Call.the-variants.{Deadline, Skip, Source, ControllerRead, ControllerWrite, Output}
+use Rattle.board.specs.declared.calls.Call.the-variants.{Deadline, Skip, Source, ControllerRead}
+use Rattle.board.specs.declared.calls.Call.the-variants.{ControllerWrite, Output}
 use Rattle.board.specs.declared.calls.EmptyAnswer.{EmptyAnswer}
 use Rattle.board.specs.Loops.{foldFrom}
 use Rattle.board.specs.Channels.{advancedAll}

@@ -1,4 +1,5 @@
--- The calls that a run carries out, each by a law of its name: the board that the code's way leaves, whether source 3 is
+-- The calls that a run carries out, each by a law of its name: the board that the code's way leaves, whether source
+-- 3 is
 -- still to be set to the line, and the record that it puts. Assumes nothing.
 use Prim.Native.Nat.{ℕ, _+_, _≤_}
 use native.Mathlib.Omega.{arith}
@@ -235,8 +236,17 @@ module _ (b : Board) (s : sound b ≡ true) (at : ℕ) (buf : List ℕ) where
   other-does l room T.Stay k h = (h .0, (h .1 .0, (rw (h .1 .1) (wired-sound b s), λ c x. x (h .1 .1))))
   other-does l room T.Deadline k h = (h .0, (h .1, (wired-sound b s, λ c x. x)))
   other-does l room (T.Source number level) k h =
-      let z = rw (h .1) at (clear b l room (h .0) .own) in
-      (h .0, (h .1, (level-still _ refl (level-other (b .controller) 3 number (eqb level 1) (source-apart number level z)), λ c x. x)))
+      let z = rw (h .1) at (clear b l room (h .0) .own) in (
+        h .0,
+        (
+          h .1,
+          (
+            level-still _ refl (level-other (b .controller) 3 number (eqb level 1) (source-apart number
+                level z)),
+            λ c x. x,
+          ),
+        ),
+      )
   other-does l room (T.ControllerRead address) k h = (h .0, (h .1, (wired-sound b s, λ c x. x)))
   other-does l room (T.ControllerWrite byte address) k h =
       (h .0, (h .1, (level-still _ refl (ap (bit 3) (written-levels (b .controller) address byte)), λ c x. x)))
@@ -250,7 +260,8 @@ module _ (b : Board) (s : sound b ≡ true) (at : ℕ) (buf : List ℕ) where
   pub other-carried : (l : List ℕ) (room : ℕ) (step : Step) → OtherDoes l room step → (c : Changes) →
       Changed step b c → (y : Board) → y ≡ withChanges (c .host) (c .controller) b → (moved : Bool) →
       moved ≡ false → (buf′ : List ℕ) →
-      buf′ ≡ otherPut (tagOf (otherCall step)) at (valueBytes (c .answer)) buf → Carried (callAt l) b at buf y moved buf′
+      buf′ ≡ otherPut (tagOf (otherCall step)) at (valueBytes (c .answer)) buf → Carried (callAt l) b at buf y
+      moved buf′
   other-carried l room step d c h y f moved o buf′ p =
       let a = d .1 .1 .1 c h in
       let e = f ∙ a .0 in

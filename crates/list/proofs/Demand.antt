@@ -55,7 +55,8 @@ module _ (l : List ℕ) (b : Board) (room : ℕ) (call : Call) (f : FrontIs l ca
   done-length b′ n x e = done-placed b l room b′ n x e .1 .0 ∙ ap callLength (f .1)
 
 -- the answer of an advance: the line, behind tag and length
-advance-line : (ns : List ℕ) (v : Bool) → take 4 (recordOf 4 (answerBytes 4 (flagOf v ∷ ns))) ≡ 4 ∷ 0 ∷ 65 ∷ flagOf v ∷ []
+advance-line : (ns : List ℕ) (v : Bool) → take 4 (recordOf 4 (answerBytes 4 (flagOf v ∷ ns))) ≡ 4 ∷ 0 ∷ 65 ∷ flagOf
+    v ∷ []
 unfolding recordOf membersBytes be
 advance-line ns true = refl
 advance-line ns false = refl
@@ -228,7 +229,8 @@ module _ (b : Board) (first stretch last : List ℕ) (room : ℕ) (calls : List 
     pub all : Through .outcome .refusal ≡ 0 → CarriedOut ≡ calls
     -- what is promised of the deadline of the board at its start holds of them
     pub promise : PromiseAfter (isPresent (exactDeadline AtStart)) (orZero (exactDeadline AtStart))
-        (orZero (wordDeadline (exactDeadline AtStart))) AtStart (cyclesPassed CarriedOut AtStart) (afterAll CarriedOut AtStart)
+        (orZero (wordDeadline (exactDeadline AtStart))) AtStart (cyclesPassed CarriedOut AtStart) (afterAll
+        CarriedOut AtStart)
     -- the whole run does the same up to there, and goes on from there over what stands behind the stretch
     pub goes-on : Through .outcome .refusal ≡ 0 →
         Whole ≡ joined Through (runOf (Through .outcome .board) last (room - length (Through .answers)))

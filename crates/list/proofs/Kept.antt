@@ -1,4 +1,5 @@
--- What a run keeps of its board, refused or not: it stays sound, its fields stay within their widths, and its rate stays.
+-- What a run keeps of its board, refused or not: it stays sound, its fields stay within their widths, and its rate
+-- stays.
 -- All three follow from the invariant. Assumes nothing.
 use Prim.Native.Nat.{ℕ, _<_}
 use native.Mathlib.Omega.{arith}

@@ -1,4 +1,5 @@
--- The record of an answer, as the code's steps write it: whole, or of an advance the counts one by one over counts of 0
+-- The record of an answer, as the code's steps write it: whole, or of an advance the counts one by one over counts
+-- of 0
 -- and then the header and the line, or of a skip the cycles and then the header and the line. Assumes nothing.
 use Prim.Native.Nat.{ℕ, _+_, _*_, _<_}
 use mathlib.Core.Path.{_≡_, refl, sym, ap, _∙_}

@@ -170,7 +170,8 @@ module _ (list buf₀ : List ℕ) (s₀ : Outcome) (buf : List ℕ) (b : Board) 
       let d = length-drop used list in
       let e = at-front (refused n) (result-refused b l (length buf - written) n p q) in
       stopped list buf₀ s₀ buf _ (r .out) (r .room) (r .bytes)
-      (sym (stop-at (drop used list) (length buf₀) (stateOf b calls used written) (r .out) (omega arith) n e) ∙ r .whole)
+      (sym (stop-at (drop used list) (length buf₀) (stateOf b calls used written) (r .out) (omega arith) n e) ∙ r
+      .whole)
 
   module _ (z : refusalAt b l (length buf - written) ≡ 0) where
     -- it is accepted: the numbers of the call are inside the list and the buffer

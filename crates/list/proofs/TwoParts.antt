@@ -22,7 +22,8 @@ use Rattle.list.proofs.Runs.{next-done, next-refused}
 
 -- ---- bytes behind a call have no part in it
 
-pub result-before : (b : Board) (l m : List ℕ) (room : ℕ) → frameRefusal l ≡ 0 → resultOf b (l ++ m) room ≡ resultOf b l room
+pub result-before : (b : Board) (l m : List ℕ) (room : ℕ) → frameRefusal l ≡ 0 → resultOf b (l ++ m) room ≡
+    resultOf b l room
 unfolding resultOf refusalAt
 result-before b l m room e = rw (frame-before l e m, call-before l e m, e)
 
@@ -55,7 +56,8 @@ module _ (m : List ℕ) (room : ℕ) where
           let p = done-placed (s .board) (x ∷ l) (room - length out) b n a e in
           let f = done-fits (s .board) (x ∷ l) (room - length out) b n a e in
           let g = next-done x l room s out b n a e in
-          next-done x (l ++ m) room s out b n a (result-before (s .board) (x ∷ l) m (room - length out) (p .0 .frame) ∙ e)
+          next-done x (l ++ m) room s out b n a (result-before (s .board) (x ∷ l) m (room - length out) (p .0
+          .frame) ∙ e)
           ∙ next (n - 1) (stepped s (done b n a)) (out ++ a) (omega arith)
           (sym (ap (λ (q : Run). q .outcome .refusal) g) ∙ z)
           ∙ ap (λ (q : Run). runOn 0 m room (q .outcome) (q .answers)) (sym g)
@@ -105,7 +107,8 @@ module _ (p : Run) (room : ℕ) where
   second-part (suc k) [] s out = refl
   second-part (suc k) (x ∷ l) s out = second-part k l s out
   second-part zero (x ∷ l) s out =
-      onward (λ k o a. second-part k l o a) (resultOf (s .board) (x ∷ l) (room - length (p .answers) - length out)) refl
+      onward (λ k o a. second-part k l o a) (resultOf (s .board) (x ∷ l) (room - length (p .answers) - length out))
+      refl
     where
       less : room - length (p .answers ++ out) ≡ room - length (p .answers) - length out
       less = omega (arith, length-append (p .answers) out)

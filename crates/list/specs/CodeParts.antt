@@ -1,4 +1,5 @@
--- Not document 01's sentences: what the code makes of the call at the front of a list, and the steps in which it writes
+-- Not document 01's sentences: what the code makes of the call at the front of a list, and the steps in which it
+-- writes
 -- the call's record. The rules are `refusalAt`, `effectOf` and `answerRecord`; the proofs show that these are they.
 use Prim.Native.Nat.{ℕ, _+_, _*_}
 use mathlib.Core.Path.{_≡_}

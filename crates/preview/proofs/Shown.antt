@@ -38,7 +38,8 @@ module _ (b : Board) (f : BoardFits b) (s : sound b ≡ true) (o : fromHost (b .
   pub high-shows : line b ≡ true → line (advancedBoard t b) ≡ true
   high-shows h = advance-shows ∙ rw h refl
 
-  -- a low line without a deadline stays so; of one with a deadline, `advance-reaches` of the board says that it is high
+  -- a low line without a deadline stays so; of one with a deadline, `advance-reaches` of the board says that it is
+  -- high
   -- from there on
   pub none-shows : line b ≡ false → exactDeadline b ≡ none → line (advancedBoard t b) ≡ false
   none-shows low e = advance-shows ∙ rw (low, e) refl
@@ -53,7 +54,8 @@ any-list-shows b f s low o calls w =
 -- ---- the same by the advance that a skip would make
 
 -- of a line and a deadline: where a word of cycles reaches the interrupt, from how many on
-reached : (high : Bool) (o : Option ℕ) (t : ℕ) → t ≤ largest → (p : SkipAdvance) → p ≡ skipAdvanceOf (cond high none o) →
+reached : (high : Bool) (o : Option ℕ) (t : ℕ) → t ≤ largest → (p : SkipAdvance) → p ≡ skipAdvanceOf (cond high
+    none o) →
     ((high || p .made) && leb (p .cycles .0) t) ≡ (high || due o t)
 reached true o t l p e = rw e (le-leb 0 t (omega arith))
 reached false none t l p e = rw e refl
@@ -62,7 +64,8 @@ reached false (some d) t l p e =
     (λ h. rw (e, h) (sym (lt-leb d t (omega (arith, l, ltb-true largest d h)))))
     (λ h. rw (e, h) refl)
 
-pub skip-shows : (b : Board) → BoardFits b → sound b ≡ true → fromHost (b .clock .control) ≡ false → (p : SkipAdvance) →
+pub skip-shows : (b : Board) → BoardFits b → sound b ≡ true → fromHost (b .clock .control) ≡ false → (p :
+    SkipAdvance) →
     p ≡ skipAdvanceOf (skipLength b) → (t : ℕ) → t ≤ largest →
     ((line b || p .made) && leb (p .cycles .0) t) ≡ line (advancedBoard t b)
 skip-shows b f s o p e t l =

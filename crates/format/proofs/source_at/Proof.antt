@@ -25,7 +25,8 @@ source-at-spec =
     ∙ as-own (Source _ _) _ _ (s .before .before .lengths-of .ensures) (s .before .framed .ensures) (s .if1 .left)
     (u .source-refusal .ensures ∙ ap₂ sourceRefusal n m) (c .before .if2 .taken))
     (λ c. let e = answer-of 7 _ (c .before .before .before .before .before .before .before .lengths-of .ensures) in
-    omega arith) (λ c κs. search needs) (λ c. let u = c .before .before .before .before in let s = u .before .before .before in
+    omega arith) (λ c κs. search needs) (λ c. let u = c .before .before .before .before in
+    let s = u .before .before .before in
     let n = u .before .before .byte-at .ensures in let m = u .before .byte-at2 .ensures in c .refused2 .ensures
     ∙ as-short (Source _ _) _ _ (s .before .before .lengths-of .ensures) (s .before .framed .ensures) (s .if1 .left)
     (u .source-refusal .ensures ∙ ap₂ sourceRefusal n m) (c .before .before .before .if2 .left)

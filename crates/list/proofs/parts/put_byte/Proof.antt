@@ -5,6 +5,7 @@ use Rattle.list.proofs.parts.put_byte.Statement.{statement}
 use Rattle.list.proofs.parts.put_byte.Tie as tie
 
 pub put-byte-spec : {M : Type 1} → statement M
-put-byte-spec = tie.close (tie.spec (λ c κs. search needs) (λ c. search needs) (λ c κs. search needs) (λ c. search needs)
+put-byte-spec = tie.close (tie.spec (λ c κs. search needs) (λ c. search needs) (λ c κs. search needs) (λ c. search
+    needs)
     (λ c. byte-then _ _ _ _ _ (c .before .before .before .before .before .before .put-header .ensures)
     (c .before .before .put .ensures)))

@@ -21,7 +21,15 @@ step-of-spec =
     (λ c. let s = c .before .before .before in step-accepted _ _ _ _ (s .before .before .decode .ensures)
     (s .if1 .left) _ (c .before .call2 .given .1) refl (S.Read _) (refl, record { address = _; is = refl; at = refl }))
     (λ c. let s = c .before .before .before in step-accepted _ _ _ _ (s .before .before .decode .ensures)
-    (s .if1 .left) _ (c .before .call3 .given .1) refl (S.Write _ _) (refl, record { address = _; is = refl; at = refl }))
+    (s .if1 .left) _ (c .before .call3 .given .1) refl (S.Write _ _) (
+      refl,
+      record {
+        address = _;
+        is = refl;
+        at =
+            refl;
+      },
+    ))
     (λ c. let s = c .before .before .before in step-accepted _ _ _ _ (s .before .before .decode .ensures)
     (s .if1 .left) _ (c .before .call4 .given .1) refl (S.Pass _ _)
     (refl, record { advance = λ _. refl; skip = λ e. absurd (true≢false e) }))

@@ -1,4 +1,5 @@
--- The run's calls where its code has them: where the step of the call at the front is known (`At`), where the arms of the
+-- The run's calls where its code has them: where the step of the call at the front is known (`At`), where the arms
+-- of the
 -- match meet (`Met`), and where source 3 is set (`Set`). The laws of the calls are those of Calls. Assumes nothing.
 use mathlib.Core.Path.{_≡_, refl, sym, ap, _∙_, subst}
 use mathlib.Core.Bool.{true}
@@ -170,7 +171,8 @@ served c =
                   (w .10 ∙ v .4 ∙ ap (λ x. withClock x b) (v .3 .ensures)) _ (w .13 ∙ v .5) _ put
               | inr (inr (inr (inr v))) ↦ write-carried b s at buf call _ _ a Channel (part _ (v .1 .given .1)) _
                   (w .10 ∙ v .6 ∙ ap (λ x. withChannel (v .2 .result) x b) (v .4 .ensures)
-                  ∙ channel-written b s at buf _ _ (v .2 .result) (v .2 .ensures .0)) _ (w .13 ∙ v .7 ∙ v .5 .ensures) _
+                  ∙ channel-written b s at buf _ _ (v .2 .result) (v .2 .ensures .0)) _ (w .13 ∙ v .7 ∙ v .5
+                  .ensures) _
                   put
             ];
             used = w .11 ∙ ap (λ (k : ℕ). usedOf u + k) (sym (n .0));
