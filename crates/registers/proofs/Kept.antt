@@ -19,93 +19,28 @@ use Rattle.clock.specs.Clock.{rateOf, timeSeconds, checkAlarm}
 use Rattle.clock.specs.Registers.{mergeByte}
 use Rattle.clock.specs.Sound.{soundRate}
 use Rattle.clock.proofs.Rate.{Rate, three-rate}
-use Rattle.clock.proofs.Soundness.{
-  GoodClock,
-  check-good,
-  control-good,
-  seconds-good,
-  alarm-bytes-good,
-  enable-good,
-  acknowledge-good,
-}
+use Rattle.clock.proofs.Soundness.{GoodClock, check-good, control-good, seconds-good, alarm-bytes-good, enable-good}
+use Rattle.clock.proofs.Soundness.{acknowledge-good}
 use Rattle.board.specs.declared.Latch.{Latch}
 use Rattle.board.specs.declared.Latch.the-variants.{Empty, Held}
 use Rattle.board.specs.declared.Board.{Board}
 use Rattle.board.specs.declared.calls.Call.{Call}
-use Rattle.board.specs.declared.calls.Call.the-variants.{
-  HostTime,
-  Read,
-  Write,
-  Advance,
-  Deadline,
-  Skip,
-  Source,
-  ControllerRead,
-  ControllerWrite,
-  Output,
-}
+use Rattle.board.specs.declared.calls.Call.the-variants.{HostTime, Read, Write, Advance, Deadline, Skip, Source}
+use Rattle.board.specs.declared.calls.Call.the-variants.{ControllerRead, ControllerWrite, Output}
 use Rattle.board.specs.Fields.{channelAt, withChannel, countLatch, withCountLatch, withClockLatches}
 use Rattle.board.specs.Board.{heldOf, LatchFits, CountFits, BoardFits, sound}
-use Rattle.board.specs.Registers.{
-  base,
-  timerEnableAt,
-  timerAckAt,
-  clockControlAt,
-  secondsLowAt,
-  secondsHighAt,
-  alarmLowAt,
-  alarmHighAt,
-  alarmEnableAt,
-  clockAckAt,
-  inRegister,
-  inTimers,
-  inClock,
-  inChannels,
-  registerOf,
-  byteOf,
-  channelOf,
-  placeOf,
-}
-use Rattle.board.specs.RegisterReads.{
-  Read as ByteRead,
-  readLive,
-  freed,
-  readCountHigh,
-  readChannel,
-  secondsLatched,
-  readLow,
-  readHigh,
-  readAt,
-}
+use Rattle.board.specs.Registers.{base, timerEnableAt, timerAckAt, clockControlAt, secondsLowAt, secondsHighAt}
+use Rattle.board.specs.Registers.{alarmLowAt, alarmHighAt, alarmEnableAt, clockAckAt, inRegister, inTimers, inClock}
+use Rattle.board.specs.Registers.{inChannels, registerOf, byteOf, channelOf, placeOf}
+use Rattle.board.specs.RegisterReads.{Read as ByteRead, readLive, freed, readCountHigh, readChannel, secondsLatched}
+use Rattle.board.specs.RegisterReads.{readLow, readHigh, readAt}
 use Rattle.board.specs.RegisterWrites.{clearedBy, acknowledged, timerWritten, clockWritten, writtenAt}
 use Rattle.board.specs.Calls.{CallFits, answerOf}
 use Rattle.board.proofs.Loops.{map-length, map-all}
-use Rattle.board.proofs.Good.{
-  GoodParts,
-  Good,
-  good,
-  good-parts,
-  parts-good,
-  own-parts,
-  at-rate,
-  timers-parts,
-  enable-parts,
-  clock-parts,
-  latches-parts,
-}
-use Rattle.board.proofs.Kept.{
-  Keeps,
-  host-time-keeps,
-  advance-keeps,
-  deadline-keeps,
-  skip-keeps,
-  source-keeps,
-  controller-read-keeps,
-  controller-write-keeps,
-  output-keeps,
-  answer-good,
-  answer-kept,
-}
+use Rattle.board.proofs.Good.{GoodParts, Good, good, good-parts, parts-good, own-parts, at-rate, timers-parts}
+use Rattle.board.proofs.Good.{enable-parts, clock-parts, latches-parts}
+use Rattle.board.proofs.Kept.{Keeps, host-time-keeps, advance-keeps, deadline-keeps, skip-keeps, source-keeps}
+use Rattle.board.proofs.Kept.{controller-read-keeps, controller-write-keeps, output-keeps, answer-good, answer-kept}
 use Rattle.board.proofs.Answers.{answer-refused}
 use Rattle.registers.proofs.Lists.{all-get, all-set}
 
