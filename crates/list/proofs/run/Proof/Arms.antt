@@ -16,8 +16,7 @@ use Rattle.clock.specs.Sound.{Timed}
 use Rattle.board.proofs.Good.{good-sound}
 use Rattle.registers.proofs.Timing.{sound-times}
 use Rattle.registers.specs.declared.writes.WritePart.{WritePart}
-use Rattle.registers.specs.declared.writes.WritePart.the-variants.{Nothing, Enable, Acknowledge, Clock as OfClock}
-use Rattle.registers.specs.declared.writes.WritePart.the-variants.{Channel}
+use Rattle.registers.specs.declared.writes.WritePart.the-variants as W
 use Rattle.board.specs.declared.calls.Call.{Call}
 use Rattle.format.specs.Format.{valueBytes}
 use Rattle.format.specs.Codec.{callAt, callLength, recordLength, refusalAt}
@@ -161,15 +160,15 @@ served c =
           let put = w .9 ∙ w .6 .ensures in
           record {
             carried = elim (w .4 .came) [
-              | inl v ↦ write-carried b s at buf call _ _ a Nothing (part _ (v .1 .given .1)) _ (w .10 ∙ v .2) _
+              | inl v ↦ write-carried b s at buf call _ _ a W.Nothing (part _ (v .1 .given .1)) _ (w .10 ∙ v .2) _
                   (w .13 ∙ v .3) _ put
-              | inr (inl v) ↦ write-carried b s at buf call _ _ a Enable (part _ (v .1 .given .1)) _
+              | inr (inl v) ↦ write-carried b s at buf call _ _ a W.Enable (part _ (v .1 .given .1)) _
                   (w .10 ∙ v .3 ∙ ap (λ (x : ℕ). withTimerEnable x b) (v .2 .ensures)) _ (w .13 ∙ v .4) _ put
-              | inr (inr (inl v)) ↦ write-carried b s at buf call _ _ a Acknowledge (part _ (v .1 .given .1)) _
+              | inr (inr (inl v)) ↦ write-carried b s at buf call _ _ a W.Acknowledge (part _ (v .1 .given .1)) _
                   (w .10 ∙ v .4 ∙ ap (λ ts. withTimers ts b) (v .3 .ensures)) _ (w .13 ∙ v .5) _ put
-              | inr (inr (inr (inl v))) ↦ write-carried b s at buf call _ _ a OfClock (part _ (v .1 .given .1)) _
+              | inr (inr (inr (inl v))) ↦ write-carried b s at buf call _ _ a W.Clock (part _ (v .1 .given .1)) _
                   (w .10 ∙ v .4 ∙ ap (λ x. withClock x b) (v .3 .ensures)) _ (w .13 ∙ v .5) _ put
-              | inr (inr (inr (inr v))) ↦ write-carried b s at buf call _ _ a Channel (part _ (v .1 .given .1)) _
+              | inr (inr (inr (inr v))) ↦ write-carried b s at buf call _ _ a W.Channel (part _ (v .1 .given .1)) _
                   (w .10 ∙ v .6 ∙ ap (λ x. withChannel (v .2 .result) x b) (v .4 .ensures)
                   ∙ channel-written b s at buf _ _ (v .2 .result) (v .2 .ensures .0)) _ (w .13 ∙ v .7 ∙ v .5
                   .ensures) _
