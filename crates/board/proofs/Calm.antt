@@ -35,7 +35,8 @@ use Rattle.board.specs.Fields.{withClock}
 use Rattle.board.specs.Board.{BoardFits, line, exactDeadline, wired, soundParts, sound}
 use Rattle.board.specs.Calls.{advanceBy, hostTimeTo, movedBoard, advancedBoard}
 use Rattle.board.specs.Demand.{PassesTime, after, adds}
-use Rattle.board.proofs.Good.{Good, good, good-sound}
+use Rattle.board.specs.Kept.{Good}
+use Rattle.board.proofs.Good.{good, good-sound}
 use Rattle.board.proofs.Steps.{
   boardDue,
   Step,

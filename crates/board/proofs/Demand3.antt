@@ -25,7 +25,7 @@ use Rattle.board.specs.Demand.{
   PromiseAfter,
   Promise,
 }
-use Rattle.board.proofs.Good.{Good}
+use Rattle.board.specs.Kept.{Good}
 use Rattle.board.proofs.Steps.{boardDue, line-due, Step}
 use Rattle.board.proofs.Calm.{calm, calm-line, calm-due, calm-good, calm-step}
 

@@ -19,18 +19,13 @@ use Rattle.board.specs.declared.Latches.{Latches}
 use Rattle.board.specs.declared.Board.{Board}
 use Rattle.board.specs.Loops.{All}
 use Rattle.board.specs.Fields.{withTimers, withTimerEnable, withClock, withLatches, withController}
+use Rattle.board.specs.Kept.{Good}
 use Rattle.board.specs.Board.{LatchesFit, BoardFits, line, wired, sound}
 use Rattle.board.proofs.Loops.{all-so}
 use Rattle.board.proofs.FourChannels.{channels-good, channels-sound}
-use Rattle.board.proofs.Soundness.{SoundFacts, sound-facts, facts-sound, wired-level}
+use Rattle.board.proofs.Soundness.{sound-facts, facts-sound, wired-level}
 
--- a sound machine board of a rate
-pub record Good (rate : ℕ) (b : Board) : Type 0 where
-  pub fits : BoardFits b
-  pub facts : SoundFacts b
-  pub own : rateOf (b .clock) ≡ rate
-
--- the same but for the level of source 3
+-- a good board but for the level of source 3
 pub record GoodParts (rate : ℕ) (b : Board) : Type 0 where
   pub four : length (b .timers) ≡ 4
   pub timers : All GoodTimer (b .timers)
@@ -41,22 +36,23 @@ pub record GoodParts (rate : ℕ) (b : Board) : Type 0 where
   pub controller : ControllerFits (b .controller)
 
 pub good : (b : Board) → BoardFits b → sound b ≡ true → Good (rateOf (b .clock)) b
-good b f s = record { fits = f; facts = sound-facts b s; own = refl }
+good b f s = record { fits = f; sound = s; own = refl }
 
 module _ {rate : ℕ} {b : Board} where
   pub good-sound : Good rate b → sound b ≡ true
-  good-sound g = facts-sound b (g .facts)
+  good-sound g = g .sound
 
   pub good-parts : Good rate b → GoodParts rate b
   good-parts g =
+      let facts = sound-facts b (g .sound) in
       record {
         four = g .fits .four;
-        timers = channels-good 0 (b .timers) (g .fits .timers) (g .facts .timers);
-        enable = g .facts .enable;
-        known = subst (λ (n : ℕ). soundRate n ≡ true) (g .own) (g .facts .rate);
+        timers = channels-good 0 (b .timers) (g .fits .timers) (facts .timers);
+        enable = facts .enable;
+        known = subst (λ (n : ℕ). soundRate n ≡ true) (g .own) (facts .rate);
         clock =
             clock-good rate (b .clock) (g .fits .clock) (g .own)
-            (subst (λ (n : ℕ). soundClock n (b .clock) ≡ true) (g .own) (g .facts .clock));
+            (subst (λ (n : ℕ). soundClock n (b .clock) ≡ true) (g .own) (facts .clock));
         latches = g .fits .latches;
         controller = g .fits .controller;
       }
@@ -74,14 +70,14 @@ module _ {rate : ℕ} {b : Board} where
           latches = p .latches;
           controller = source-fits (b .controller) (p .controller) 3 (line b);
         };
-        facts = record {
+        sound = facts-sound (wired b) (record {
           timers = channels-sound 0 (b .timers) (p .timers);
           enable = p .enable;
           rate = subst⁻¹ (λ (n : ℕ). soundRate n ≡ true) own (p .known);
           clock =
               subst⁻¹ (λ (n : ℕ). soundClock n (b .clock) ≡ true) own (clock-sound rate (b .clock) (p .clock));
           level = wired-level b;
-        };
+        });
         own = own;
       }
 
@@ -93,7 +89,7 @@ module _ {rate : ℕ} {b : Board} (g : Good rate b) where
 
   -- what is good by it is good by the rate
   pub at-rate : {y : Board} → Good (rateOf (b .clock)) y → Good rate y
-  at-rate h = record { fits = h .fits; facts = h .facts; own = h .own ∙ g .own }
+  at-rate h = record { fits = h .fits; sound = h .sound; own = h .own ∙ g .own }
 
 -- ---- one piece changed
 

@@ -48,19 +48,9 @@ use Rattle.board.specs.Calls.{
 }
 use Rattle.board.proofs.Loops.{map-length}
 use Rattle.board.proofs.FourChannels.{channels-kept}
-use Rattle.board.proofs.Soundness.{wired-sound}
-use Rattle.board.proofs.Good.{
-  Good,
-  good,
-  good-sound,
-  good-parts,
-  parts-good,
-  own-parts,
-  at-rate,
-  timers-parts,
-  clock-parts,
-  controller-parts,
-}
+use Rattle.board.proofs.Soundness.{facts-sound, wired-sound}
+use Rattle.board.specs.Kept.{Good, Keeps}
+use Rattle.board.proofs.Good.{good, good-sound, good-parts, parts-good, own-parts, at-rate, timers-parts, clock-parts, controller-parts}
 
 -- ---- fresh boards
 
@@ -96,13 +86,13 @@ unfolding line foldFrom lineOf
 fresh-good rate e =
     record {
       fits = fresh-fits rate;
-      facts = record {
+      sound = facts-sound (freshBoardAt rate) (record {
         timers = rw (timer-sound freshTimer fresh-timer-good);
         enable = omega arith;
         rate = e;
         clock = clock-sound rate (freshClockAt rate) (fresh-clock-good rate (three-rate rate e));
         level = refl;
-      };
+      });
       own = refl;
     }
 
@@ -118,12 +108,6 @@ made-sound rate =
     (λ _. fresh-sound)
 
 -- ---- each call
-
--- an accepted call leaves a good board of the same rate
-abbrev pub Keeps : Call → Type 0
-Keeps call =
-    (rate : ℕ) (b : Board) → CallFits call → Good rate b → effectOf call b .refusal ≡ 0 →
-    Good rate (boardAfter call b)
 
 module _ {rate : ℕ} {b : Board} (g : Good rate b) where
   -- one that changes nothing

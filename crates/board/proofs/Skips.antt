@@ -24,7 +24,8 @@ use Rattle.board.specs.Calls.{
 }
 use Rattle.board.specs.Demand.{SkipPromise}
 use Rattle.board.proofs.Soundness.{wired-line}
-use Rattle.board.proofs.Good.{Good, good}
+use Rattle.board.specs.Kept.{Good}
+use Rattle.board.proofs.Good.{good}
 use Rattle.board.proofs.Steps.{advance-rises}
 use Rattle.board.proofs.Answers.{accepted-sound, answer-accepted, answered-refusal}
 

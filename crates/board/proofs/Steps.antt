@@ -14,8 +14,9 @@ use Rattle.wide.proofs.Deadlines.{due-sooner}
 use Rattle.clock.specs.declared.HostTime.{HostTime as HostTimeOf}
 use Rattle.clock.specs.Clock.{rateOf, nanosPerSecond, fromHost}
 use Rattle.clock.specs.Fields.{withHost}
-use Rattle.clock.specs.Deadline.{clockLine, clockDeadline, clockDue}
+use Rattle.clock.specs.Deadline.{clockLine, clockDeadline}
 use Rattle.clock.proofs.Law.{
+  clockDue,
   advance-due as clock-advance-due,
   advance-own,
   host-due,
@@ -57,8 +58,9 @@ use Rattle.board.proofs.FourChannels.{
   channels-line-due,
   channels-kept,
 }
-use Rattle.board.proofs.Soundness.{wired-line}
-use Rattle.board.proofs.Good.{Good, good-sound, own-parts}
+use Rattle.board.proofs.Soundness.{sound-facts, wired-line}
+use Rattle.board.specs.Kept.{Good}
+use Rattle.board.proofs.Good.{good-sound, own-parts}
 use Rattle.board.proofs.Kept.{advanced-good, hosted-good}
 
 -- ---- what is due
@@ -130,7 +132,7 @@ module _ (c : ℕ) (b : Board) {rate : ℕ} (g : Good rate b) where
             (ap (λ (n : ℕ). clockDue n (moved .clock) t) (y .own ∙ sym (g .own))
             ∙ clock-advance-due r c (b .clock) (p .clock) o t)
             ∙ sym (due-parts b (c + t));
-        source = wired-source moved (line b) (g .facts .level);
+        source = wired-source moved (line b) (sound-facts b (g .sound) .level);
       }
 
   -- what is due of a low line is high after the advance, whatever the clock runs from: from host time it has no
@@ -190,7 +192,7 @@ module _ (h : HostTimeOf) (b : Board) {rate : ℕ} (w : h .seconds < 2 ^ 64) (n 
         good = hosted-good g h (record { word = w; small = n });
         own = λ o. o;
         due = λ o t. wired-due hosted t ∙ hosted-due t ∙ ap (boardDue b) (sym (zero-add t));
-        source = wired-source hosted (line b) (g .facts .level);
+        source = wired-source hosted (line b) (sound-facts b (g .sound) .level);
       }
 
 -- ---- a call, refused or not

@@ -10,3 +10,4 @@ pub mod Calls
 pub mod Splits
 pub mod CodeCalls
 pub mod Demand
+pub mod Kept

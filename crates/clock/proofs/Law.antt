@@ -34,7 +34,7 @@ use Rattle.clock.specs.Clock.{
   endAdvance,
   advanceClock,
 }
-use Rattle.clock.specs.Deadline.{clockLine, toAlarm, alarmCycles, clockDeadline, clockDue}
+use Rattle.clock.specs.Deadline.{clockLine, toAlarm, alarmCycles, clockDeadline}
 use Rattle.clock.specs.Fields.{withTime, withAlarm, withPoll, withHost}
 use Rattle.clock.proofs.Cases.{moved-cases}
 use Rattle.clock.proofs.Tests.{
@@ -103,6 +103,10 @@ module _ (o e a h : Bool) (d t : ℕ) where
 
 abbrev alarmOn : Clock → Bool
 alarmOn k = bit 0 (k .alarm .enable)
+
+-- the clock has its line high after t cycles of advances and host times
+unfoldable pub clockDue : ℕ → Clock → ℕ → Bool
+clockDue rate k t = clockLine k || due (clockDeadline rate k) t
 
 module _ (rate : ℕ) (k : Clock) (t : ℕ) where
   abbrev cycles : ℕ

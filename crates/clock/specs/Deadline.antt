@@ -1,10 +1,9 @@
 -- Document 01, 'The line, source 3 and the deadline': the clock's part. Line and deadline are document 01's terms.
 use Prim.Native.Nat.{ℕ, _-_, _*_}
-use mathlib.Core.Bool.{Bool, cond, not, _&&_, _||_}
+use mathlib.Core.Bool.{Bool, cond, not, _&&_}
 use mathlib.Core.Option.{Option, none, some}
 use lib.Dec.{leb}
 use Rattle.wide.specs.Bits.{bit}
-use Rattle.wide.specs.Deadline.{due}
 use Rattle.clock.specs.declared.Clock.{Clock}
 use Rattle.clock.specs.Clock.{ownTime}
 
@@ -28,7 +27,3 @@ alarmCycles rate k = cond (leb (k .alarm .seconds) (k .seconds)) 1 (toAlarm rate
 -- the clock, so awaited, 'has' it
 unfoldable pub clockDeadline : ℕ → Clock → Option ℕ
 clockDeadline rate k = cond (awaited k) (some (alarmCycles rate k)) none
-
--- the clock has its line high after t cycles, if nothing but advances and host times comes between
-unfoldable pub clockDue : ℕ → Clock → ℕ → Bool
-clockDue rate k t = clockLine k || due (clockDeadline rate k) t

@@ -17,11 +17,11 @@ use Rattle.board.specs.declared.calls.Call.the-variants.{ControllerRead, Contro
 use Rattle.board.specs.Calls.{hostTimeRefusal, addressRefusal, sourceRefusal, effectOf}
 use Rattle.format.specs.declared.Decoded.{Decoded}
 use Rattle.format.specs.declared.Lengths.{Lengths}
-use Rattle.format.specs.Format.{answerTooLong, rowOf, known, valueLength, answerLength, lengthsOf, headerLength}
+use Rattle.format.specs.Format.{answerTooLong, rowOf, known, valueLength, answerLength, headerLength}
 use Rattle.format.specs.Format.{membersAt}
 use Rattle.format.specs.Codec.{tagOf, tagAt, frameRefusal, callOf, callAt, recordLength, firstOf, refusalAt}
 use Rattle.format.specs.CodeDecode.{valueRefusal, refusedBy, told, shortOf, roomed, valued, framedAs, isFramed}
-use Rattle.format.specs.CodeDecode.{Unframed, decodedOf, boardRefusal, firstRefusal}
+use Rattle.format.specs.CodeDecode.{lengthsOf, Unframed, decodedOf, boardRefusal, firstRefusal}
 
 -- ---- the frame
 

@@ -19,9 +19,10 @@ use Rattle.board.specs.declared.calls.Call.{Call}
 use Rattle.board.specs.declared.calls.Call.the-variants.{HostTime, Read, Write, Advance, Deadline, Skip, Source}
 use Rattle.board.specs.declared.calls.Call.the-variants.{ControllerRead, ControllerWrite, Output}
 use Rattle.board.specs.Calls.{effectOf, CallFits}
-use Rattle.format.specs.Format.{row, table, sum, rowOf, known, valueLength, answerLength, lengthsOf}
+use Rattle.format.specs.Format.{row, table, sum, rowOf, known, valueLength, answerLength}
 use Rattle.format.specs.Format.{headerLength, membersAt, membersBytes, answerBytes, recordOf}
 use Rattle.format.specs.Codec.{tagOf, callLength, tagAt, frameRefusal, callOf, callAt, answerRecord}
+use Rattle.format.specs.CodeDecode.{lengthsOf}
 use Rattle.format.specs.Codec.{recordLength}
 
 -- ---- bytes behind

@@ -14,8 +14,13 @@ use Rattle.board.specs.declared.calls.Call.the-variants.{HostTime, Read, Write,
 use Rattle.board.specs.declared.calls.Call.the-variants.{ControllerRead, ControllerWrite, Output}
 use Rattle.board.specs.Calls.{hostTimeRefusal, addressRefusal, sourceRefusal, effectOf}
 use Rattle.format.specs.declared.Decoded.{Decoded}
-use Rattle.format.specs.Format.{lengthWrong, valueCut, answerTooLong, lengthsOf, headerLength}
+use Rattle.format.specs.declared.Lengths.{Lengths}
+use Rattle.format.specs.Format.{lengthWrong, valueCut, answerTooLong, known, valueLength, answerLength, headerLength}
 use Rattle.format.specs.Codec.{tagOf, frameRefusal, callAt, recordLength, firstOf}
+
+-- what the code finds of a tag: whether it is known, and the lengths of its value and answer
+abbrev pub lengthsOf : ℕ → Lengths
+lengthsOf tag = record { known = known tag; value = valueLength tag; answer = answerLength tag }
 
 -- what the members of a call decide of its own refusal: of a skip nothing, of another call all
 abbrev pub valueRefusal : Call → ℕ

@@ -9,7 +9,6 @@ use Rattle.wide.specs.Number.{valueOf}
 use Rattle.wide.specs.Fields.{beAt, be}
 use Rattle.format.specs.declared.Answer.{Answer}
 use Rattle.format.specs.declared.Answer.the-variants.{Empty, Byte, Deadline, Skip, Pair}
-use Rattle.format.specs.declared.Lengths.{Lengths}
 
 -- ---- refusals
 
@@ -81,10 +80,6 @@ valueLength tag = sum (rowOf tag .value)
 
 abbrev pub answerLength : ℕ → ℕ
 answerLength tag = sum (rowOf tag .answer)
-
--- what the code looks up of a tag
-abbrev pub lengthsOf : ℕ → Lengths
-lengthsOf tag = record { known = known tag; value = valueLength tag; answer = answerLength tag }
 
 -- ---- the bytes of members
 

@@ -29,10 +29,10 @@ use Rattle.board.proofs.calls.Call as C
 use Rattle.format.specs.declared.Answer.the-variants.{Skip as SkipBytes}
 use Rattle.format.specs.declared.Decoded.{Decoded}
 use Rattle.format.specs.declared.Lengths.{Lengths}
-use Rattle.format.specs.Format.{lengthsOf, headerLength, membersBytes, answerBytes, valueBytes, recordOf}
+use Rattle.format.specs.Format.{headerLength, membersBytes, answerBytes, valueBytes, recordOf}
 use Rattle.format.specs.Codec.{tagOf, callLength, callAt, recordLength, firstOf, refusalAt}
 use Rattle.format.specs.CodeAnswers.{headerBytes}
-use Rattle.format.specs.CodeDecode.{valueRefusal, decodedOf, boardRefusal, firstRefusal}
+use Rattle.format.specs.CodeDecode.{lengthsOf, valueRefusal, decodedOf, boardRefusal, firstRefusal}
 use Rattle.format.proofs.Frames.{value-below, answer-below, sets-then}
 use Rattle.format.proofs.Decoding.{value-of, answer-of, decoded-accepted, first-refusal, accepted-refusal}
 use Rattle.list.specs.declared.parts.Step.{Step}

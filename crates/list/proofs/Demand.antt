@@ -19,7 +19,8 @@ use Rattle.board.specs.Board.{BoardFits, line, exactDeadline, wordDeadline, sou
 use Rattle.board.specs.Calls.{effectOf, DirectAnswer, refusalOf, boardAfter, isPresent, orZero, movedBoard, advanceBy}
 use Rattle.board.specs.Demand.{PassesTime, after, afterAll, cyclesPassed, PromiseAfter}
 use Rattle.board.proofs.Soundness.{wired-line}
-use Rattle.board.proofs.Good.{Good, good, good-sound}
+use Rattle.board.specs.Kept.{Good}
+use Rattle.board.proofs.Good.{good, good-sound}
 use Rattle.board.proofs.Answers.{answer-accepted}
 use Rattle.board.proofs.Demand3.{demand-3}
 use Rattle.format.specs.Format.{membersBytes, answerBytes, recordOf}

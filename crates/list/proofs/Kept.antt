@@ -11,7 +11,8 @@ use Rattle.wide.proofs.Choices.{either}
 use Rattle.clock.specs.Clock.{rateOf}
 use Rattle.board.specs.declared.Board.{Board}
 use Rattle.board.specs.Board.{BoardFits, sound}
-use Rattle.board.proofs.Good.{Good, good, good-sound}
+use Rattle.board.specs.Kept.{Good}
+use Rattle.board.proofs.Good.{good, good-sound}
 use Rattle.list.specs.Run.{nothingDone, runOf}
 use Rattle.list.proofs.TwoParts.{run-good}
 

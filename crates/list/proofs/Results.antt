@@ -10,7 +10,7 @@ use borrow.Author.Tests.{eqb-true}
 use Rattle.wide.proofs.Choices.{choose}
 use Rattle.board.specs.declared.Board.{Board}
 use Rattle.board.specs.Calls.{boardAfter}
-use Rattle.board.proofs.Good.{Good}
+use Rattle.board.specs.Kept.{Good}
 use Rattle.registers.proofs.Kept.{call-keeps}
 use Rattle.format.specs.Codec.{callAt, callLength, answerRecord, refusalAt}
 use Rattle.format.proofs.Frames.{call-length, call-fits, answer-size}

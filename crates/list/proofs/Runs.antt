@@ -10,7 +10,7 @@ use lib.ListN.{length, drop, getD, length-drop, length-append, drop-of-length-le
 use lib.Seq.{sets, length-sets, drop-drop, getD-drop}
 use Rattle.board.specs.declared.Board.{Board}
 use Rattle.clock.specs.Clock.{rateOf}
-use Rattle.board.proofs.Good.{Good}
+use Rattle.board.specs.Kept.{Good}
 use Rattle.list.specs.declared.Outcome.{Outcome}
 use Rattle.list.specs.Run.{Result, done, refused, resultOf, stepped, Run, runOn, over}
 use Rattle.board.specs.Calls.{boardAfter}

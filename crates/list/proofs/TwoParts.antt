@@ -12,7 +12,8 @@ use Rattle.wide.proofs.Choices.{either}
 use Rattle.board.specs.declared.Board.{Board}
 use Rattle.board.specs.Board.{BoardFits, sound}
 use Rattle.clock.specs.Clock.{rateOf}
-use Rattle.board.proofs.Good.{Good, good, good-sound}
+use Rattle.board.specs.Kept.{Good}
+use Rattle.board.proofs.Good.{good, good-sound}
 use Rattle.list.specs.declared.Outcome.{Outcome}
 use Rattle.format.specs.Codec.{frameRefusal, refusalAt}
 use Rattle.list.specs.Run.{Result, done, refused, resultOf, stepped, Run, runOn, nothingDone, runOf, over}

@@ -15,7 +15,8 @@ use Rattle.board.specs.Loops.{All}
 use Rattle.board.specs.Board.{BoardFits, exactDeadline, wordDeadline, sound}
 use Rattle.board.specs.Calls.{isPresent, orZero}
 use Rattle.board.specs.Demand.{PassesTime, after, adds, afterAll, cyclesPassed, PromiseAfter}
-use Rattle.board.proofs.Good.{Good, good, good-sound}
+use Rattle.board.specs.Kept.{Good}
+use Rattle.board.proofs.Good.{good, good-sound}
 use Rattle.board.proofs.Steps.{advance-call-step, host-call-step, passing-cases}
 use Rattle.board.proofs.Demand3.{demand-3}
 use Rattle.parking.specs.declared.Reading.{Reading}

@@ -37,9 +37,10 @@ use Rattle.board.specs.RegisterReads.{readLow, readHigh, readAt}
 use Rattle.board.specs.RegisterWrites.{clearedBy, acknowledged, timerWritten, clockWritten, writtenAt}
 use Rattle.board.specs.Calls.{CallFits, answerOf}
 use Rattle.board.proofs.Loops.{map-length, map-all}
-use Rattle.board.proofs.Good.{GoodParts, Good, good, good-parts, parts-good, own-parts, at-rate, timers-parts}
+use Rattle.board.specs.Kept.{Good, Keeps}
+use Rattle.board.proofs.Good.{GoodParts, good, good-parts, parts-good, own-parts, at-rate, timers-parts}
 use Rattle.board.proofs.Good.{enable-parts, clock-parts, latches-parts}
-use Rattle.board.proofs.Kept.{Keeps, host-time-keeps, advance-keeps, deadline-keeps, skip-keeps, source-keeps}
+use Rattle.board.proofs.Kept.{host-time-keeps, advance-keeps, deadline-keeps, skip-keeps, source-keeps}
 use Rattle.board.proofs.Kept.{controller-read-keeps, controller-write-keeps, output-keeps, answer-good, answer-kept}
 use Rattle.board.proofs.Answers.{answer-refused}
 use Rattle.registers.proofs.Lists.{all-get, all-set}

@@ -10,6 +10,7 @@ use borrow.Author.Tests.{not-true, not-false}
 use borrow.Author.Needs.{needs}
 use Rattle.board.specs.Board.{sound}
 use Rattle.board.specs.Fields.{channelAt}
+use Rattle.board.proofs.Soundness.{sound-facts}
 use Rattle.board.proofs.Good.{good, good-sound}
 use Rattle.registers.proofs.CodeWrites.{channel-range}
 use Rattle.format.specs.Codec.{callAt}
@@ -122,7 +123,7 @@ run-spec =
     (λ c. let l = c .before .before .before .before .before .before .before .before .before .before .loop in
     let g = l .inv .good in
     let n = counts-begin _ _ _ _ (l .b) (g .fits .four) _ _ (c .before .before .put-begun .ensures) in
-    (begins _ _ _ (g .fits .four) (g .facts .timers), n)) (λ c. omega (arith, c .loop2-test .taken)) (λ c. c
+    (begins _ _ _ (g .fits .four) (sound-facts _ (g .sound) .timers), n)) (λ c. omega (arith, c .loop2-test .taken)) (λ c. c
     .loop2-test .taken)
     (λ c. omega (arith, c .before .loop2-test .taken)) (λ c κs. tt) (λ c κs. tt)
     (λ c κs. next-phase _ _ _ _ _ (c .before .before .before .before .before .loop2 .inv .0)
