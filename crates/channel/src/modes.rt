@@ -67,8 +67,8 @@ impl HardwareTimer {
         self.unmet()
     }
 
-    // A periodic channel at its compare point or past it. The quotient by reload is the number of periods passed; the
-    // next point lies ahead of the counter by reload less the remainder.
+    // A periodic channel at its compare point or past it. The periods passed are counter − compare divided by reload;
+    // the next point lies ahead of the counter by reload less the remainder.
     fn reloaded(mut self) -> Advanced
         requires { ⌜ self .compare ≤ self .counter ⌝ }
         ensures { λ r. ⌜ (r .timer ≡ reloaded self) × (valueOf (r .matches) ≡ pointsMet 1 (self .counter) self) ⌝ }
