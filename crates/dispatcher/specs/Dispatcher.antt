@@ -38,7 +38,7 @@ unfoldable pub nextAfter : ℕ → IrqController → IrqOutput
 nextAfter last = firstFrom 16 (following last)
 
 -- 'It clears that pending bit and says the number, or that no enabled one is pending; then the remembered number, read
--- so, stays.': by the number as it is read, and the next source
+-- so, stays.': `last` is the number as it is read, `next` the next source
 unfoldable pub turn : IrqController → ℕ → IrqOutput → Dispatched
 turn c last next =
     cond (next .valid)
