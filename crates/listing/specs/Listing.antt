@@ -46,7 +46,7 @@ valueText (byte ∷ more) = bytesText (byte ∷ more)
 unfoldable pub answerLine : ℕ → List ℕ → List ℕ
 answerLine tag value = hexText tag ++ ascii " " ++ valueText value ++ ascii "\n"
 
--- 'tag 1, length 2, value; big-endian': the length of the value at the front of some bytes
+-- 'tag 1, length 2, value; big-endian': the value's length in the record that some bytes begin with
 abbrev pub lengthAt : List ℕ → ℕ
 lengthAt l = beAt l 1 2
 
