@@ -45,7 +45,7 @@ fn print_list(list: &[u8], answers: &mut [u8; ANSWER_ROOM], text: &mut [u8; TEXT
 }
 
 fn main() {
-    // one byte more than the longest, to see that a list is longer
+    // one byte more than the longest list, to find a longer one
     let mut list = [0u8; LIST_LIMIT + 1];
     let r = input::read_all(0, &mut list);
     if r.failed {
