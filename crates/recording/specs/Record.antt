@@ -21,7 +21,7 @@ Decides b P = (b ≡ true → P) × (P → b ≡ true)
 unfoldable pub startOf : ℕ → Board
 startOf n = withTimerEnable n freshBoard
 
--- a run's results but the board and the answers
+-- a run's results without the board and the answers
 abbrev pub resultsOf : Outcome → Results
 resultsOf o = record { calls = o .calls; used = o .used; written = o .written; refusal = o .refusal }
 
