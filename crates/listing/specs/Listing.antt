@@ -20,8 +20,8 @@ ascii (c then s) = code c ∷ ascii s
 abbrev pub hexText : ℕ → List ℕ
 hexText byte = digits 16 2 byte
 
--- how many decimal digits the number n takes, at least one: one more than its tenth takes, from ten on. The first
--- number, n or larger, only bounds the recursion
+-- how many decimal digits n takes: 1 below ten, else one more than n / 10 takes. The first number, n or larger, only
+-- bounds the recursion
 unfoldable pub placesOf : ℕ → ℕ → ℕ
 placesOf zero n = 1
 placesOf (suc k) n = elim (ltb n 10) [ true ↦ 1 | false ↦ suc (placesOf k (n / 10)) ]
