@@ -23,7 +23,7 @@ pub struct IrqOutput {
     pub number: SourceNumber,
 }
 
-// One bit for each source: the requests that are latched, those that are enabled, and the levels last set.
+// One bit for each source: the requests that are latched, the sources that are enabled, and the levels last set.
 pub struct IrqController {
     pub pending: u16,
     pub enable: u16,
@@ -267,8 +267,7 @@ fn with_low_byte(word: u16, value: u8) -> u16
     (word & 0xFF00) | value as u16
 }
 
-// `write`: a byte written to pending clears the bits that are set in it, and one written to enable replaces a byte of
-// it.
+// `write`: a byte written to pending clears the bits that are set in it, and one written to enable replaces its byte.
 pub fn written(controller: IrqController, address: u32, value: u8) -> IrqController
     ensures { λ r. ⌜ r ≡ controllerWritten controller address value ⌝ }
 {
