@@ -20,7 +20,7 @@ use wide::flags::both;
 mod get;
 pub mod moves;
 
-// Refusals, by their numbers; 1, a board that is not sound, is the board's.
+// Refusals, by their numbers. Refusal 1, for a board that is not sound, is a constant of the board.
 pub const BUFFER_SHORT: u8 = format::ANSWER_TOO_LONG;
 
 pub const IMAGE_MALFORMED: u8 = 12;
@@ -111,8 +111,7 @@ fn refused(refusal: u8) -> Reading
     }
 }
 
-// Reads S-1's fields of an image in a form, with its board at a rate. `ahead` says whether the bytes ahead of them are
-// formed.
+// Reads S-1's fields of an image in a form, with its board at a rate. `ahead`: the bytes before them are formed.
 fn read_fields(form: Form, rate: u32, ahead: bool, fields: &[u8]) -> Reading
     ensures { λ r. ⌜ r ≡ membersRead form rate (ahead && formed Old (now (fields .entry)))
         (said Old (now (fields .entry))) ⌝ }
