@@ -1,6 +1,5 @@
--- Not document 01's sentences: how the code decodes the first call of a list, with the room that is left for its
--- answer. The rules are `frameRefusal`, `callAt` and `refusalAt` of Codec, and proofs/Decoding.antt shows that the two
--- agree.
+-- Not document 01's sentences: how the code decodes the first call of a list, with this room for its answer. The rules
+-- are `frameRefusal`, `callAt` and `refusalAt` of Codec; proofs/Decoding.antt shows that the two agree.
 use Prim.Native.Nat.{ℕ, _+_, _-_}
 use mathlib.Core.Path.{_≡_}
 use mathlib.Core.List.{List}
