@@ -16,8 +16,7 @@ oneShot t h =
     (clearEnable (setPending (withCounter (h .compare) h)))
     (withCounter (h .counter + t) h))
 
--- 'floor((counter − compare) / reload) + 1': how many of the points compare, compare + reload, .. the counter has
--- reached
+-- 'floor((counter − compare) / reload) + 1': the points compare, compare + reload, .. up to the counter, counted
 abbrev pub pointsTo : ℕ → ℕ → ℕ → ℕ
 pointsTo counter compare reload = (counter - compare) / reload + 1
 
