@@ -43,7 +43,7 @@ headerAt s at =
 abbrev pub recorded : Header → Results
 recorded h = record { calls = h .calls; used = h .used; written = h .written; refusal = h .refusal }
 
--- a record lies within so many bytes, and its buffer is not too long
+-- a record lies within `room` bytes, and its buffer is not too long
 pub record Fits (h : Header) (room : ℕ) : Type 0 where
   pub bytes : 12 + (h .list + h .written) ≤ room
   pub buffer : h .buffer ≤ 32768

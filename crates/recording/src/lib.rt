@@ -53,7 +53,7 @@ pub fn header_at(s: &[u8], at: usize) -> Header
     }
 }
 
-// Whether so many bytes, from a record's first on, have all of it, and its buffer is not too long.
+// Whether a record lies within `room` bytes from its first on, and its buffer is not too long.
 pub fn fits(h: Header, room: usize) -> bool
     requires { ⌜ 12 ≤ room ⌝ }
     ensures { λ r. ⌜ Decides r (Fits h room) ⌝ }
