@@ -26,7 +26,7 @@ use Rattle.image.specs.declared.Form.the-variants.{Old, New}
 
 -- ---- the fields
 
--- 'a width is in bytes, a flag is one byte': a member is a number of so many bytes, or a flag
+-- 'a width is in bytes, a flag is one byte': a member is a number of this many bytes, or a flag
 pub data Member : Type 0 where
   number : ℕ → Member
   flag : Member
