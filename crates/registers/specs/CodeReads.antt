@@ -98,7 +98,7 @@ freedAt offset ls = cond (eqb (byteOf offset) 3) (latchFreed offset ls) ls
 
 -- ---- the reading
 
--- the word of the register at an offset, by its channel, its clock and the word that all channels share
+-- the word of the register at an offset, by the channel, the clock and the word of a register that all channels share
 unfoldable pub wordAt : HardwareTimer → Clock → ℕ → ℕ → ℕ
 wordAt h k shared offset =
     cond (inTimers offset) shared
