@@ -18,7 +18,7 @@ rateOf k = k .rate
 abbrev pub nanosPerSecond : ℕ
 nanosPerSecond = 1_000_000_000
 
--- S-7: 'and its 48,000 a thousandth of it', of the rate: poll's limit
+-- S-7: 'and its 48,000 a thousandth of it': the limit of poll at a rate
 abbrev pub pollLimit : ℕ → ℕ
 pollLimit rate = rate / 1_000
 

@@ -39,7 +39,7 @@ signedDifference a b = record {
 abbrev pub ownTimeSet : ℕ → ℕ → Clock → Clock
 ownTimeSet s u k = withShadow (record { value = s; mask = k .shadow .mask }) (withTime s u k)
 
--- the own time is set from n nanoseconds, as `set_internal_time_ns` does
+-- the clock's own time is set to n nanoseconds, as by `set_internal_time_ns`
 unfoldable pub setTime : ℕ → ℕ → Clock → Clock
 setTime rate n k =
     cond (ltb largest (n / nanosPerSecond))
