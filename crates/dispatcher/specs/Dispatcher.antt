@@ -25,7 +25,7 @@ following k = suc k % 16
 abbrev pub enabledPending : ℕ → IrqController → Bool
 enabledPending k c = bit k (c .pending) && bit k (c .enable)
 
--- the first enabled pending source of n, from k on, going round; none is false and 0, as in `irq_output`
+-- the first enabled pending source of the n from k on, going round; none is false and 0, as in `irq_output`
 unfoldable pub firstFrom : ℕ → ℕ → IrqController → IrqOutput
 firstFrom zero k c = record { valid = false; number = record { 0 = 0 } }
 firstFrom (suc n) k c =
