@@ -30,6 +30,7 @@ alarmCycles rate k = cond (leb (k .alarm .seconds) (k .seconds)) 1 (toAlarm rate
 unfoldable pub clockDeadline : ℕ → Clock → Option ℕ
 clockDeadline rate k = cond (awaited k) (some (alarmCycles rate k)) none
 
--- the clock holds the line high after t cycles, where nothing but advances and host-time calls comes between
+-- a clock that does not run from host time holds the line high after t cycles, where nothing but advances and host-time
+-- calls comes between
 unfoldable pub clockDue : ℕ → Clock → ℕ → Bool
 clockDue rate k t = clockLine k || due (clockDeadline rate k) t
