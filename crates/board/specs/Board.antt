@@ -32,7 +32,7 @@ abbrev pub heldValue : Latch → ℕ
 heldValue Empty = 0
 heldValue (Held v) = v
 
--- ---- what the types of a machine board say
+-- ---- the widths of the fields, as the code's types have them
 
 abbrev pub LatchFits : Latch → Type 0
 LatchFits l = heldValue l < 2 ^ 32
@@ -46,8 +46,8 @@ pub record LatchesFit (ls : Latches) : Type 0 where
   pub low : LatchFits (ls .low)
   pub high : LatchFits (ls .high)
 
--- each field is within its width, and there are four channels and four latches of counts; timer enable, and what the
--- channels' and the clock's rules leave out, is small in a sound board
+-- each field is within its width, and there are four channels and four count latches; soundness bounds timer enable,
+-- and the fields that `TimerFits` and `ClockFits` leave out
 pub record BoardFits (b : Board) : Type 0 where
   pub four : length (b .timers) ≡ 4
   pub timers : All TimerFits (b .timers)

@@ -1,6 +1,6 @@
 -- Document 01, 'The call list' and 'The line, source 3 and the deadline': the calls. A call is a case of `Call`, with
--- its members, and what it means goes by cases: its own refusal, the board after it, and the members of its answer. A
--- direct call's answer is made of these three, and a run of a call list uses the same three.
+-- its members. Each case has three rules: its own refusal, the board after it, and the members of its answer. A direct
+-- call's answer is made of these three, and a run of a call list uses the same three.
 use Prim.Native.Nat.{ℕ, _+_, _^_, _<_}
 use mathlib.Core.Bool.{Bool, true, false, cond}
 use mathlib.Core.Option.{Option, none, some}
@@ -96,15 +96,15 @@ orZero (some d) = d
 
 -- ---- 06 skip. Skip is document 01's term
 
--- 'with the line high or no D, it makes no advance, changes nothing and passes 0'; else it advances once by D and
--- passes that: the cycles of its advance, or none
+-- the cycles of a skip's advance, or none: 'with the line high or no D, it makes no advance, changes nothing and passes
+-- 0'; else it advances once by D and passes that
 abbrev pub skipLength : Board → Option ℕ
 skipLength b = cond (line b) none (exactDeadline b)
 
 abbrev pub deadlineTooLarge : ℕ
 deadlineTooLarge = 13
 
--- the refusal of an advance by so many cycles: more than 2^64 − 1 do not go into one
+-- the refusal of a skip's advance: one advance takes at most 2^64 − 1 cycles
 abbrev pub lengthRefusal : Option ℕ → ℕ
 lengthRefusal none = 0
 lengthRefusal (some d) = cond (ltb largest d) deadlineTooLarge 0
@@ -136,8 +136,8 @@ sourceRefusal number level =
 
 -- ---- what a call means
 
--- on a board: the call's own refusal, 0 for none; the board after it, before source 3 is set to the line; the members
--- of its answer as numbers, in document 01's order
+-- what a call does on a board: its own refusal, 0 for none; the board after it, before source 3 is set to the line; the
+-- members of its answer as numbers, in document 01's order
 pub record Effect : Type 0 where
   pub refusal : ℕ
   pub board : Board
@@ -209,7 +209,7 @@ effectOf Output b =
 abbrev pub boardAfter : Call → Board → Board
 boardAfter call b = wired (effectOf call b .board)
 
--- what the types of a machine's call say: each member is within its width
+-- each member of a call is within its width, as the code's types have it
 abbrev pub CallFits : Call → Type 0
 CallFits (HostTime nanoseconds seconds) = (nanoseconds < 2 ^ 32) × (seconds < 2 ^ 64)
 CallFits (Read address) = address < 2 ^ 16
@@ -237,7 +237,7 @@ notSound = 1
 abbrev pub refusalOf : Board → ℕ → ℕ
 refusalOf b own = cond (sound b) own notSound
 
--- 'Direct calls refuse alike and return the board given, every answer member 0.' A member that is not there is 0
+-- 'Direct calls refuse alike and return the board given, every answer member 0.' A missing member is 0
 unfoldable pub answerOf : Call → Board → DirectAnswer
 answerOf call b =
     cond (eqb (refusalOf b (effectOf call b .refusal)) 0)

@@ -1,5 +1,4 @@
--- Not document 01's sentences but what the code computes of them: optional numbers, and the channels' counts, as the
--- structs that hold them.
+-- Not document 01's sentences: optional numbers and the channels' counts, as the code's structs hold them.
 use Prim.Native.Nat.{ℕ}
 use mathlib.Core.Bool.{false, cond}
 use mathlib.Core.Option.{Option}
@@ -25,11 +24,11 @@ deadlineGiven d =
 abbrev pub matchesGiven : ℕ → ℕ → List HardwareTimer → List Wide
 matchesGiven enable c = mapFrom (λ k h. wideOf (matchesOf (bit k enable) c h)) 0
 
--- no advance, by a refusal or, where it is 0, because none is to be made
+-- no advance: it is refused, or, where the refusal is 0, none is to be made
 abbrev pub noAdvance : ℕ → SkipAdvance
 noAdvance refusal = record { refusal = refusal; made = false; cycles = record { 0 = 0 } }
 
--- the cycles of an advance, or none; where they are refused, none is made
+-- the advance of an optional number of cycles; none is made where it is refused
 abbrev pub skipAdvanceOf : Option ℕ → SkipAdvance
 skipAdvanceOf o =
     cond (eqb (lengthRefusal o) 0)

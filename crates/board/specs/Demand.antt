@@ -1,6 +1,6 @@
--- What is promised of the deadline: of a sound board with its line low and its clock not running from host time,
--- after any list of advances and host-time calls, the line and source 3 by the deadline that the board gave. And what
--- is promised of a skip.
+-- The promise of the deadline. For a sound board with its line low and its clock not running from host time, it states
+-- the line and source 3 after any list of advances and host-time calls, by the deadline that the board gave. And the
+-- promise of a skip.
 use Prim.Native.Nat.{ℕ, _+_, _≤_, min}
 use mathlib.Core.Path.{_≡_}
 use mathlib.Core.Logic.{_↔_, _⊎_}
@@ -78,8 +78,9 @@ cyclesPassed (call ∷ calls) b = adds call b + cyclesPassed calls (after call b
 abbrev pub source3 : Board → Bool
 source3 b = bit 3 (b .controller .pending)
 
--- with a deadline d given, of the board at the start, T and the board at the end: 'the line is high exactly when T is
--- at least D, and source 3's pending bit is set exactly when it was set at the start or T is at least D'
+-- with a deadline d given, b the board at the start, t the T of the list and `end` the board at its end: 'the line is
+-- high exactly when T is at least D, and source 3's pending bit is set exactly when it was set at the start or T is at
+-- least D'
 pub record Rises (b : Board) (d t : ℕ) (end : Board) : Type 0 where
   pub line : (line end ≡ true) ↔ (d ≤ t)
   pub source : (source3 end ≡ true) ↔ ((source3 b ≡ true) ⊎ (d ≤ t))
@@ -105,7 +106,7 @@ Promise b present d word =
 -- ---- skip
 
 -- S-2: 'every accepted skip with a D ends with the line high', whatever the clock runs from, and where the line was low
--- it passes D: of the board that is skipped on and the answer
+-- it passes D. b is the board before the skip, r the answer
 abbrev pub SkipPromise : Board → SkipAnswer → Type 0
 SkipPromise b r =
     r .refusal ≡ 0 → (d : ℕ) → exactDeadline b ≡ some d →

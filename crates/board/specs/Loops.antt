@@ -1,5 +1,5 @@
--- Lists of elements: a property of each, and the two kinds of a loop over them, one that changes each element or gives
--- something for it, and one that joins what the elements give.
+-- Lists: a property of every element, and two kinds of loop. One gives a value for each element, the other joins the
+-- values of all.
 use Prim.Native.Nat.{ℕ, suc}
 use mathlib.Core.List.{List, [], _∷_}
 
@@ -13,7 +13,7 @@ unfoldable pub mapFrom : {A B : Type 0} → (ℕ → A → B) → ℕ → List A
 mapFrom f k [] = []
 mapFrom f k (x ∷ xs) = f k x ∷ mapFrom f (suc k) xs
 
--- what f gives of each element and its index, joined by g, from z
+-- f of each element and its index, joined by g; z for the empty list
 unfoldable pub foldFrom : {A B : Type 0} → (ℕ → A → B) → (B → B → B) → B → ℕ → List A → B
 foldFrom f g z k [] = z
 foldFrom f g z k (x ∷ xs) = g (f k x) (foldFrom f g z (suc k) xs)

@@ -33,7 +33,7 @@ pub record Read : Type 0 where
 abbrev pub readByte : ℕ → ℕ → Board → Read
 readByte offset word b = record { board = b; byte = byteOfWord (byteOf offset) word }
 
--- the alarm check is made
+-- the board after the alarm check
 abbrev pub checked : Board → Board
 checked b = withClock (checkAlarm (rateOf (b .clock)) (b .clock)) b
 
@@ -47,7 +47,7 @@ freed offset l = cond (eqb (byteOf offset) 3) Empty l
 
 -- ---- a count
 
--- the channel's high count word is latched
+-- the board with the channel's high count word latched
 abbrev pub countHeld : ℕ → Board → Board
 countHeld n b = withCountLatch n (Held (highWord (channelAt n b .counter))) b
 

@@ -1,5 +1,5 @@
--- Document 01, 'Registers and latches': the words that registers read as, 'as in `read_register`'. Where there is no
--- register the word is 0, and so it is of the two acknowledge registers.
+-- Document 01, 'Registers and latches': the words that registers read as, 'as in `read_register`'. The word is 0 where
+-- there is no register, and for the two acknowledge registers.
 use Prim.Native.Nat.{ℕ, _+_, _*_}
 use mathlib.Core.Bool.{cond}
 use mathlib.Core.List.{List}

@@ -1,5 +1,5 @@
--- Document 01, 'Registers and latches': what a byte written does, 'as in .. `write_byte`'. Elsewhere a byte does
--- nothing. The latches stay as they are.
+-- Document 01, 'Registers and latches': what a byte written does, 'as in .. `write_byte`'. A byte written elsewhere
+-- does nothing, and no write changes a latch.
 use Prim.Native.Nat.{ℕ, _+_, _%_}
 use mathlib.Core.Bool.{Bool, false, cond, _&&_}
 use mathlib.Core.List.{List}
@@ -37,7 +37,7 @@ use Rattle.board.specs.Registers.{
 abbrev pub clearedBy : Bool → HardwareTimer → HardwareTimer
 clearedBy clear h = cond clear (withFlags false (h .armed) h) h
 
--- TIMER_ACK: each channel whose bit is set in the byte
+-- TIMER_ACK: clears the pending of each channel whose bit is set in the byte
 abbrev pub acknowledged : ℕ → List HardwareTimer → List HardwareTimer
 acknowledged v = mapFrom (λ k h. clearedBy (bit k v) h) 0
 
@@ -49,7 +49,7 @@ timerWritten register i v b =
     (cond (eqb register timerAckAt && eqb i 3) (withTimers (acknowledged v (b .timers)) b)
     b)
 
--- byte i of a register of the clock. Of the eight bytes of seconds and alarm the low word has the last four.
+-- byte i of a register of the clock. The low word has the last four of the eight bytes of seconds, and of the alarm.
 unfoldable pub clockWritten : ℕ → ℕ → ℕ → Clock → Clock
 clockWritten register i v k =
     cond (eqb register clockControlAt) (writeControl (rateOf k) i v k)

@@ -72,16 +72,16 @@ channelStride = 0x40
 
 -- ---- ranges
 
--- offsets one behind another, by the first and the last
+-- a range of offsets, from the first to the last
 pub record Range : Type 0 where
   pub first : ℕ
   pub last : ℕ
 
--- the offset right behind them
+-- the first offset after a range
 abbrev pub behind : Range → ℕ
 behind r = r .last + 1
 
--- an offset is one of them: as a statement, and as a test
+-- an offset is in a range: as a statement, and as a test
 abbrev pub Inside : Range → ℕ → Type 0
 Inside r offset = (r .first ≤ offset) × (offset ≤ r .last)
 

@@ -1,4 +1,4 @@
--- S-4, an advance in parts on a board: a list of cycles, one advance after the other, each on the board that the one
+-- S-4, an advance split into several on a board: a list of cycles, with one advance for each, on the board that the one
 -- before left.
 use Prim.Native.Nat.{ℕ, _+_}
 use mathlib.Core.List.{List, [], _∷_}
@@ -11,12 +11,12 @@ use Rattle.board.specs.Calls.{effectOf, advanceBy, advancedBoard}
 abbrev pub countAt : ℕ → ℕ → Board → ℕ
 countAt i c b = getD (effectOf (advanceBy c) b .members) (i + 1) 0
 
--- the board after all parts
+-- the board after all advances
 unfoldable pub boardBy : List ℕ → Board → Board
 boardBy [] b = b
 boardBy (c ∷ cs) b = boardBy cs (advancedBoard c b)
 
--- the counts of channel i that the parts' advances answer, added
+-- the counts of channel i that the advances answer, added up
 unfoldable pub countsBy : ℕ → List ℕ → Board → ℕ
 countsBy i [] b = 0
 countsBy i (c ∷ cs) b = countAt i c b + countsBy i cs (advancedBoard c b)

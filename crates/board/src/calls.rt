@@ -1,5 +1,5 @@
-// The calls, and the direct calls but read and write. Each tests soundness first, then its own refusal, and a refused
-// call returns the board given.
+// The calls, and the direct calls except read and write. Each direct call tests soundness first, then its own refusal.
+// A refused call returns the board given.
 ghost use mathlib.Core.Path.{_≡_};
 ghost use mathlib.Core.Bool.{true};
 ghost use Rattle.wide.specs.Number.{valueOf};
@@ -18,7 +18,7 @@ use controller::SourceNumber;
 use wide::deadline::Deadline;
 use wide::number::Wide;
 
-// A call, with its members; the smaller of two comes first, because that is faster to decode.
+// A call, with its members. The smaller of two members comes first, which is faster to decode.
 pub enum Call {
     // nanoseconds, seconds
     HostTime(u32, u64),
@@ -38,7 +38,7 @@ pub enum Call {
     Output,
 }
 
-// The answer of a call without answer members, and a board that was made.
+// The answer of a call without answer members, and of making a board.
 pub struct EmptyAnswer {
     pub board: Board,
     pub refusal: u8,
@@ -163,8 +163,8 @@ impl Board {
         }
     }
 
-    // The advance that a skip makes: to the interrupt; with the line high or no deadline, none. It is refused where the
-    // deadline is more than a word. The level of source 3 is the line.
+    // The advance that a skip makes: by the deadline, or none with the line high or no deadline. It is refused where
+    // the deadline exceeds a word. On a sound board the level of source 3 is the line.
     pub fn skip_length(self) -> SkipAdvance
         requires { ⌜ sound self ≡ true ⌝ }
         ensures { λ r. ⌜ r ≡ skipAdvanceOf (skipLength self) ⌝ }
@@ -188,8 +188,8 @@ impl Board {
 
     // ---- the calls
 
-    // The refusal of a call, by its own: 1 comes first. The contract also says that the board's words are words, which
-    // the promise of its deadline rests on.
+    // The refusal of a call: 1 for a board that is not sound, else the call's own. The contract also says that every
+    // field is within its width, which the promise of the deadline needs.
     pub fn refusal_of(self, own: u8) -> u8
         ensures { λ r. ⌜ (r ≡ refusalOf self own) × BoardFits self ⌝ }
     {
@@ -235,7 +235,7 @@ impl Board {
         }
     }
 
-    // The deadline, with what is promised of it.
+    // The deadline, with its promise.
     pub fn deadline(self) -> DeadlineAnswer
         ensures { λ r. ⌜ r ≡ deadlineAnswer (answerOf Call.Deadline self) ⌝ }
         ensures { λ r. ⌜ Promise self (r .present) (valueOf (r .exact)) (r .word .0) ⌝ }
@@ -262,7 +262,7 @@ impl Board {
         }
     }
 
-    // A skip, with what is promised of it.
+    // A skip, with its promise.
     pub fn skip(self) -> SkipAnswer
         ensures { λ r. ⌜ r ≡ skipAnswer (answerOf Call.Skip self) ⌝ }
         ensures { λ r. ⌜ SkipPromise self r ⌝ }
@@ -378,7 +378,7 @@ impl Board {
     }
 }
 
-// No advance, by a refusal or, where it is 0, because none is to be made.
+// No advance: it is refused, or, where the refusal is 0, none is to be made.
 pub fn no_advance(refusal: u8) -> SkipAdvance
     ensures { λ r. ⌜ r ≡ noAdvance refusal ⌝ }
 {
@@ -389,7 +389,7 @@ pub fn no_advance(refusal: u8) -> SkipAdvance
     }
 }
 
-// The refusal of a host time itself, 0 for none.
+// A host-time call's own refusal, 0 for none.
 pub fn host_time_refusal(host: HostTime) -> u8
     ensures { λ r. ⌜ r ≡ hostTimeRefusal host ⌝ }
 {
@@ -400,7 +400,7 @@ pub fn host_time_refusal(host: HostTime) -> u8
     0
 }
 
-// The refusal of a register's address itself, 0 for none.
+// A read's or a write's own refusal, by its address; 0 for none.
 pub fn address_refusal(address: u16) -> u8
     ensures { λ r. ⌜ r ≡ addressRefusal address ⌝ }
 {
@@ -410,7 +410,7 @@ pub fn address_refusal(address: u16) -> u8
     0
 }
 
-// The refusal of a source and level themselves, 0 for none.
+// A source call's own refusal, 0 for none.
 pub fn source_refusal(number: SourceNumber, level: u8) -> u8
     ensures { λ r. ⌜ r ≡ sourceRefusal (number .0) level ⌝ }
 {

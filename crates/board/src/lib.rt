@@ -43,7 +43,7 @@ pub struct Board {
 }
 
 impl Board {
-    // Cycles of a second of a board of which no rate is said.
+    // Cycles a second of a board without a given rate.
     pub const RATE: u32 = Clock::RATE;
 
     // The number of channels.
@@ -58,14 +58,14 @@ impl Board {
     // The refusal of a rate that no sound board has, by the number of S-7.
     pub const ANOTHER_RATE: u8 = 15;
 
-    // Everything zero except clock control 1, and the rate.
+    // The fresh board without a given rate: everything zero except clock control 1 and the rate.
     pub fn fresh() -> Self
         ensures { λ r. ⌜ r ≡ freshBoard ⌝ }
     {
         Self::fresh_with(Self::RATE)
     }
 
-    // A fresh board of a rate. A rate that no sound board has is refused, with a fresh board of which none is said.
+    // A fresh board at a rate. A rate that no sound board has is refused, and the board is then that of `fresh`.
     pub fn fresh_at(rate: u32) -> EmptyAnswer
         ensures { λ r. ⌜ r ≡ freshOf rate ⌝ }
     {

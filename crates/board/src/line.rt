@@ -17,7 +17,7 @@ impl Board {
         either(any_asserted(timers), clock.line())
     }
 
-    // The controller with source 3 set to the line, which is given.
+    // The controller with source 3 set to `line`.
     pub fn controller_wired(self, line: bool) -> IrqController
         ensures { λ r. ⌜ r ≡ sourceSet (self .controller) 3 line ⌝ }
     {

@@ -1,4 +1,4 @@
-// Whether a board is sound. An empty latch holds nothing here, so the clause about it always holds.
+// Whether a board is sound. The code's empty latch has no value, so the clause about empty latches always holds.
 ghost use mathlib.Core.Path.{_≡_};
 ghost use Rattle.board.specs.Board.{BoardFits, soundParts, sound};
 use crate::Board;
@@ -23,7 +23,8 @@ impl Board {
         )
     }
 
-    // The contract also says that the board's words are words, which the promise of its deadline rests on.
+    // Whether the board is sound. The contract also says that every field is within its width, which the promise of the
+    // deadline needs.
     pub fn sound(self) -> bool
         ensures { λ r. ⌜ (r ≡ sound self) × BoardFits self ⌝ }
     {

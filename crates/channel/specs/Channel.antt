@@ -1,12 +1,12 @@
--- A channel's fields, its control bits, soundness and part of the line, as document 01 has them. The setters are what
--- the other rules are written with.
+-- A channel's fields, control bits and soundness, and when it holds the line high, by document 01. The other rules use
+-- the setters.
 use Prim.Native.Nat.{ℕ, _+_, _*_, _/_, _%_, _^_, _<_}
 use mathlib.Core.Bool.{Bool, true, false, _&&_}
 use lib.Dec.{ltb}
 use Rattle.wide.specs.Bits.{bit}
 use Rattle.channel.specs.declared.HardwareTimer.{HardwareTimer}
 
--- what the types of a machine channel say of its words; a sound one's control and phase follow
+-- each field is within its width, as the code's types have it; soundness bounds control and phase
 pub record TimerFits (h : HardwareTimer) : Type 0 where
   pub counter : h .counter < 2 ^ 64
   pub compare : h .compare < 2 ^ 64
@@ -144,7 +144,7 @@ clearEnable h = withControl (disabled (h .control)) h
 
 -- ---- soundness and the line
 
--- V
+-- 'divisor V = prescaler + 1'
 abbrev pub divisor : HardwareTimer → ℕ
 divisor h = h .prescaler + 1
 

@@ -1,4 +1,4 @@
--- A channel's part of document 01, 'The line, source 3 and the deadline'.
+-- Document 01, 'The line, source 3 and the deadline': the deadline of one channel.
 use Prim.Native.Nat.{ℕ, zero, suc, _+_, _-_, _*_}
 use mathlib.Core.Bool.{Bool, cond, not, _&&_}
 use mathlib.Core.Option.{Option, none, some}
@@ -37,7 +37,7 @@ deadlineOf selected h =
     (inCycles (divisor h) (h .phase) (ticksToGo (modeOf (h .control)) (h .counter) (h .compare) (h .armed)))
     none
 
--- the number that the code's ticks to go are
+-- the code's ticks to go as an optional number
 abbrev pub toGoOf : ToGo → Option ℕ
 toGoOf Never = none
 toGoOf (OneAfter n) = some (n .0 + 1)

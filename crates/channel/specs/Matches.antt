@@ -7,7 +7,7 @@ use Rattle.channel.specs.Channel.{modeOf, withFlags}
 use Rattle.channel.specs.Modes.{pointsTo}
 use Rattle.channel.specs.Prescaler.{advanced}
 
--- 'A match is where document 01's rule sets pending, set before or not': the rule sets it where it was clear
+-- 'A match is where document 01's rule sets pending, set before or not': applied with pending clear, the rule sets it
 abbrev pub matchedBy : (HardwareTimer → HardwareTimer) → HardwareTimer → Bool
 matchedBy rule h = rule (withFlags false (h .armed) h) .pending
 

@@ -6,8 +6,8 @@ use Rattle.wide.specs.Number.{largest}
 use Rattle.channel.specs.declared.HardwareTimer.{HardwareTimer}
 use Rattle.channel.specs.Channel.{modeOf, withCounter, withCompare, withFlags, setPending, clearEnable}
 
--- 'Mode 0: if compare ≤ counter, set pending and clear enable, counter unchanged; else if compare − counter ≤ t, also
--- counter = compare; else counter + t.'
+-- 'Mode 0: if compare ≤ counter, set pending and clear enable, counter unchanged; else if compare − counter ≤ t,
+-- also counter = compare; else counter + t.'
 unfoldable pub oneShot : ℕ → HardwareTimer → HardwareTimer
 oneShot t h =
     cond (leb (h .compare) (h .counter))
@@ -16,7 +16,7 @@ oneShot t h =
     (clearEnable (setPending (withCounter (h .compare) h)))
     (withCounter (h .counter + t) h))
 
--- 'floor((counter − compare) / reload) + 1': the points compare, compare + reload, .. up to the counter
+-- 'floor((counter − compare) / reload) + 1': the points compare, compare + reload, .. up to the counter, counted
 abbrev pub pointsTo : ℕ → ℕ → ℕ → ℕ
 pointsTo counter compare reload = (counter - compare) / reload + 1
 

@@ -1,6 +1,6 @@
--- A channel's part of document 01, 'Registers and latches': 'offsets, read values and write effects as in
--- `read_register` and `write_byte`'. A register is given by its offset in the channel's block; it has four bytes,
--- most significant first.
+-- Document 01, 'Registers and latches', of a channel's registers: 'offsets, read values and write effects as in
+-- `read_register` and `write_byte`'. A register is given by its offset in the channel's block; it has four bytes, most
+-- significant first.
 use Prim.Native.Nat.{ℕ, _+_, _-_, _*_, _%_}
 use mathlib.Core.Bool.{true, false, cond}
 use lib.Dec.{eqb}

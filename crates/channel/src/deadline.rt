@@ -14,13 +14,13 @@ use wide::deadline::Deadline;
 use wide::flags::both;
 use wide::number::Wide;
 
-// The ticks to go: none, or one more than a word can hold.
+// The ticks to go: none, or one more than the number held. They can be 2^64, which a word cannot hold.
 pub enum ToGo {
     Never,
     OneAfter(Ticks),
 }
 
-// The ticks of modes 0 and 1 up to the compare point.
+// The ticks to the compare point in modes 0 and 1; 1 where the counter has reached it.
 fn ticks_up(counter: u64, compare: u64) -> ToGo
     ensures { λ r. ⌜ toGoOf r ≡ some (ticksUp counter compare) ⌝ }
 {
@@ -31,7 +31,7 @@ fn ticks_up(counter: u64, compare: u64) -> ToGo
     }
 }
 
-// The ticks of mode 2 to the compare point, round past the largest word.
+// The ticks to the compare point in mode 2, where the counter wraps; none where the channel is not armed.
 fn ticks_round(counter: u64, compare: u64, armed: bool) -> ToGo
     ensures { λ r. ⌜ toGoOf r ≡ cond armed (some (distance counter compare)) none ⌝ }
 {
@@ -60,7 +60,7 @@ impl HardwareTimer {
         }
     }
 
-    // The cycles of n ticks and one more.
+    // The cycles that n + 1 ticks take, from the channel's phase on.
     fn cycles_of(self, n: Ticks) -> Wide
         requires { ⌜ self .phase ≤ self .prescaler ⌝ }
         ensures { λ r. ⌜ valueOf r ≡ divisor self - self .phase + n .0 * divisor self ⌝ }
@@ -72,7 +72,7 @@ impl HardwareTimer {
         first.sum(Wide::product(n.0, v))
     }
 
-    // Whether the channel, whose bit in timer enable is `selected`, has an interrupt to come.
+    // Whether the channel runs with interrupt enable and is not pending. Its bit in timer enable is `selected`.
     fn waits(self, selected: bool) -> bool
         ensures { λ r. ⌜ r ≡ waiting selected self ⌝ }
     {

@@ -9,13 +9,13 @@ mod modes;
 mod prescaler;
 mod timer_registers;
 
-// Cycles of the master clock. Only a channel's prescaler turns them into ticks.
+// Cycles of the master clock. Only a channel's prescaler converts them to ticks.
 pub struct Cycles(pub u64);
 
 // Ticks of a channel, which its prescaler gives.
 pub struct Ticks(pub u64);
 
-// What an advance leaves of a channel, and the compare points that it met, at most 2^64.
+// A channel after an advance, and how many compare points the advance met, at most 2^64.
 pub struct Advanced {
     pub timer: HardwareTimer,
     pub matches: Wide,
@@ -40,7 +40,7 @@ impl ChannelNumber {
     }
 }
 
-// The small fields stand first, which leaves the fewest bytes between fields.
+// A channel's fields. The small ones come first, which leaves the least padding.
 pub struct HardwareTimer {
     pub control: u8,
     pub pending: bool,
@@ -55,7 +55,7 @@ pub struct HardwareTimer {
 
 impl HardwareTimer {
     // Control has the mode in bits 0 and 1, enable in bit 2 and interrupt enable in bit 3. The mode is the remainder by
-    // MODES; ENABLE and IRQ_ENABLE are what their bits count for.
+    // MODES; ENABLE and IRQ_ENABLE are the values of their bits.
     const MODES: u8 = 4;
 
     const ENABLE: u8 = 4;
@@ -90,7 +90,7 @@ impl HardwareTimer {
         }
     }
 
-    // The channel made anew of its fields. A copy of the whole takes the bytes between the fields along; this does not.
+    // The same channel, built field by field. A copy of the whole struct copies its padding too; this does not.
     fn rebuilt(self) -> Self
         ensures { λ r. ⌜ r ≡ self ⌝ }
     {
@@ -118,7 +118,7 @@ impl HardwareTimer {
         self.control / Self::IRQ_ENABLE % 2 == 1
     }
 
-    // What the channel gives to the line.
+    // Whether the channel holds the line high.
     pub fn asserted(self) -> bool
         ensures { λ r. ⌜ r ≡ lineOf self ⌝ }
     {
@@ -129,7 +129,8 @@ impl HardwareTimer {
         }
     }
 
-    // The contract also says that a channel's words are words, which the laws of its deadline ask of it.
+    // Whether the channel is sound. The contract also says that every field is within its width, which the deadline's
+    // laws need.
     pub fn sound(self) -> bool
         ensures { λ r. ⌜ (r ≡ soundTimer self) × TimerFits self ⌝ }
     {

@@ -19,7 +19,7 @@ fn saturating_add(a: u64, b: u64) -> u64
 }
 
 impl HardwareTimer {
-    // Pending set and enable cleared, which stands between the mode and interrupt enable.
+    // The channel with pending set and enable cleared. Enable is the bit between mode and interrupt enable.
     fn fired(mut self) -> Self
         ensures { λ r. ⌜ r ≡ clearEnable (setPending self) ⌝ }
     {
@@ -29,7 +29,7 @@ impl HardwareTimer {
         self
     }
 
-    // No compare point is met.
+    // The channel as it is, with no compare point met.
     pub fn unmet(self) -> Advanced
         ensures { λ r. ⌜ (r .timer ≡ self) × (valueOf (r .matches) ≡ 0) ⌝ }
     {
@@ -39,7 +39,7 @@ impl HardwareTimer {
         }
     }
 
-    // One compare point is met, and another for each of the periods past it.
+    // The channel as it is, with one compare point met, and one more for each period past it.
     fn met(self, periods: u64) -> Advanced
         ensures { λ r. ⌜ (r .timer ≡ self) × (valueOf (r .matches) ≡ periods + 1) ⌝ }
     {
@@ -67,8 +67,8 @@ impl HardwareTimer {
         self.unmet()
     }
 
-    // A periodic channel at its compare point or past it. The next point lies past the counter by what the remainder
-    // leaves of a period, and the quotient is the periods that have passed.
+    // A periodic channel at its compare point or past it. The periods passed are counter − compare divided by reload;
+    // the next point lies ahead of the counter by reload less the remainder.
     fn reloaded(mut self) -> Advanced
         requires { ⌜ self .compare ≤ self .counter ⌝ }
         ensures { λ r. ⌜ (r .timer ≡ reloaded self) × (valueOf (r .matches) ≡ pointsMet 1 (self .counter) self) ⌝ }

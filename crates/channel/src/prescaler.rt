@@ -10,7 +10,7 @@ use crate::HardwareTimer;
 use crate::Ticks;
 use wide::flags::both;
 
-// What the prescaler makes of a number of cycles.
+// The ticks that a number of cycles gives, and the phase after them.
 struct Scaled {
     ticks: Ticks,
     phase: u32,
@@ -28,8 +28,8 @@ impl HardwareTimer {
         }
     }
 
-    // S-5: prescaler 0 comes first. With another the cycles up to the first tick are taken off and the rest is divided,
-    // so that no sum is larger than a word and no number of two words is divided.
+    // S-5: prescaler 0 comes first. With another prescaler the cycles up to the first tick are taken off and the rest
+    // is divided, so that no sum is larger than a word and no number of two words is divided.
     fn scale(self, cycles: Cycles) -> Scaled
         requires { ⌜ self .phase ≤ self .prescaler ⌝ }
         ensures { λ r. ⌜ (r .ticks .0 ≡ ticksOf (cycles .0) self) × (r .phase ≡ phaseAfter (cycles .0) self) ⌝ }
@@ -62,7 +62,7 @@ impl HardwareTimer {
         both(self.enabled(), selected)
     }
 
-    // The channel after the cycles, as its mode leaves it; `advance_cycles` makes it anew of its fields.
+    // The channel after the cycles, before `advance_cycles` rebuilds it field by field.
     fn advanced(self, selected: bool, cycles: Cycles) -> Advanced
         requires { ⌜ self .phase ≤ self .prescaler ⌝ }
         ensures { λ r. ⌜ (r .timer ≡ advanced selected (cycles .0) self)
@@ -77,7 +77,7 @@ impl HardwareTimer {
         h.advance(s.ticks)
     }
 
-    // Cycles arrive at the channel, whose bit in timer enable is `selected`.
+    // The channel after the cycles, and the compare points that it met. Its bit in timer enable is `selected`.
     pub fn advance_cycles(self, selected: bool, cycles: Cycles) -> Advanced
         requires { ⌜ self .phase ≤ self .prescaler ⌝ }
         ensures { λ r. ⌜ (r .timer ≡ advanced selected (cycles .0) self)

@@ -1,5 +1,5 @@
-// The words that a channel's registers read as, and what a byte written to them does. Its name is not `registers`:
-// `rt try` refuses programs over the crate of that name where a module has it too.
+// The words that a channel's registers read as, and what a byte written to them does. The module is not named
+// `registers`: `rt try` refuses a program that uses the crate of that name where a module has the name too.
 ghost use mathlib.Core.Path.{_≡_};
 ghost use Prim.Native.Nat.{_+_, _*_, _<_};
 ghost use Rattle.wide.specs.Bits.{flagOf};
@@ -37,7 +37,7 @@ impl HardwareTimer {
         pair(self.enabled(), self.pending)
     }
 
-    // The word of the register at an offset in the channel's block.
+    // The word of the register at an offset in the channel's block, 0 where there is none.
     pub fn read_word(self, register: u32) -> u32
         ensures { λ r. ⌜ r ≡ wordOf register self ⌝ }
     {
@@ -68,7 +68,7 @@ impl HardwareTimer {
         self
     }
 
-    // A byte of the counter, which has `below` bytes below it; so for the fields after it.
+    // Writes the byte of the counter that has `below` bytes below it. The next three functions do so for their fields.
     fn write_counter(mut self, below: usize, value: u8) -> Self
         requires { ⌜ below < 8 ⌝ }
         ensures { λ r. ⌜ r ≡ withCounter (withByte below value (self .counter)) self ⌝ }
@@ -103,7 +103,7 @@ impl HardwareTimer {
         self
     }
 
-    // A byte written to the register at an offset in the channel's block, byte 0 the most significant.
+    // The channel after a byte is written to the register at an offset in its block. Byte 0 is the most significant.
     pub fn write_byte(self, register: u32, byte: usize, value: u8) -> Self
         requires { ⌜ byte < 4 ⌝ }
         ensures { λ r. ⌜ r ≡ byteWritten register byte value self ⌝ }

@@ -104,7 +104,7 @@ module _ (o e a h : Bool) (d t : ℕ) where
 abbrev alarmOn : Clock → Bool
 alarmOn k = bit 0 (k .alarm .enable)
 
--- the clock has its line high after t cycles of advances and host times
+-- a clock that does not run from host time holds the line high after t cycles of advances and host times
 unfoldable pub clockDue : ℕ → Clock → ℕ → Bool
 clockDue rate k t = clockLine k || due (clockDeadline rate k) t
 

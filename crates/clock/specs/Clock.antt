@@ -10,7 +10,7 @@ use Rattle.clock.specs.declared.HostTime.{HostTime}
 use Rattle.clock.specs.declared.Clock.{Clock}
 use Rattle.clock.specs.Fields.{withTime, withAlarm, withPoll}
 
--- S-7: 'Document 01's F is the board's rate': the cycles of a second, of this clock
+-- S-7: 'Document 01's F is the board's rate': this clock's cycles a second
 abbrev pub rateOf : Clock → ℕ
 rateOf k = k .rate
 
@@ -18,7 +18,7 @@ rateOf k = k .rate
 abbrev pub nanosPerSecond : ℕ
 nanosPerSecond = 1_000_000_000
 
--- S-7: 'and its 48,000 a thousandth of it', of the rate: poll's limit
+-- S-7: 'and its 48,000 a thousandth of it': the limit of poll at a rate
 abbrev pub pollLimit : ℕ → ℕ
 pollLimit rate = rate / 1_000
 
@@ -40,7 +40,7 @@ fromHost control = enabled control && realtime control
 abbrev pub ownTime : ℕ → Bool
 ownTime control = enabled control && not (realtime control)
 
--- seconds and nanoseconds in nanoseconds
+-- a time of s seconds and n nanoseconds, in nanoseconds
 abbrev pub inNanoseconds : ℕ → ℕ → ℕ
 inNanoseconds s n = s * nanosPerSecond + n
 
@@ -58,7 +58,7 @@ shifted h o =
 unfoldable pub ownNanoseconds : ℕ → Clock → ℕ
 ownNanoseconds rate k = inNanoseconds (k .seconds) (k .subsecond * nanosPerSecond / rate)
 
--- 'Time in nanoseconds is max(0, host + offset) if enabled and realtime .., else' that
+-- 'Time in nanoseconds is max(0, host + offset) if enabled and realtime .., else' the clock's own
 unfoldable pub timeOf : ℕ → Clock → ℕ
 timeOf rate k = cond (fromHost (k .control)) (shifted (k .host) (k .offset)) (ownNanoseconds rate k)
 

@@ -1,5 +1,4 @@
--- Not document 01's sentences: the numbers of nanoseconds that the code's durations and times are, and the periods that
--- it divides by.
+-- Not document 01's sentences: the code's durations and times in nanoseconds, and the periods that it divides by.
 use Prim.Native.Nat.{ℕ, _*_, _<_}
 use mathlib.Core.Path.{_≡_}
 use mathlib.Core.Bool.{Bool, _||_}

@@ -1,4 +1,5 @@
--- Document 01, 'The line, source 3 and the deadline': the clock's part. Line and deadline are document 01's terms.
+-- Document 01, 'The line, source 3 and the deadline': the line and the deadline of the clock. Line and deadline are
+-- document 01's terms.
 use Prim.Native.Nat.{ℕ, _-_, _*_}
 use mathlib.Core.Bool.{Bool, cond, not, _&&_}
 use mathlib.Core.Option.{Option, none, some}
@@ -24,6 +25,6 @@ toAlarm rate k = (k .alarm .seconds - k .seconds) * rate - k .subsecond
 abbrev pub alarmCycles : ℕ → Clock → ℕ
 alarmCycles rate k = cond (leb (k .alarm .seconds) (k .seconds)) 1 (toAlarm rate k)
 
--- the clock, so awaited, 'has' it
+-- a clock whose alarm is so awaited 'has' it; another clock has none
 unfoldable pub clockDeadline : ℕ → Clock → Option ℕ
 clockDeadline rate k = cond (awaited k) (some (alarmCycles rate k)) none

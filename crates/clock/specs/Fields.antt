@@ -141,6 +141,6 @@ freshClockAt rate = record {
   host = record { seconds = 0; nanoseconds = 0 };
 }
 
--- no rate is said
+-- the fresh clock without a given rate
 abbrev pub freshClock : Clock
 freshClock = freshClockAt freshRate

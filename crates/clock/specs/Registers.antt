@@ -35,26 +35,26 @@ signedDifference a b = record {
 
 -- ---- control
 
--- the clock's own time, and the value of its shadow with it
+-- the clock with seconds, subsecond and the shadow's value set
 abbrev pub ownTimeSet : ℕ → ℕ → Clock → Clock
 ownTimeSet s u k = withShadow (record { value = s; mask = k .shadow .mask }) (withTime s u k)
 
--- the own time is set from n nanoseconds, as `set_internal_time_ns` does
+-- the clock's own time is set to n nanoseconds, as by `set_internal_time_ns`
 unfoldable pub setTime : ℕ → ℕ → Clock → Clock
 setTime rate n k =
     cond (ltb largest (n / nanosPerSecond))
     (ownTimeSet largest 0 k)
     (ownTimeSet (n / nanosPerSecond) (n % nanosPerSecond * rate / nanosPerSecond) k)
 
--- host time is taken up: `new_enabled && new_realtime && (!old_enabled || !old_realtime)`
+-- the clock starts to run from host time: `new_enabled && new_realtime && (!old_enabled || !old_realtime)`
 abbrev pub takesHost : ℕ → ℕ → Bool
 takesHost new old = fromHost new && not (fromHost old)
 
--- the own time is taken up: `old_enabled && !new_enabled`, or `new_enabled && !new_realtime && old_realtime`
+-- seconds and subsecond are set: `old_enabled && !new_enabled`, or `new_enabled && !new_realtime && old_realtime`
 abbrev pub takesOwn : ℕ → ℕ → Bool
 takesOwn new old = cond (enabled new) (not (realtime new) && realtime old) (enabled old)
 
--- the time that the clock had goes into the offset, or into seconds and subsecond
+-- a change of control keeps the clock's time, in the offset or in seconds and subsecond
 unfoldable pub timeKept : ℕ → ℕ → Clock → Clock
 timeKept rate new k =
     cond (takesHost new (k .control))
@@ -75,7 +75,7 @@ writeControl rate i v k = changeControl rate (mergeByte i v (k .control) % 8) k
 unfoldable pub marked : ℕ → ℕ → ℕ
 marked i m = cond (bit i m) m (m + 2 ^ i)
 
--- byte i of a shadow's eight
+-- byte i of a shadow's eight is written
 unfoldable pub shadowByte : ℕ → ℕ → Shadow → Shadow
 shadowByte i v s = record { value = withByte (7 - i) v (s .value); mask = marked i (s .mask) }
 
@@ -83,7 +83,7 @@ shadowByte i v s = record { value = withByte (7 - i) v (s .value); mask = marked
 abbrev pub complete : Shadow → Bool
 complete s = eqb (s .mask) 255
 
--- no byte is marked
+-- the shadow with no byte marked
 abbrev pub unmarked : Shadow → Shadow
 unmarked s = record { value = s .value; mask = 0 }
 

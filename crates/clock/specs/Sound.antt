@@ -32,7 +32,7 @@ soundShadow s = ltb (s .mask) 255
 abbrev pub soundHost : HostTime → Bool
 soundHost h = ltb (h .nanoseconds) nanosPerSecond
 
--- 'clock control < 8; .. subsecond < F; .. poll < 48,000', and the parts above
+-- 'clock control < 8; .. subsecond < F; .. poll < 48,000', and the clauses above
 unfoldable pub soundFields : ℕ → Clock → Bool
 soundFields rate k =
     ltb (k .control) 8
@@ -49,7 +49,7 @@ alarmAhead k = not (k .alarm .armed && ownTime (k .control)) || ltb (k .seconds)
 unfoldable pub soundClock : ℕ → Clock → Bool
 soundClock rate k = soundFields rate k && alarmAhead k
 
--- what the types of a machine clock say of its words; a sound one's other fields follow
+-- each field is within its width, as the code's types have it; soundness bounds the other fields
 pub record ClockFits (k : Clock) : Type 0 where
   pub seconds : k .seconds < 2 ^ 64
   pub offset : k .offset .seconds < 2 ^ 64
@@ -58,7 +58,7 @@ pub record ClockFits (k : Clock) : Type 0 where
   pub alarmShadow : k .«alarm_shadow» .value < 2 ^ 64
   pub host : k .host .seconds < 2 ^ 64
 
--- what reading the time asks of a clock: that the rate is its own, and four of these clauses
+-- what reading the time needs of a clock: that the rate is its own, and four clauses of a sound board
 pub record Timed (rate : ℕ) (k : Clock) : Type 0 where
   pub own : rateOf k ≡ rate
   pub known : soundRate rate ≡ true

@@ -16,7 +16,8 @@ use crate::rates::divided;
 use channel::Cycles;
 use wide::flags::both;
 
-// Cycles that follow `part` of a period. The sum of the two may pass a word, so it is not formed.
+// The whole periods in `part` and the cycles together, and the remainder. Their sum may exceed a word, so it is formed
+// only where the cycles are fewer than a period.
 fn elapsed(part: u32, cycles: Cycles, period: u64) -> Periods
     requires { ⌜ isPeriod period ≡ true ⌝ }
     ensures { λ r. ⌜ (r .whole ≡ (part + cycles .0) / period) × (r .rest ≡ (part + cycles .0) % period) ⌝ }

@@ -1,4 +1,4 @@
-// Bytes written to the clock's seconds, alarm and interrupt registers, and the words that registers read as.
+// Bytes written to the clock's seconds, alarm and interrupt registers, and the word that the status register reads as.
 ghost use mathlib.Core.Path.{_≡_};
 ghost use Prim.Native.Nat.{_<_};
 ghost use Rattle.clock.specs.Clock.{rateOf};
@@ -28,7 +28,7 @@ fn marked(mask: u8, byte: usize) -> u8
 }
 
 impl Shadow {
-    // Byte `byte` of the eight, 0 the most significant.
+    // The shadow after byte `byte` of the eight is written, 0 the most significant.
     fn with_byte(self, byte: usize, value: u8) -> Self
         requires { ⌜ byte < 8 ⌝ }
         ensures { λ r. ⌜ r ≡ shadowByte byte value self ⌝ }
@@ -41,7 +41,7 @@ impl Shadow {
 }
 
 impl Clock {
-    // From host time, the offset that makes the time this many seconds.
+    // Where the clock runs from host time, sets the offset that makes the time this many seconds.
     fn offset_for(self, seconds: u64) -> Self
         requires { ⌜ Timed (rateOf self) self ⌝ }
         ensures { λ r. ⌜ r ≡ offsetFor seconds self ⌝ }
@@ -65,7 +65,7 @@ impl Clock {
         k.with_shadow(Shadow { value, mask: 0 }).check_alarm()
     }
 
-    // Byte `byte` of the seconds, 0 the most significant.
+    // The clock after byte `byte` of seconds is written, 0 the most significant. Without set enable nothing changes.
     pub fn write_seconds(self, byte: usize, value: u8) -> Self
         requires { ⌜ (byte < 8) × Timed (rateOf self) self ⌝ }
         ensures { λ r. ⌜ r ≡ writeSeconds (rateOf self) byte value self ⌝ }
@@ -95,7 +95,7 @@ impl Clock {
         k.with_alarm_shadow(Shadow { value, mask: 0 }).check_alarm()
     }
 
-    // Byte `byte` of the alarm, 0 the most significant.
+    // The clock after byte `byte` of the alarm is written, 0 the most significant.
     pub fn write_alarm(self, byte: usize, value: u8) -> Self
         requires { ⌜ (byte < 8) × Timed (rateOf self) self ⌝ }
         ensures { λ r. ⌜ r ≡ writeAlarm (rateOf self) byte value self ⌝ }
@@ -107,7 +107,7 @@ impl Clock {
         self.with_alarm_shadow(s)
     }
 
-    // Byte `byte` of the alarm's interrupt control, 0 the most significant.
+    // The clock after byte `byte` of the alarm's interrupt control is written, 0 the most significant.
     pub fn write_alarm_enable(self, byte: usize, value: u8) -> Self
         requires { ⌜ byte < 4 ⌝ }
         ensures { λ r. ⌜ r ≡ writeAlarmEnable byte value self ⌝ }
@@ -118,7 +118,7 @@ impl Clock {
         self.with_alarm(a)
     }
 
-    // Byte `byte` of the acknowledge register, 0 the most significant.
+    // The clock after byte `byte` of the acknowledge register is written, 0 the most significant.
     pub fn acknowledge(self, byte: usize, value: u8) -> Self
         ensures { λ r. ⌜ r ≡ acknowledge byte value self ⌝ }
     {
@@ -132,7 +132,7 @@ impl Clock {
 }
 
 impl Alarm {
-    // The status register: pending, and armed beside it.
+    // The word of the status register: pending in bit 0, armed in bit 1.
     pub fn status(self) -> u32
         ensures { λ r. ⌜ r ≡ statusWord self ⌝ }
     {

@@ -13,7 +13,7 @@ use crate::has_bit;
 use crate::time::Time;
 use wide::flags::both;
 
-// The change from old to new sets seconds and subsecond.
+// Whether the change from old to new sets seconds and subsecond.
 fn takes_own(new: u8, old: u8) -> bool
     ensures { λ r. ⌜ r ≡ takesOwn new old ⌝ }
 {
@@ -25,7 +25,7 @@ fn takes_own(new: u8, old: u8) -> bool
 }
 
 impl Clock {
-    // Seconds, subsecond and the value of the shadow.
+    // Sets seconds, subsecond and the shadow's value.
     fn own_time_set(self, seconds: u64, subsecond: u32) -> Self
         ensures { λ r. ⌜ r ≡ ownTimeSet seconds subsecond self ⌝ }
     {
@@ -53,7 +53,7 @@ impl Clock {
         self.own_time_set(u64::MAX, 0)
     }
 
-    // The time that the clock has goes where the new control will read it.
+    // Keeps the clock's time where the new control reads it: in the offset, or in seconds and subsecond.
     fn time_kept(self, new: u8) -> Self
         requires { ⌜ Timed (rateOf self) self ⌝ }
         ensures { λ r. ⌜ r ≡ timeKept (rateOf self) new self ⌝ }
@@ -76,7 +76,7 @@ impl Clock {
         self.time_kept(new).with_control(new).check_alarm()
     }
 
-    // Byte `byte` of the control register, 0 the most significant.
+    // The clock after byte `byte` of the control register is written, 0 the most significant.
     pub fn write_control(self, byte: usize, value: u8) -> Self
         requires { ⌜ (byte < 4) × Timed (rateOf self) self ⌝ }
         ensures { λ r. ⌜ r ≡ writeControl (rateOf self) byte value self ⌝ }

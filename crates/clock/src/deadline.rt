@@ -1,4 +1,4 @@
-// The clock's part of the board's line, and its deadline.
+// Whether the clock holds the board's line high, and the clock's deadline.
 ghost use mathlib.Core.Path.{_≡_};
 ghost use Prim.Native.Nat.{_<_};
 ghost use Rattle.wide.specs.Deadline.{numberOf};
@@ -13,7 +13,7 @@ use wide::flags::both;
 use wide::number::Wide;
 
 impl Clock {
-    // The alarm interrupts.
+    // Whether the alarm is pending and enabled.
     pub fn line(self) -> bool
         ensures { λ r. ⌜ r ≡ clockLine self ⌝ }
     {
@@ -22,7 +22,7 @@ impl Clock {
         both(pending, has_bit(enable, Alarm::IRQ_ENABLE))
     }
 
-    // Cycles will bring the alarm's interrupt.
+    // Whether cycles will bring the alarm's interrupt.
     fn awaited(self) -> bool
         ensures { λ r. ⌜ r ≡ awaited self ⌝ }
     {
@@ -36,7 +36,7 @@ impl Clock {
         )
     }
 
-    // The cycles until the alarm's interrupt.
+    // The cycles until the alarm's interrupt, or none.
     pub fn deadline(self) -> Deadline
         requires { ⌜ self .subsecond < rateOf self ⌝ }
         ensures { λ r. ⌜ numberOf r ≡ clockDeadline (rateOf self) self ⌝ }

@@ -16,7 +16,7 @@ pub mod rates;
 pub mod sound;
 pub mod time;
 
-// What is added to host time: sign and magnitude.
+// The offset that is added to host time, as sign and magnitude.
 pub struct Offset {
     pub negative: bool,
     pub seconds: u64,
@@ -30,7 +30,7 @@ pub struct Alarm {
     pub armed: bool,
 }
 
-// The bytes of a register of eight that are written but not yet committed: the mask has a bit for each.
+// The bytes written to a register of eight bytes and not yet committed. The mask has a bit for each.
 pub struct Shadow {
     pub value: u64,
     pub mask: u8,
@@ -42,7 +42,7 @@ pub struct HostTime {
 }
 
 pub struct Clock {
-    // Cycles of a second.
+    // Cycles a second.
     pub rate: u32,
     pub control: u8,
     pub seconds: u64,
@@ -55,7 +55,7 @@ pub struct Clock {
     pub host: HostTime,
 }
 
-// A bit of n is set, the bit that counts for unit.
+// Whether the bit of n whose value is `unit` is set.
 fn has_bit(n: u8, unit: u8) -> bool
     requires { ⌜ 0 < unit ⌝ }
     ensures { λ r. ⌜ r ≡ eqb (n / unit % 2) 1 ⌝ }
@@ -63,7 +63,7 @@ fn has_bit(n: u8, unit: u8) -> bool
     n / unit % 2 == 1
 }
 
-// A control value says that the clock runs from host time.
+// Whether a clock with this control runs from host time.
 pub fn from_host(control: u8) -> bool
     ensures { λ r. ⌜ r ≡ fromHost control ⌝ }
 {
@@ -73,7 +73,7 @@ pub fn from_host(control: u8) -> bool
     )
 }
 
-// A control value says that cycles move the clock.
+// Whether cycles move a clock with this control.
 fn own_time(control: u8) -> bool
     ensures { λ r. ⌜ r ≡ ownTime control ⌝ }
 {
@@ -85,10 +85,10 @@ impl Alarm {
     // The bit of the alarm's enable.
     const IRQ_ENABLE: u8 = 1;
 
-    // Enable has that bit alone, and so this many values.
+    // Enable has only that bit, and so this many values.
     const ENABLE_VALUES: u8 = 2;
 
-    // The byte of the acknowledge register that clears pending, 0 the most significant, and its bit that does.
+    // The byte of the acknowledge register, 0 the most significant, and the bit in it that clears pending.
     const ACK_BYTE: usize = 3;
 
     const ACK: u8 = 1;
@@ -100,7 +100,7 @@ impl Shadow {
 }
 
 impl Clock {
-    // Cycles of a second: of a clock of which no rate is said, and the two other rates of a sound board.
+    // Cycles a second: of a clock without a given rate, and the two other rates of a sound board.
     pub const RATE: u32 = 48_000_000;
 
     pub const RATE_12_MHZ: u32 = 12_000_000;
@@ -119,10 +119,10 @@ impl Clock {
 
     pub const REALTIME: u8 = 4;
 
-    // Control has those three, and so this many values.
+    // Control has those three bits, and so this many values.
     pub const CONTROL_VALUES: u8 = 8;
 
-    // The clock of a fresh board of a rate.
+    // The clock of a fresh board at a rate.
     pub fn fresh_at(rate: u32) -> Self
         ensures { λ r. ⌜ r ≡ freshClockAt rate ⌝ }
     {
@@ -152,7 +152,7 @@ impl Clock {
         }
     }
 
-    // The cycles of a second of this clock.
+    // This clock's cycles a second.
     pub fn rate(self) -> u64
         ensures { λ r. ⌜ r ≡ rateOf self ⌝ }
     {
@@ -166,7 +166,7 @@ impl Clock {
         self.rate() / Self::POLLS_PER_SECOND
     }
 
-    // The clock made anew of its fields. A copy of the whole takes the bytes between the fields along; this does not.
+    // The same clock, built field by field. A copy of the whole struct copies its padding too; this does not.
     fn rebuilt(self) -> Self
         ensures { λ r. ⌜ r ≡ self ⌝ }
     {

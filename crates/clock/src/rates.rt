@@ -20,7 +20,7 @@ const POLL_12_MHZ: u64 = SECOND_12_MHZ / Clock::POLLS_PER_SECOND;
 
 const POLL_1_MHZ: u64 = SECOND_1_MHZ / Clock::POLLS_PER_SECOND;
 
-// A rate is one that a sound board has.
+// Whether a sound board may have this rate.
 pub fn sound_rate(rate: u32) -> bool
     ensures { λ r. ⌜ r ≡ soundRate rate ⌝ }
 {
@@ -30,7 +30,7 @@ pub fn sound_rate(rate: u32) -> bool
     )
 }
 
-// Whole periods, and what is left.
+// Whole periods, and the remainder.
 pub(crate) struct Periods {
     pub(crate) whole: u64,
     pub(crate) rest: u64,
@@ -46,7 +46,7 @@ fn by_period(n: u64, period: u64) -> Periods
     }
 }
 
-// A number divided by a period: by a constant, chosen among the periods of a sound board.
+// A number divided by a period of a sound board. Each arm divides by a constant.
 pub(crate) fn divided(n: u64, period: u64) -> Periods
     requires { ⌜ isPeriod period ≡ true ⌝ }
     ensures { λ r. ⌜ (r .whole ≡ n / period) × (r .rest ≡ n % period) ⌝ }

@@ -20,7 +20,7 @@ pub struct Duration {
     pub nanoseconds: u32,
 }
 
-// A time, whose seconds may pass a word.
+// A time, whose seconds may exceed a word.
 pub struct Time {
     pub seconds: Wide,
     pub nanoseconds: u32,
@@ -122,7 +122,7 @@ impl HostTime {
         }
     }
 
-    // Host time with the offset, but never below 0.
+    // Host time plus the offset, but never below 0.
     fn shifted(self, offset: Offset) -> Time
         requires { ⌜ (self .nanoseconds < nanosPerSecond) × (offset .nanoseconds < nanosPerSecond) ⌝ }
         ensures { λ r. ⌜ TimeIs (shifted self offset) r ⌝ }
@@ -140,7 +140,7 @@ impl HostTime {
 }
 
 impl Clock {
-    // The time that seconds and subsecond say.
+    // The clock's own time, from seconds and subsecond.
     pub(crate) fn own_duration(self) -> Duration
         requires { ⌜ Timed (rateOf self) self ⌝ }
         ensures { λ r. ⌜ DurationIs (ownNanoseconds (rateOf self) self) r ⌝ }

@@ -1,5 +1,5 @@
 -- The rules of document 01's section 'The controller alone': each operation of `IrqController` as a function on its
--- three words.
+-- three words. Words in double quotes are those of irqc.rs.
 use Prim.Native.Nat.{ℕ, zero, suc, _+_, _*_, _/_, _%_, _^_, _<_}
 use mathlib.Core.Bool.{Bool, true, false, not, _&&_, cond}
 use lib.Dec.{ltb, eqb}
@@ -8,7 +8,7 @@ use Rattle.controller.specs.declared.IrqOutput.{IrqOutput}
 use Rattle.wide.specs.Bits.{bit}
 use Rattle.controller.specs.Bits.{withBit, without}
 
--- what the types of a machine controller say of its words
+-- each field is within its width, as the code's types have it
 pub record ControllerFits (c : IrqController) : Type 0 where
   pub pending : c .pending < 2 ^ 16
   pub enable : c .enable < 2 ^ 16
@@ -30,7 +30,7 @@ pendingOf c = c .pending
 abbrev pub enableMaskOf : IrqController → ℕ
 enableMaskOf c = c .enable
 
--- `set_enable_mask`: the mask takes the place of enable
+-- `set_enable_mask`: the mask replaces enable
 abbrev pub enableMaskSet : IrqController → ℕ → IrqController
 enableMaskSet c mask = record { pending = c .pending; enable = mask; levels = c .levels }
 
@@ -46,7 +46,7 @@ sourceSet c k level =
     })
     c
 
--- `set_source` for source k with its bit of `levels`, where the mask has its bit
+-- `set_source` for source k with its bit of `levels`, where its bit of the mask is set
 unfoldable pub maskedSourceSet : IrqController → ℕ → ℕ → ℕ → IrqController
 maskedSourceSet c k mask levels = cond (bit k mask) (sourceSet c k (bit k levels)) c
 
@@ -55,16 +55,16 @@ unfoldable pub maskedSourcesSet : ℕ → IrqController → ℕ → ℕ → IrqC
 maskedSourcesSet zero c mask levels = c
 maskedSourcesSet (suc n) c mask levels = maskedSourceSet (maskedSourcesSet n c mask levels) n mask levels
 
--- "`set_source_levels` equals `set_source` for each masked source."
+-- '`set_source_levels` equals `set_source` for each masked source.'
 unfoldable pub sourceLevelsSet : IrqController → ℕ → ℕ → IrqController
 sourceLevelsSet = maskedSourcesSet 16
 
--- `clear_pending`: the pending bits that the mask has are cleared
+-- `clear_pending`: the pending bits that are set in the mask are cleared
 unfoldable pub pendingCleared : IrqController → ℕ → IrqController
 pendingCleared c mask =
     record { pending = without 16 (c .pending) mask; enable = c .enable; levels = c .levels }
 
--- the lowest enabled pending source of the n sources from k on; "none gives (0, 0)", here false and 0
+-- the lowest enabled pending source of the n sources from k on; 'none gives (0, 0)', here false and 0
 unfoldable pub lowestFrom : ℕ → ℕ → IrqController → IrqOutput
 lowestFrom zero k c = record { valid = false; number = record { 0 = 0 } }
 lowestFrom (suc n) k c =
@@ -72,7 +72,7 @@ lowestFrom (suc n) k c =
     (record { valid = true; number = record { 0 = k } })
     (lowestFrom n (suc k) c)
 
--- `irq_output`: "The lowest enabled pending source"
+-- `irq_output`: 'The lowest enabled pending source'
 unfoldable pub outputOf : IrqController → IrqOutput
 outputOf = lowestFrom 16 0
 

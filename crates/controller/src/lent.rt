@@ -1,6 +1,6 @@
-// The methods of irqc.rs, which lend the controller: with `&mut self` the caller's own is altered where it lies, with
-// `&self` it is only read. Each is one call of a function by value of lib.rt, and states the whole controller at exit,
-// or its answer, by that function's rule.
+// The methods of irqc.rs, which lend the controller: `&mut self` alters the caller's own in place, `&self` only reads
+// it. Each calls one by-value function of lib.rt, and states the whole controller at exit, or its answer, by that
+// function's rule.
 ghost use mathlib.Core.Path.{_≡_};
 ghost use Rattle.controller.specs.Controller.{resetOf, pendingOf, enableMaskOf, enableMaskSet, sourceSet};
 ghost use Rattle.controller.specs.Controller.{sourceLevelsSet, pendingCleared, outputOf, controllerRead};
@@ -70,7 +70,7 @@ impl IrqController {
         output_of(*self)
     }
 
-    // `Device` has `&mut self` here and in `read`; the controller stays as it was. The Rust answers `Some` of the byte.
+    // `Device` has `&mut self` here and in `read`; the controller does not change. The Rust answers `Some` of the byte.
     pub fn debug_read(&mut self, address: u32) -> u8
         ensures { λ r. ⌜ (r ≡ controllerRead (now (self .entry)) address) × (now (self .exit) ≡ now (self .entry)) ⌝ }
     {

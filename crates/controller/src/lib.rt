@@ -23,7 +23,7 @@ pub struct IrqOutput {
     pub number: SourceNumber,
 }
 
-// One bit for each source: the requests that are latched, those that are enabled, and the levels last set.
+// One bit for each source: the requests that are latched, the sources that are enabled, and the levels last set.
 pub struct IrqController {
     pub pending: u16,
     pub enable: u16,
@@ -134,7 +134,7 @@ pub fn with_source(controller: IrqController, number: SourceNumber, level: bool)
     }
 }
 
-// One source of `set_source_levels`: its level is set where the mask has its bit.
+// One source of `set_source_levels`: its level is set where its bit of the mask is set.
 fn with_masked_source(
     controller: IrqController,
     number: SourceNumber,
@@ -182,7 +182,7 @@ fn bits_cleared(word: u16, mask: u16) -> u16
     word & !mask
 }
 
-// `clear_pending`: the pending bits that the mask has are cleared.
+// `clear_pending`: the pending bits that are set in the mask are cleared.
 pub fn without_pending(controller: IrqController, mask: u16) -> IrqController
     ensures { λ r. ⌜ r ≡ pendingCleared controller mask ⌝ }
 {
@@ -267,7 +267,7 @@ fn with_low_byte(word: u16, value: u8) -> u16
     (word & 0xFF00) | value as u16
 }
 
-// `write`: a byte written to pending clears the bits that it has, and one written to enable takes its place there.
+// `write`: a byte written to pending clears the bits that are set in it, and one written to enable replaces its byte.
 pub fn written(controller: IrqController, address: u32, value: u8) -> IrqController
     ensures { λ r. ⌜ r ≡ controllerWritten controller address value ⌝ }
 {

@@ -25,7 +25,7 @@ following k = suc k % 16
 abbrev pub enabledPending : ℕ → IrqController → Bool
 enabledPending k c = bit k (c .pending) && bit k (c .enable)
 
--- the first enabled pending source of n, from k on, going round; none is false and 0, as in `irq_output`
+-- the first enabled pending source of the n from k on, going round; none is false and 0, as in `irq_output`
 unfoldable pub firstFrom : ℕ → ℕ → IrqController → IrqOutput
 firstFrom zero k c = record { valid = false; number = record { 0 = 0 } }
 firstFrom (suc n) k c =
@@ -38,7 +38,7 @@ unfoldable pub nextAfter : ℕ → IrqController → IrqOutput
 nextAfter last = firstFrom 16 (following last)
 
 -- 'It clears that pending bit and says the number, or that no enabled one is pending; then the remembered number, read
--- so, stays.': by the number as it is read, and the next source
+-- so, stays.': `last` is the number as it is read, `next` the next source
 unfoldable pub turn : IrqController → ℕ → IrqOutput → Dispatched
 turn c last next =
     cond (next .valid)

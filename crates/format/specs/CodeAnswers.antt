@@ -1,4 +1,4 @@
--- Not document 01's sentences: the parts in which the code writes a record. The rule is `recordOf` of Format.
+-- Not document 01's sentences: the pieces in which the code writes a record. The rule is `recordOf` of Format.
 use Prim.Native.Nat.{ℕ}
 use mathlib.Core.List.{List, [], _∷_, _++_}
 use Rattle.wide.specs.Fields.{be}
@@ -7,7 +7,7 @@ use Rattle.wide.specs.Fields.{be}
 abbrev pub headerBytes : ℕ → ℕ → List ℕ
 headerBytes tag size = be 1 tag ++ be 2 size
 
--- numbers of sixteen bytes, one behind the other
+-- numbers of sixteen bytes, one after another
 unfoldable pub wides : List ℕ → List ℕ
 wides [] = []
 wides (n ∷ ns) = be 16 n ++ wides ns

@@ -1,6 +1,5 @@
--- Not document 01's sentences: what the code finds of the call at the front of a list, with so much room for its
--- answer. The rules are `frameRefusal`, `callAt` and `refusalAt` of Codec, and proofs/Decoding.antt shows that these
--- are they.
+-- Not document 01's sentences: how the code decodes the first call of a list, with this room for its answer. The rules
+-- are `frameRefusal`, `callAt` and `refusalAt` of Codec; proofs/Decoding.antt shows that the two agree.
 use Prim.Native.Nat.{ℕ, _+_, _-_}
 use mathlib.Core.Path.{_≡_}
 use mathlib.Core.List.{List}
@@ -22,7 +21,7 @@ use Rattle.format.specs.Codec.{tagOf, frameRefusal, callAt, recordLength
 abbrev pub lengthsOf : ℕ → Lengths
 lengthsOf tag = record { known = known tag; value = valueLength tag; answer = answerLength tag }
 
--- what the members of a call decide of its own refusal: of a skip nothing, of another call all
+-- a call's own refusal where its members decide it; a skip's depends on the board, and is 0 here
 abbrev pub valueRefusal : Call → ℕ
 valueRefusal (HostTime nanoseconds seconds) =
     hostTimeRefusal (record { seconds = seconds; nanoseconds = nanoseconds })
@@ -36,11 +35,12 @@ valueRefusal (ControllerRead address) = 0
 valueRefusal (ControllerWrite byte address) = 0
 valueRefusal Output = 0
 
--- a call that is refused before its members are looked at, or for them
+-- a call that is refused before its members are read, or because of them
 abbrev pub refusedBy : ℕ → Decoded
 refusedBy refusal = record { refusal = refusal; call = Output }
 
--- a call whose answer has no room: one without members is told beside the refusal, because a skip's own comes first
+-- the call that is given with the refusal where its answer has no room: itself where it has no members, because a
+-- skip's own refusal comes first, else `Output`
 abbrev pub told : Call → Call
 told (HostTime nanoseconds seconds) = Output
 told (Read address) = Output
@@ -56,41 +56,41 @@ told Output = Output
 abbrev pub shortOf : Call → Decoded
 shortOf call = record { refusal = answerTooLong; call = told call }
 
--- a call without members, whose answer has so many bytes
+-- a call without members, whose answer has this many bytes
 abbrev pub Bare : Call → ℕ → Type 0
 Bare call answer =
     (valueRefusal call ≡ 0)
     × ((record { known = true; value = 0; answer = answer } ≡ lengthsOf (tagOf call))
     × (told call ≡ call))
 
--- a call by its room
+-- the call, refused where the room is too short for its answer
 unfoldable pub roomed : Call → ℕ → Decoded
 roomed call room = cond (ltb room (recordLength call)) (shortOf call) (record { refusal = 0; call = call })
 
--- by its members
+-- the same after the refusal that its members decide
 unfoldable pub valued : Call → ℕ → Decoded
 valued call room = cond (eqb (valueRefusal call) 0) (roomed call room) (refusedBy (valueRefusal call))
 
--- by the length and the bytes of its value, which is to have so many
+-- the same after the refusals of its value, which must be `value` bytes long and whole
 unfoldable pub framedAs : ℕ → Call → List ℕ → ℕ → Decoded
 framedAs value call l room =
     cond (not (eqb (beAt l 1 2) value)) (refusedBy lengthWrong)
     (cond (ltb (length l - headerLength) value) (refusedBy valueCut)
     (valued call room))
 
--- the two tests as one
+-- both tests of the value hold
 abbrev pub isFramed : ℕ → List ℕ → Bool
 isFramed value l = eqb (beAt l 1 2) value && leb (headerLength + value) (length l)
 
--- what is found where they fail, whatever the call and the room
+-- r is what decoding gives where a test fails, whatever the call and the room
 abbrev pub Unframed : ℕ → List ℕ → Decoded → Type 0
 Unframed value l r = isFramed value l ≡ false → (call : Call) (room : ℕ) → r ≡ framedAs value call l room
 
--- by its frame
+-- the first call of a list, refused first by its frame
 unfoldable pub decodedOf : List ℕ → ℕ → Decoded
 decodedOf l room = cond (eqb (frameRefusal l) 0) (valued (callAt l) room) (refusedBy (frameRefusal l))
 
--- what a board decides of a call's own refusal: of a skip all, of another call nothing
+-- a call's own refusal where the board decides it: a skip's; 0 for every other call
 abbrev pub boardRefusal : Call → Board → ℕ
 boardRefusal (HostTime nanoseconds seconds) b = 0
 boardRefusal (Read address) b = 0
@@ -103,6 +103,6 @@ boardRefusal (ControllerRead address) b = 0
 boardRefusal (ControllerWrite byte address) b = 0
 boardRefusal Output b = 0
 
--- the refusal of a call that is found refused, on a board
+-- the refusal, on a board, of a call that decoding refuses
 abbrev pub firstRefusal : Board → Decoded → ℕ
 firstRefusal b d = firstOf (boardRefusal (d .call) b) (d .refusal)

@@ -1,5 +1,5 @@
--- Document 01, 'The call list': a call in bytes, and the call that stands at the front of a list. proofs/Codec.antt
--- shows that the two are exact both ways.
+-- Document 01, 'The call list': a call in bytes, and the first call of a list. proofs/Codec.antt shows that encoding
+-- and decoding are exact both ways.
 use Prim.Native.Nat.{ℕ, _+_, _-_}
 use mathlib.Core.List.{List, [], _∷_}
 use mathlib.Core.Bool.{cond, not}
@@ -74,7 +74,7 @@ callBytes call = recordOf (tagOf call) (membersBytes (rowOf (tagOf call) .value)
 abbrev pub callLength : Call → ℕ
 callLength call = headerLength + valueLength (tagOf call)
 
--- ---- the call at the front of a list
+-- ---- the first call of a list
 
 abbrev pub tagAt : List ℕ → ℕ
 tagAt l = getD l 0 0
@@ -106,7 +106,7 @@ callOf tag m =
     (cond (eqb tag 0x09) (ControllerWrite (argument 1 m) (argument 0 m))
     Output))))))))
 
--- the call at the front of a list whose frame is not refused
+-- the first call of a list whose frame is not refused
 abbrev pub callAt : List ℕ → Call
 callAt l = callOf (tagAt l) (membersAt l headerLength (rowOf (tagAt l) .value))
 
@@ -122,7 +122,7 @@ recordLength call = headerLength + answerLength (tagOf call)
 
 -- ---- its refusal
 
--- of two refusals the first, unless it is none
+-- the first of two refusals, or the second where the first is 0
 abbrev pub firstOf : ℕ → ℕ → ℕ
 firstOf m n = cond (eqb m 0) n m
 

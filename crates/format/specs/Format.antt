@@ -1,5 +1,5 @@
 -- Document 01, 'The call list': the members of calls and answers, and the bytes of an answer. Which tags there are, and
--- how long their values and answers are, follows from one table. The codec of calls stands in Codec.
+-- how long their values and answers are, follows from one table. The codec of calls is in Codec.
 use Prim.Native.Nat.{ℕ, _+_}
 use mathlib.Core.List.{List, [], _∷_, _++_, foldr}
 use mathlib.Core.Bool.{Bool, _&&_}
@@ -87,12 +87,12 @@ answerLength tag = sum (rowOf tag .answer)
 abbrev pub headerLength : ℕ
 headerLength = 3
 
--- the numbers of members of these widths that stand from an index on
+-- the numbers of members of these widths, from an index on
 unfoldable pub membersAt : List ℕ → ℕ → List ℕ → List ℕ
 membersAt l at [] = []
 membersAt l at (w ∷ ws) = beAt l at w ∷ membersAt l (at + w) ws
 
--- members in bytes, each of its width; a member that is not there is 0
+-- members in bytes, each of its width; a missing member is 0
 unfoldable pub membersBytes : List ℕ → List ℕ → List ℕ
 membersBytes [] ms = []
 membersBytes (w ∷ ws) ms = be w (getD ms 0 0) ++ membersBytes ws (drop 1 ms)

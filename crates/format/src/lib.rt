@@ -1,4 +1,4 @@
-// The bytes of the call list, big-endian: the call at the front of a list is decoded, and the record of an answer put.
+// The bytes of the call list, big-endian: the first call of a list is decoded, and the record of an answer written.
 ghost use mathlib.Core.Path.{_≡_};
 ghost use mathlib.Core.Bool.{true, not};
 ghost use mathlib.Core.List.{[], _∷_};
@@ -90,8 +90,8 @@ pub fn lengths_of(tag: u8) -> Lengths
     }
 }
 
-// The call at the front of a list: its refusal, 0 for none, and where there is none the call. It is refused by the
-// list's bytes and the room for its answer alone: what the board decides, a skip's own refusal, is not in it.
+// The first call of a list, decoded: its refusal, 0 for none, and the call where there is none. Only the list's bytes
+// and the room for the answer refuse it here; a skip's own refusal depends on the board and is not included.
 pub struct Decoded {
     pub refusal: u8,
     pub call: Call,
@@ -149,9 +149,10 @@ fn host_at(rest: &[u8]) -> HostTime
     }
 }
 
-// ---- the frame of a call whose value has so many bytes
+// ---- the frame of a call whose value has this many bytes
 
-// Whether the header tells another length. The low byte counts for more here, as the machine loads the two bytes.
+// Whether the header's length is not `value`. The two bytes are compared with the low one as the more significant, as
+// the machine loads them.
 fn length_wrong(rest: &[u8], value: usize) -> bool
     requires { ⌜ (3 ≤ length (now rest)) × (value < 256) ⌝ }
     ensures { λ r. ⌜ r ≡ not (eqb (beAt (now (rest .entry)) 1 2) value) ⌝ }
@@ -159,7 +160,7 @@ fn length_wrong(rest: &[u8], value: usize) -> bool
     fields::widened(rest[1]) + 256 * fields::widened(rest[2]) != 256 * value as u64
 }
 
-// Whether the header tells the length and the value is whole.
+// Whether the header's length is `value` and the value is whole.
 fn framed(rest: &[u8], value: usize) -> bool
     requires { ⌜ (3 ≤ length (now rest)) × (value < 256) ⌝ }
     ensures { λ r. ⌜ r ≡ isFramed value (now (rest .entry)) ⌝ }
@@ -170,7 +171,7 @@ fn framed(rest: &[u8], value: usize) -> bool
     HEADER_LENGTH + value <= rest.len()
 }
 
-// The refusal where one of the two is not so.
+// The refusal where one of the two fails.
 fn unframed(rest: &[u8], value: usize) -> Decoded
     requires { ⌜ (3 ≤ length (now rest)) × (value < 256) ⌝ }
     ensures { λ r. ⌜ Unframed value (now (rest .entry)) r ⌝ }
@@ -181,7 +182,7 @@ fn unframed(rest: &[u8], value: usize) -> Decoded
     refused(VALUE_CUT)
 }
 
-// ---- each call, with so much room for its answer
+// ---- each call, with this room for its answer
 
 fn host_time_at(rest: &[u8], room: usize) -> Decoded
     requires { ⌜ 3 ≤ length (now rest) ⌝ }
@@ -310,8 +311,8 @@ fn controller_write_at(rest: &[u8], room: usize) -> Decoded
     accepted(Call::ControllerWrite(byte_at(rest, 7), controller_address_at(rest)))
 }
 
-// A call without members, whose answer has so many bytes. Where there is no room it is told, because a skip's own
-// refusal comes first.
+// A call without members, whose answer has this many bytes. Where the answer has no room, the call is given with the
+// refusal, because a skip's own refusal comes first.
 fn bare_at(rest: &[u8], room: usize, answer: usize, call: Call) -> Decoded
     requires { ⌜ (3 ≤ length (now rest)) × Bare call answer ⌝ }
     ensures { λ r. ⌜ r ≡ framedAs (valueLength (tagOf call)) call (now (rest .entry)) room ⌝ }
@@ -328,7 +329,7 @@ fn bare_at(rest: &[u8], room: usize, answer: usize, call: Call) -> Decoded
     accepted(call)
 }
 
-// The call at the front of a list, with so much room for its answer.
+// Decodes the first call of a list, with this room for its answer.
 pub fn decode(rest: &[u8], room: usize) -> Decoded
     ensures { λ r. ⌜ r ≡ decodedOf (now (rest .entry)) room ⌝ }
 {
@@ -396,7 +397,7 @@ pub fn put_no_counts(buf: &mut [u8], at: usize)
     fields::put_wide(buf, at + 3 * COUNT_LENGTH, none);
 }
 
-// Writes a count over one of 0. Its high word is 0 but where the count is 2^64, and is only then written.
+// Writes a count over a count of 0. The high word is written only where it is not 0, for a count of 2^64.
 pub fn put_count(buf: &mut [u8], at: usize, count: Wide)
     requires { ⌜ (at + 16 ≤ length (now buf)) × (sets (now buf) at (be 16 0) ≡ now buf) ⌝ }
     ensures { λ _. ⌜ now (buf .exit) ≡ sets (now (buf .entry)) at (be 16 (valueOf count)) ⌝ }

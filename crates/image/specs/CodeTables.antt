@@ -1,5 +1,5 @@
--- Not sentences of S-1 or S-8 but what the code goes by: its tables of widths, the channels' fields together, where the
--- others begin, and what stands ahead of S-1's fields.
+-- Not sentences of S-1 or S-8 but what the code uses: its tables of widths, the channels' fields together, where the
+-- others begin, and the bytes ahead of S-1's fields.
 use Prim.Native.Nat.{ℕ, _+_, _<_}
 use mathlib.Core.Path.{_≡_}
 use mathlib.Core.List.{List, [], _∷_, map}
@@ -42,7 +42,7 @@ channels = channelField ∷ channelField ∷ channelField ∷ channelField ∷ [
 abbrev pub channelsBytes : List HardwareTimer → List ℕ
 channelsBytes ts = fieldsBytes channels (map timerMembers ts)
 
--- where the fields behind them begin
+-- where the fields after them begin
 abbrev pub clockAt : ℕ
 clockAt = fieldsLength channels
 
@@ -56,12 +56,12 @@ controllerAt = latchesAt + fieldLength latchesField
 abbrev pub membersIn : Field → List ℕ → ℕ → List ℕ
 membersIn f l at = membersAt l (at + headerLength) (widthsOf (f .members))
 
--- the bytes ahead of S-1's fields in each form, of a rate
+-- the bytes ahead of S-1's fields in each form, at a rate
 abbrev pub frontBytes : Form → ℕ → List ℕ
 frontBytes Old rate = []
 frontBytes New rate = fieldBytes rateField (rate ∷ [])
 
--- how many they are
+-- the number of those bytes
 abbrev pub frontLength : Form → ℕ
 frontLength Old = 0
 frontLength New = fieldLength rateField

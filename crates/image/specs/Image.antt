@@ -26,7 +26,7 @@ use Rattle.image.specs.declared.Form.the-variants.{Old, New}
 
 -- ---- the fields
 
--- 'a width is in bytes, a flag is one byte': a member is a number of so many bytes, or a flag
+-- 'a width is in bytes, a flag is one byte': a member is a number of this many bytes, or a flag
 pub data Member : Type 0 where
   number : ℕ → Member
   flag : Member
@@ -93,11 +93,11 @@ abbrev pub layoutOf : Form → List Field
 layoutOf Old = layout
 layoutOf New = rateField ∷ layout
 
--- the bytes of a field's members
+-- the number of bytes of a field's members
 abbrev pub membersLength : Field → ℕ
 membersLength f = sum (widthsOf (f .members))
 
--- and those of the whole field
+-- the number of bytes of the whole field
 abbrev pub fieldLength : Field → ℕ
 fieldLength f = headerLength + membersLength f
 
@@ -170,7 +170,7 @@ flagsHold [] ms = true
 flagsHold (number w ∷ ks) ms = flagsHold ks (drop 1 ms)
 flagsHold (flag ∷ ks) ms = leb (getD ms 0 0) 1 && flagsHold ks (drop 1 ms)
 
--- the field stands at an index: it is not 'missing, cut, out of order, of wrong length', and has no flag above 1
+-- the field is at an index: it is not 'missing, cut, out of order, of wrong length', and has no flag above 1
 unfoldable pub fieldAt : List ℕ → ℕ → Field → Bool
 fieldAt l at f =
     leb (at + fieldLength f) (length l)
@@ -178,16 +178,16 @@ fieldAt l at f =
     && (eqb (beAt l (at + 1) 2) (membersLength f)
     && flagsHold (f .members) (membersAt l (at + headerLength) (widthsOf (f .members)))))
 
--- the fields stand from an index on, one behind another, and there are no 'bytes over'
+-- the fields are there from an index on, one after another, and there are no 'bytes over'
 unfoldable pub fieldsAt : List ℕ → ℕ → List Field → Bool
 fieldsAt l at [] = eqb (length l) at
 fieldsAt l at (f ∷ fs) = fieldAt l at f && fieldsAt l (at + fieldLength f) fs
 
--- the bytes are formed as an image of each form
+-- the bytes are formed as an image of form f
 abbrev pub formed : Form → List ℕ → Bool
 formed f l = fieldsAt l 0 (layoutOf f)
 
--- the members of fields that stand from an index on, a list for each field
+-- the members of fields from an index on, a list for each field
 unfoldable pub membersFrom : List ℕ → ℕ → List Field → List (List ℕ)
 membersFrom l at [] = []
 membersFrom l at (f ∷ fs) =
@@ -211,7 +211,7 @@ timerFrom ms =
       armed = flagIs (getD ms 7 0);
     }
 
--- at a rate, which is no member of the clock's field
+-- the clock at a rate, which is not a member of the clock's field
 abbrev pub clockFrom : ℕ → List ℕ → Clock
 clockFrom rate ms =
     record {
@@ -248,7 +248,7 @@ latchesFrom ms =
       high = latchFrom (getD ms 10 0) (getD ms 11 0);
     }
 
--- 'an empty latch holds 0', which members can break and a latch cannot: of each held flag and value
+-- 'an empty latch holds 0', for each held flag and value: members can break this, the code's latch cannot
 abbrev pub emptiesHold0 : List ℕ → Bool
 emptiesHold0 [] = true
 emptiesHold0 (held ∷ []) = true
@@ -257,7 +257,7 @@ emptiesHold0 (held ∷ value ∷ ms) = (flagIs held || eqb value 0) && emptiesHo
 abbrev pub controllerFrom : List ℕ → IrqController
 controllerFrom ms = record { pending = getD ms 0 0; enable = getD ms 1 0; levels = getD ms 2 0 }
 
--- the board at a rate of the members of S-1's fields
+-- the board of the members of S-1's fields, at a rate
 unfoldable pub boardFrom : ℕ → List (List ℕ) → Board
 boardFrom rate mss =
     record {
@@ -275,8 +275,8 @@ abbrev pub boardMembers : Form → List (List ℕ) → List (List ℕ)
 boardMembers Old mss = mss
 boardMembers New mss = drop 1 mss
 
--- the rate that the members of each form say: 'Images from S-1 have no rate', and move to the new form 'with
--- 48,000,000', the rate of a fresh board of which none is said
+-- the rate in the members of each form: 'Images from S-1 have no rate', and move to the new form 'with 48,000,000', the
+-- rate of a fresh board without a given rate
 abbrev pub rateFrom : Form → List (List ℕ) → ℕ
 rateFrom Old mss = freshRate
 rateFrom New mss = getD (getD mss 0 []) 0 0

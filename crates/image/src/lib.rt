@@ -44,7 +44,7 @@ pub const RATE_LENGTH: usize = 4;
 
 pub const RATE_WIDTHS: [usize; 1] = [4];
 
-// Where S-1's fields begin in the old form, and where it ends.
+// The bytes of a channel's field, where S-1's other fields begin in the old form, and where that form ends.
 pub const CHANNEL_SIZE: usize = HEADER_LENGTH + CHANNEL_LENGTH;
 
 pub const CLOCK_AT: usize = Board::CHANNELS * CHANNEL_SIZE;
@@ -55,12 +55,12 @@ pub const CONTROLLER_AT: usize = LATCHES_AT + HEADER_LENGTH + LATCHES_LENGTH;
 
 pub const OLD_LENGTH: usize = CONTROLLER_AT + HEADER_LENGTH + CONTROLLER_LENGTH;
 
-// Where they begin in the new form, behind the rate's field, and where that ends.
+// Where they begin in the new form, after the rate's field, and where that form ends.
 pub const RATE_SIZE: usize = HEADER_LENGTH + RATE_LENGTH;
 
 pub const NEW_LENGTH: usize = RATE_SIZE + OLD_LENGTH;
 
-// The bytes of an image.
+// The number of bytes of an image.
 pub fn image_length(form: Form) -> usize
     ensures { λ r. ⌜ r ≡ imageLength form ⌝ }
 {

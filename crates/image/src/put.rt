@@ -44,7 +44,7 @@ use format::HEADER_LENGTH;
 use wide::fields;
 use wide::flags::flag;
 
-// Members one behind another, each in its width.
+// Writes members one after another, each in its width.
 fn put_members(buf: &mut [u8], at: usize, widths: &[usize], members: &[u64])
     requires { ⌜ Laid (now widths) (now members) × (at + sum (now widths) ≤ length (now buf)) ⌝ }
     ensures { λ _. ⌜ now (buf .exit)
@@ -60,7 +60,7 @@ fn put_members(buf: &mut [u8], at: usize, widths: &[usize], members: &[u64])
     }
 }
 
-// A field: its tag, the length of its members, and its members.
+// Writes a field: its tag, the length of its members, and its members.
 fn put_field(buf: &mut [u8], at: usize, tag: u8, size: usize, widths: &[usize], members: &[u64])
     requires { ⌜ Laid (now widths) (now members) × ((size ≡ sum (now widths))
         × (at + 3 + size ≤ length (now buf))) ⌝ }
@@ -218,7 +218,7 @@ fn put_channels(buf: &mut [u8], timers: [HardwareTimer; 4])
     put_channel(buf, 3 * CHANNEL_SIZE, timers[3]);
 }
 
-// The image of a board in the old form.
+// Writes the image of a board in the old form.
 fn put_old(buf: &mut [u8], board: Board)
     requires { ⌜ imageLength Old ≤ length (now buf) ⌝ }
     ensures { λ _. ⌜ now (buf .exit) ≡ sets (now (buf .entry)) 0 (imageOf Old board) ⌝ }
@@ -236,7 +236,7 @@ fn put_old(buf: &mut [u8], board: Board)
     put_controller(buf, controller);
 }
 
-// The field that the new form begins with.
+// Writes the field that the new form begins with.
 fn put_rate(buf: &mut [u8], rate: u32)
     requires { ⌜ fieldLength rateField ≤ length (now buf) ⌝ }
     ensures { λ _. ⌜ now (buf .exit) ≡ sets (now (buf .entry)) 0 (fieldBytes rateField (rate ∷ [])) ⌝ }
@@ -245,7 +245,7 @@ fn put_rate(buf: &mut [u8], rate: u32)
     put_field(buf, 0, RATE_TAG, RATE_LENGTH, &RATE_WIDTHS, &members);
 }
 
-// What stands ahead of S-1's fields in a form, of a rate. Gives its length.
+// Writes what comes ahead of S-1's fields in a form, at a rate, and gives its length.
 fn put_front(buf: &mut [u8], form: Form, rate: u32) -> usize
     requires { ⌜ frontLength form ≤ length (now buf) ⌝ }
     ensures { λ r. ⌜ r ≡ frontLength form ⌝ }
@@ -260,8 +260,7 @@ fn put_front(buf: &mut [u8], form: Form, rate: u32) -> usize
     }
 }
 
-// The image of a board in a form, from the buffer's first byte on. The bytes of the old form stand in one place of the
-// code, for both forms.
+// Writes the image of a board in a form, from the buffer's first byte on. `put_old` writes S-1's fields for both forms.
 pub fn put_image(buf: &mut [u8], form: Form, board: Board)
     requires { ⌜ imageLength form ≤ length (now buf) ⌝ }
     ensures { λ _. ⌜ now (buf .exit) ≡ sets (now (buf .entry)) 0 (imageOf form board) ⌝ }

@@ -1,7 +1,7 @@
-// Reads the whole of an input, and tells its end from a read that fails, which `io::read_full` takes for the end.
+// Reads the whole of an input, and distinguishes its end from a failed read, which `io::read_full` takes for the end.
 ghost use Rattle.io.specs.Counts.{Counts};
 
-// Whether a read failed, and how many bytes were read to the start of a buffer: none that count where one failed.
+// Whether a read failed, and how many bytes were read to the start of a buffer, 0 where one failed.
 pub struct Input {
     pub failed: bool,
     pub count: usize,
@@ -24,7 +24,7 @@ fn read_once(fd: i32, buf: &mut [u8]) -> Input
     }
 }
 
-// Reads until the buffer is full, the input ends or a read fails. What was read before a read that fails is no input.
+// Reads until the buffer is full, the input ends or a read fails. Bytes read before a failed read do not count.
 pub fn read_all(fd: i32, buf: &mut [u8]) -> Input
     ensures { λ r. ⌜ Counts (r .count) (now (buf .exit)) ⌝ }
 {

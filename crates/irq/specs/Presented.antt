@@ -9,7 +9,7 @@ use Rattle.controller.specs.Controller.{outputOf}
 abbrev pub enabled : ℕ → ℕ → IrqController
 enabled raised mask = enableMaskSet (sourceLevelsSet fresh raised raised) mask
 
--- a byte is read and written back: of pending, that clears the bits that it has
+-- the byte at an address is read and written back; in pending, that clears the bits that are set in it
 abbrev pub acknowledged : IrqController → ℕ → IrqController
 acknowledged c address = controllerWritten c address (controllerRead c address)
 

@@ -5,8 +5,8 @@ ghost use Rattle.irq.specs.Presented.{presentedBy};
 use controller::IrqController;
 use controller::IrqOutput;
 
-// The sources of `raised` rise, those of `mask` are enabled, and the byte at `address` is read and written back: what
-// is presented then.
+// What is presented once the sources of `raised` have risen, those of `mask` are enabled, and the byte at `address` is
+// read and written back.
 fn presented(raised: u16, mask: u16, address: u32) -> IrqOutput
     ensures { λ r. ⌜ r ≡ presentedBy raised mask address ⌝ }
 {

@@ -1,6 +1,5 @@
--- Not document 01's sentences: what the code makes of the call at the front of a list, and the steps in which it
--- writes
--- the call's record. The rules are `refusalAt`, `effectOf` and `answerRecord`; the proofs show that these are they.
+-- Not document 01's sentences: what the code makes of the first call of a list, and the steps in which it writes the
+-- call's record. The rules are `refusalAt`, `effectOf` and `answerRecord`; the proofs show that the two agree.
 use Prim.Native.Nat.{ℕ, _+_, _*_}
 use mathlib.Core.Path.{_≡_}
 use mathlib.Core.List.{List, [], _∷_, _++_}
@@ -26,7 +25,7 @@ use Rattle.list.specs.declared.parts.Step.{Step}
 use Rattle.list.specs.declared.parts.Step.the-variants as T
 use Rattle.list.specs.declared.parts.Changes.{Changes}
 
--- ---- the step that the run makes of the call at the front
+-- ---- the step that the run makes of the first call
 
 -- a register of this offset is read, or a byte written to it
 pub record Reads (call : Call) (offset : ℕ) : Type 0 where
@@ -39,7 +38,7 @@ pub record Writes (call : Call) (byte offset : ℕ) : Type 0 where
   pub is : call ≡ Write byte address
   pub at : offset ≡ address + base
 
--- cycles pass: of an advance, or of a skip that makes one
+-- cycles pass, by an advance or by a skip that makes one
 pub record Passes (call : Call) (b : Board) (counted : Bool) (c : ℕ) : Type 0 where
   pub advance : counted ≡ true → call ≡ advanceBy c
   pub skip : counted ≡ false → (call ≡ Skip) × (skipLength b ≡ some c)
@@ -62,13 +61,13 @@ Makes n call b T.Output = (n ≡ 0) × (call ≡ Output)
 abbrev pub SkipIs : Board → Step → Type 0
 SkipIs b step = Makes (effectOf Skip b .refusal) Skip b step
 
--- the step of the call at the front, with so much room for its answer
+-- the step of the first call of a list, with this room for its answer
 abbrev pub StepIs : Board → List ℕ → ℕ → Step → Type 0
 StepIs b l room step = Makes (refusalAt b l room) (callAt l) b step
 
--- ---- the calls that change host time or the controller at most
+-- ---- the calls that change at most host time or the controller
 
--- the call of such a step; of another it is a skip here
+-- the call of such a step; `Skip` for every other step
 abbrev pub otherCall : Step → Call
 otherCall (T.Refused refusal) = Skip
 otherCall (T.Read offset) = Skip
@@ -82,7 +81,7 @@ otherCall (T.ControllerRead address) = ControllerRead address
 otherCall (T.ControllerWrite byte address) = ControllerWrite byte address
 otherCall T.Output = Output
 
--- a board with another host time and another controller
+-- a board with this host time and this controller
 abbrev pub withChanges : HostTimeOf → IrqController → Board → Board
 withChanges h q b = withController q (withClock (withHost h (b .clock)) b)
 
@@ -113,21 +112,21 @@ abbrev pub passCall : Bool → ℕ → Call
 passCall true c = advanceBy c
 passCall false c = Skip
 
--- where the counts go in a record from index at on: behind tag, length and line
+-- where the counts go in a record from index at on: after tag, length and line
 abbrev pub countsAt : ℕ → ℕ
 countsAt at = at + 4
 
--- ahead of the advance: counts of 0, or the cycles passed
+-- written before the cycles pass: counts of 0, or the number of cycles
 unfoldable pub begunPut : Bool → ℕ → ℕ → List ℕ → List ℕ
 begunPut true c at buf = sets buf (countsAt at) (wides (0 ∷ 0 ∷ 0 ∷ 0 ∷ []))
 begunPut false c at buf = sets buf (at + 3) (be 8 c)
 
--- the count n of channel i
+-- the count n of channel i is written
 unfoldable pub countPut : Bool → ℕ → ℕ → ℕ → List ℕ → List ℕ
 countPut true at i n buf = sets buf (countsAt at + 16 * i) (be 16 n)
 countPut false at i n buf = buf
 
--- behind it: the header and the line
+-- written after they have passed: the header and the line
 unfoldable pub passedPut : Bool → ℕ → ℕ → List ℕ → List ℕ
 passedPut true v at buf = sets buf at (headerBytes 4 65 ++ be 1 v)
 passedPut false v at buf = sets (sets buf at (headerBytes 6 9)) (at + 11) (be 1 v)

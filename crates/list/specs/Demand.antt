@@ -7,7 +7,7 @@ use lib.ListN.{drop}
 use Rattle.board.specs.declared.calls.Call.{Call}
 use Rattle.format.specs.Codec.{frameRefusal, callAt, callLength}
 
--- the call at the front of some bytes
+-- some bytes begin with this call
 abbrev pub FrontIs : List ℕ → Call → Type 0
 FrontIs l call = (frameRefusal l ≡ 0) × (callAt l ≡ call)
 

@@ -18,7 +18,7 @@ pub data Result : Type 0 where
   done : Board → ℕ → List ℕ → Result
   refused : ℕ → Result
 
--- what becomes of the call at the front of a list, with so much room for its answer
+-- what becomes of the first call of a list, with this room for its answer
 unfoldable pub resultOf : Board → List ℕ → ℕ → Result
 resultOf b l room =
     cond (eqb (refusalAt b l room) 0)
@@ -27,7 +27,7 @@ resultOf b l room =
 
 -- ---- a run
 
--- the run so far after one more call; a refused call changes the refusal alone
+-- the run so far after one more call; a refused call changes only the refusal
 unfoldable pub stepped : Outcome → Result → Outcome
 stepped s (done b n a) =
     record {

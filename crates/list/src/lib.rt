@@ -1,6 +1,6 @@
 // The call list: a run takes the calls of a list in order, writes an answer for each into a buffer, and stops at the
 // first refusal. A call is decoded once; a refusal is found before its call is carried out, so an accepted call changes
-// the board where it lies.
+// the board in place.
 ghost use mathlib.Core.Path.{_≡_};
 ghost use lib.ListN.{length};
 ghost use Rattle.list.specs.Run.{runOf, over};
@@ -15,7 +15,7 @@ use regmap::writes::acknowledged;
 
 pub mod parts;
 
-// The list bytes and the record's bytes of a read and of a write.
+// The number of bytes of a read and of its record, and of a write and of its record.
 const READ_CALL: usize = 5;
 
 const READ_RECORD: usize = 4;
@@ -69,7 +69,7 @@ pub fn run(board: Board, list: &[u8], answers: &mut [u8]) -> Outcome
             Step::Refused(refusal) => return stopped(b, calls, used, written, refusal),
             Step::Read(offset) => {
                 let i = reads::channel_index(offset);
-                let timer = b.timers[i]; // here: an array that is passed on to be indexed is copied
+                let timer = b.timers[i]; // here, because an array that is passed on to be indexed is copied
                 if reads::plain(offset) {
                     let r = reads::plain_at(b, timer, offset);
                     b.clock.alarm.pending = r.pending;

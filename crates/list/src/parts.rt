@@ -1,5 +1,5 @@
-// The parts of one call of a run on a sound board: its refusal where the board decides it, what the calls change and
-// answer that change host time or the controller at most, and the records of the others' answers.
+// The steps of one call of a run on a sound board: its refusal where the board decides it; what a call that changes at
+// most host time or the controller changes and answers; and the records of the other calls' answers.
 ghost use mathlib.Core.Path.{_≡_};
 ghost use mathlib.Core.Bool.{true};
 ghost use mathlib.Core.List.{[], _∷_};
@@ -27,7 +27,7 @@ use wide::fields;
 use wide::flags::flag;
 use wide::number::Wide;
 
-// What a run does with the call at the front of its list.
+// What a run does with the next call of its list.
 pub enum Step {
     // The call is refused.
     Refused(u8),
@@ -48,22 +48,22 @@ pub enum Step {
     Output,
 }
 
-// What a call changes that changes host time or the controller at most, and its answer.
+// Host time and controller after a call that changes at most these, and its answer.
 pub struct Changes {
     pub host: HostTime,
     pub controller: IrqController,
     pub answer: Answer,
 }
 
-// Where the counts begin in the record of an advance, behind the header and the line; and the line in that of a skip,
-// behind the header and the cycles passed.
+// Where the counts begin in the record of an advance, after the header and the line; and where the line is in that of a
+// skip, after the header and the cycles passed.
 const COUNTS: usize = format::HEADER_LENGTH + 1;
 
 const SKIP_LINE: usize = format::HEADER_LENGTH + 8;
 
 // ---- the step
 
-// The refusal of a call that its bytes or the room refuse: a skip's own comes before that of the room.
+// The refusal of a call that its bytes or the room refuse: a skip's own comes before the room's.
 fn first_refusal(board: Board, front: Decoded) -> u8
     requires { ⌜ sound board ≡ true ⌝ }
     ensures { λ r. ⌜ r ≡ firstRefusal board front ⌝ }
@@ -95,7 +95,7 @@ fn skip_step(board: Board) -> Step
     Step::Stay
 }
 
-// The step of the call at the front, with so much room for its answer.
+// The step of the first call in `rest`, with this room for its answer.
 pub fn step_of(board: Board, rest: &[u8], room: usize) -> Step
     requires { ⌜ sound board ≡ true ⌝ }
     ensures { λ r. ⌜ StepIs board (now (rest .entry)) room r ⌝ }
@@ -119,9 +119,9 @@ pub fn step_of(board: Board, rest: &[u8], room: usize) -> Step
     }
 }
 
-// ---- the calls that change host time or the controller at most
+// ---- the calls that change at most host time or the controller
 
-// What such a step changes.
+// Host time, controller and answer after such a step.
 pub fn changes_of(board: Board, step: Step) -> Changes
     requires { ⌜ sound board ≡ true ⌝ }
     ensures { λ r. ⌜ Changed step board r ⌝ }
@@ -229,7 +229,7 @@ pub fn pass_record(counted: bool) -> usize
 
 // ---- records, from index at on
 
-// The record of a read.
+// Writes the record of a read.
 pub fn put_byte(buf: &mut [u8], at: usize, byte: u8)
     requires { ⌜ at + 4 ≤ length (now buf) ⌝ }
     ensures { λ _. ⌜ now (buf .exit) ≡ sets (now (buf .entry)) at (recordOf 2 (answerBytes 2 (byte ∷ []))) ⌝ }
@@ -238,7 +238,7 @@ pub fn put_byte(buf: &mut [u8], at: usize, byte: u8)
     fields::put(buf, at + format::HEADER_LENGTH, byte as u64, 1);
 }
 
-// What an advance or a skip puts ahead of it: counts of 0 of the one, the cycles of the other.
+// Writes, before the cycles pass, the counts of an advance as 0, or the cycles of a skip.
 pub fn put_begun(buf: &mut [u8], at: usize, counted: bool, cycles: u64)
     requires { ⌜ (counted ≡ true → at + 68 ≤ length (now buf)) × (at + 12 ≤ length (now buf)) ⌝ }
     ensures { λ _. ⌜ now (buf .exit) ≡ begunPut counted cycles at (now (buf .entry)) ⌝ }
@@ -250,7 +250,7 @@ pub fn put_begun(buf: &mut [u8], at: usize, counted: bool, cycles: u64)
     }
 }
 
-// The compare points that channel i met in an advance, over its count of 0; a skip has none.
+// Writes how many compare points channel i met in an advance, over its count of 0; a skip has no counts.
 pub fn put_points(buf: &mut [u8], at: usize, counted: bool, i: usize, points: Wide)
     requires { ⌜ (i < 4) × (counted ≡ true → (at + 68 ≤ length (now buf))
         × (sets (now buf) (at + 4 + 16 * i) (be 16 0) ≡ now buf)) ⌝ }
@@ -261,7 +261,7 @@ pub fn put_points(buf: &mut [u8], at: usize, counted: bool, i: usize, points: Wi
     }
 }
 
-// What an advance or a skip puts behind it: the header and the line.
+// Writes, after the cycles have passed, the header and the line.
 pub fn put_passed(buf: &mut [u8], at: usize, counted: bool, line: bool)
     requires { ⌜ at + 12 ≤ length (now buf) ⌝ }
     ensures { λ _. ⌜ now (buf .exit) ≡ passedPut counted (flagOf line) at (now (buf .entry)) ⌝ }
@@ -275,7 +275,7 @@ pub fn put_passed(buf: &mut [u8], at: usize, counted: bool, line: bool)
     }
 }
 
-// The record of another call, by what it changes.
+// Writes the record of another call, by its changes.
 pub fn put_other(buf: &mut [u8], at: usize, step: Step, changes: Changes)
     requires { ⌜ at + 3 + length (valueBytes (changes .answer)) ≤ length (now buf) ⌝ }
     ensures { λ _. ⌜ now (buf .exit)

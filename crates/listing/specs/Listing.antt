@@ -20,8 +20,8 @@ ascii (c then s) = code c ∷ ascii s
 abbrev pub hexText : ℕ → List ℕ
 hexText byte = digits 16 2 byte
 
--- how many decimal digits the number n takes, at least one: one more than its tenth takes, from ten on. The first
--- number, n or larger, only bounds the recursion
+-- how many decimal digits n takes: 1 below ten, else one more than n / 10 takes. The first number, n or larger, only
+-- bounds the recursion
 unfoldable pub placesOf : ℕ → ℕ → ℕ
 placesOf zero n = 1
 placesOf (suc k) n = elim (ltb n 10) [ true ↦ 1 | false ↦ suc (placesOf k (n / 10)) ]
@@ -46,7 +46,7 @@ valueText (byte ∷ more) = bytesText (byte ∷ more)
 unfoldable pub answerLine : ℕ → List ℕ → List ℕ
 answerLine tag value = hexText tag ++ ascii " " ++ valueText value ++ ascii "\n"
 
--- 'tag 1, length 2, value; big-endian': the length of the value at the front of some bytes
+-- 'tag 1, length 2, value; big-endian': the value's length in the record that some bytes begin with
 abbrev pub lengthAt : List ℕ → ℕ
 lengthAt l = beAt l 1 2
 

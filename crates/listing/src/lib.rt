@@ -1,5 +1,5 @@
 // The text that `listrun` prints: a line for each answer of a run, and a last line. Each function that puts a text into
-// a buffer puts as much of it as fits and gives the index behind it, which it counts on past the buffer's end.
+// a buffer puts as much of it as fits. It gives the index after the whole text, which may be past the buffer's end.
 ghost use mathlib.Core.Path.{_≡_};
 ghost use mathlib.Core.List.{[], _∷_};
 ghost use Prim.Native.Nat.{_+_, _*_, _^_, _≤_, _<_};

@@ -32,7 +32,7 @@ fn run_list(list: &[u8], answers: &mut [u8], text: &mut [u8]) -> usize
     listing::listing(&answers[..written], r.calls, r.refusal, r.used, text)
 }
 
-// Writes what is printed of a list at the start of a buffer and gives its length. A listing has at most two characters
+// Writes what is printed for a list at the start of a buffer and gives its length. A listing has at most two characters
 // for each answer byte, and 67: the buffer has room for all of it.
 fn print_list(list: &[u8], answers: &mut [u8; ANSWER_ROOM], text: &mut [u8; TEXT_ROOM]) -> usize
     ensures { λ r. ⌜ Counts r (now (text .exit)) ⌝ }
@@ -45,7 +45,7 @@ fn print_list(list: &[u8], answers: &mut [u8; ANSWER_ROOM], text: &mut [u8; TEXT
 }
 
 fn main() {
-    // one byte more than the longest, to see that a list is longer
+    // one byte more than the longest list, to find a longer one
     let mut list = [0u8; LIST_LIMIT + 1];
     let r = input::read_all(0, &mut list);
     if r.failed {

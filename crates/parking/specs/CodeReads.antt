@@ -1,5 +1,5 @@
--- Not sentences of S-1 or S-8 but what the code computes: of members by their widths, of the latches' members, and of
--- S-1's fields alone.
+-- Not sentences of S-1 or S-8 but what the code computes from members by their widths, from the latches' members, and
+-- from S-1's fields alone.
 use Prim.Native.Nat.{ℕ, suc, _+_, _^_, _<_}
 use mathlib.Core.Bool.{Bool, cond, _&&_, _||_}
 use mathlib.Core.List.{List, [], _∷_}
@@ -13,12 +13,12 @@ use Rattle.image.specs.Image.{flagIs, emptiesHold0, boardFrom}
 use Rattle.parking.specs.declared.Reading.{Reading}
 use Rattle.parking.specs.Parking.{defaultForm, imageMalformed}
 
--- the members from the one of index k on, each below the values of its width
+-- the members from index k on are each within their width
 abbrev pub FitFrom : ℕ → List ℕ → List ℕ → Type 0
 FitFrom k [] ms = Unit {0}
 FitFrom k (w ∷ ws) ms = (getD ms k 0 < 256 ^ w) × FitFrom (suc k) ws ms
 
--- the held flags of the latches' members
+-- no held flag among the latches' members is above 1
 abbrev pub heldFlags : List ℕ → Bool
 heldFlags ms =
     (leb (getD ms 0 0) 1 && (leb (getD ms 2 0) 1 && leb (getD ms 4 0) 1))
@@ -33,12 +33,12 @@ sixHold0 ms =
     ((emptyHolds0 0 ms && emptyHolds0 2 ms) && (emptyHolds0 4 ms && emptyHolds0 6 ms))
     && (emptyHolds0 8 ms && emptyHolds0 10 ms)
 
--- the refusal of members of S-1's fields, with a rate, where their bytes are formed or not
+-- the refusal of the members of S-1's fields, at a rate; `form` says whether their bytes have the form of an image
 abbrev pub membersRefusal : ℕ → Bool → List (List ℕ) → ℕ
 membersRefusal rate form mss =
     cond form (cond (emptiesHold0 (getD mss 5 []) && sound (boardFrom rate mss)) 0 notSound) imageMalformed
 
--- and what is read of them, in a form
+-- what reading them gives, from an image of form f
 unfoldable pub membersRead : Form → ℕ → Bool → List (List ℕ) → Reading
 membersRead f rate form mss =
     record {

@@ -27,7 +27,7 @@ use Rattle.image.specs.declared.Form.{Form}
 use Rattle.image.specs.Image.{imageLength, imageOf}
 use Rattle.parking.specs.Parking.{writingOf, readingOf}
 
--- a board is written in a form, and what was written is read back; one that is refused comes back as it was given
+-- a board is written in a form, and its image is read back; a board that is refused comes back as it was given
 unfoldable pub parkedAndRead : Form → Board → Board
 parkedAndRead f b =
     cond (eqb (writingOf f b (imageLength f) .refusal) 0) (readingOf (imageOf f b) .board)
@@ -38,7 +38,7 @@ pub data ParkingCall : Type 0 where
   call : Call → ParkingCall
   parking : Form → ParkingCall
 
--- the seconds of a host-time call are a word, as an image has them
+-- the seconds of a host-time call fit in a word, as an image has them
 abbrev pub HostFits : Call → Type 0
 HostFits (HostTime nanoseconds seconds) = seconds < 2 ^ 64
 HostFits (Read address) = Unit {0}
@@ -51,7 +51,7 @@ HostFits (ControllerRead address) = Unit {0}
 HostFits (ControllerWrite byte address) = Unit {0}
 HostFits Output = Unit {0}
 
--- of the promise's lists: an advance, a host-time call of a machine's host time, or a parking
+-- a call of the promise's lists: an advance, a host-time call whose seconds fit in a word, or a parking
 abbrev pub PassesOrParks : ParkingCall → Type 0
 PassesOrParks (call a) = PassesTime a × HostFits a
 PassesOrParks (parking f) = Unit {0}

@@ -11,7 +11,7 @@ use Rattle.image.specs.Image.{imageLength, imageOf}
 use Rattle.parking.specs.declared.moves.Moved.{Moved}
 use Rattle.parking.specs.Parking.{parkingRefusal, boardIn, formRefusal}
 
--- the form that an image is moved from, by that which it is moved to
+-- the form that an image is moved from, by the form that it is moved to
 abbrev pub otherForm : Form → Form
 otherForm Old = New
 otherForm New = Old

@@ -47,7 +47,7 @@ abbrev pub formTakes : Form → ℕ → Bool
 formTakes Old rate = eqb rate freshRate
 formTakes New rate = true
 
--- 16 'before 11': of a board of a rate and a buffer of so many bytes
+-- 16 'before 11': for a board at a rate and a buffer of `room` bytes
 abbrev pub parkingRefusal : Form → ℕ → ℕ → ℕ
 parkingRefusal f rate room =
     cond (formTakes f rate) (cond (ltb room (imageLength f)) bufferShort 0) rateNeedsNewForm
@@ -76,19 +76,19 @@ bufferAfter f b old =
 abbrev pub imageMalformed : ℕ
 imageMalformed = 12
 
--- the members that some bytes say in a form
+-- the members that some bytes have in a form
 abbrev pub said : Form → List ℕ → List (List ℕ)
 said f l = membersFrom l 0 (layoutOf f)
 
--- the board that they say
+-- the board of those members
 abbrev pub boardIn : Form → List ℕ → Board
 boardIn f l = boardFrom (rateFrom f (said f l)) (boardMembers f (said f l))
 
--- 'an empty latch holds 0' is looked at in the bytes
+-- 'an empty latch holds 0' is tested in the bytes
 abbrev pub emptiesIn : Form → List ℕ → Bool
 emptiesIn f l = emptiesHold0 (getD (boardMembers f (said f l)) 5 [])
 
--- the bytes say a sound board
+-- the bytes are those of a sound board
 abbrev pub soundIn : Form → List ℕ → Bool
 soundIn f l = emptiesIn f l && sound (boardIn f l)
 
@@ -105,7 +105,7 @@ readingIn f l =
       refusal = formRefusal f l;
     }
 
--- S-8: 'Both forms are read': the new where the bytes are formed so, or else the old
+-- S-8: 'Both forms are read': as the new form where the bytes have it, else as the old
 unfoldable pub formOf : List ℕ → Form
 formOf l = cond (formed New l) New Old
 

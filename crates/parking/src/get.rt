@@ -1,4 +1,4 @@
-// The board that the bytes of an image say, field by field, and whether each field stands where it is asked for.
+// Reads the board from the bytes of an image, field by field, and finds whether each field is where it must be.
 ghost use mathlib.Core.Path.{_≡_};
 ghost use mathlib.Core.Bool.{_&&_, _||_};
 ghost use Prim.Native.Nat.{_+_, _≤_};
@@ -47,7 +47,7 @@ use wide::fields;
 use wide::flags::both;
 use wide::flags::either;
 
-// A channel's field: whether it stands there, and the channel that it says.
+// A channel's field: whether it is there, and its channel. The next three structs do so for their fields.
 struct ChannelSaid {
     formed: bool,
     timer: HardwareTimer,
@@ -70,20 +70,20 @@ struct ControllerSaid {
     controller: IrqController,
 }
 
-// The field ahead of them in the new form: whether it stands there, and its rate.
+// The field ahead of them in the new form: whether it is there, and its rate.
 pub struct RateSaid {
     pub formed: bool,
     pub rate: u32,
 }
 
-// What an image says: whether it has the form of one, whether its empty latches hold 0, and its board.
+// An image as it is read: whether its bytes have the form of one, whether its empty latches hold 0, and its board.
 pub struct BoardSaid {
     pub formed: bool,
     pub empties_hold_0: bool,
     pub board: Board,
 }
 
-// The members from an index on, each of its width, which it fits.
+// Reads the members from an index on, each of its width. The contract also says that each is within its width.
 fn get_members(image: &[u8], at: usize, widths: &[usize], members: &mut [u64])
     requires { ⌜ Laid (now widths) (now members) × (at + sum (now widths) ≤ length (now image)) ⌝ }
     ensures { λ _. ⌜ (now (members .exit) ≡ membersAt (now (image .entry)) at (now (widths .entry)))
@@ -99,7 +99,7 @@ fn get_members(image: &[u8], at: usize, widths: &[usize], members: &mut [u64])
     }
 }
 
-// A field's tag and length stand at an index.
+// Whether a field's tag and length are at an index.
 fn has_header(image: &[u8], at: usize, tag: u8, size: usize) -> bool
     requires { ⌜ at + 3 ≤ length (now image) ⌝ }
     ensures { λ r. ⌜ r ≡ (eqb (beAt (now (image .entry)) at 1) tag
@@ -192,14 +192,14 @@ fn latch_from(held: u64, value: u32) -> Latch
     }
 }
 
-// 'An empty latch holds 0', of a held flag and a value.
+// Whether 'an empty latch holds 0', for a held flag and a value.
 fn empty_holds_0(held: u64, value: u64) -> bool
     ensures { λ r. ⌜ r ≡ (flagIs held || eqb value 0) ⌝ }
 {
     either(held == 1, value == 0)
 }
 
-// None of the held flags is above 1.
+// Whether none of the held flags is above 1.
 fn held_flags(members: &[u64]) -> bool
     requires { ⌜ length (now members) ≡ 12 ⌝ }
     ensures { λ r. ⌜ r ≡ heldFlags (now (members .entry)) ⌝ }
@@ -294,7 +294,7 @@ fn controller_in(image: &[u8]) -> ControllerSaid
     }
 }
 
-// What the bytes of an image in the old form say, the board at a rate.
+// Reads an image in the old form, with its board at a rate.
 pub fn board_in(rate: u32, image: &[u8]) -> BoardSaid
     requires { ⌜ length (now image) ≡ imageLength Old ⌝ }
     ensures { λ r. ⌜ (r .formed ≡ formed Old (now (image .entry)))
@@ -332,7 +332,7 @@ pub fn board_in(rate: u32, image: &[u8]) -> BoardSaid
     }
 }
 
-// The field that the new form begins with.
+// Reads the field that the new form begins with.
 pub fn rate_in(image: &[u8]) -> RateSaid
     requires { ⌜ fieldLength rateField ≤ length (now image) ⌝ }
     ensures { λ r. ⌜ (r .formed ≡ fieldAt (now (image .entry)) 0 rateField)

@@ -20,7 +20,7 @@ use wide::flags::both;
 mod get;
 pub mod moves;
 
-// Refusals, by their numbers; 1, a board that is not sound, is the board's.
+// Refusals, by their numbers. Refusal 1, for a board that is not sound, is a constant of the board.
 pub const BUFFER_SHORT: u8 = format::ANSWER_TOO_LONG;
 
 pub const IMAGE_MALFORMED: u8 = 12;
@@ -35,14 +35,14 @@ pub struct Writing {
 }
 
 // The board that was read and the form of its image, and the refusal, 0 for none. Where the reading is refused, the
-// board is a fresh one, and the form that which is written unless the old is chosen.
+// board is a fresh one, and the form is the new one.
 pub struct Reading {
     pub board: Board,
     pub form: Form,
     pub refusal: u8,
 }
 
-// The old form has no rate, so that it takes boards of one rate alone.
+// Whether a form takes boards of a rate. The old form has no rate, so it takes only boards at 48,000,000.
 fn form_takes(form: Form, rate: u32) -> bool
     ensures { λ r. ⌜ r ≡ formTakes form rate ⌝ }
 {
@@ -52,7 +52,7 @@ fn form_takes(form: Form, rate: u32) -> bool
     }
 }
 
-// The refusal of a writing in a form, of a sound board of a rate to a buffer of so many bytes.
+// The refusal of writing a sound board at a rate in a form, to a buffer of `room` bytes.
 fn parking_refusal(form: Form, rate: u32, room: usize) -> u8
     ensures { λ r. ⌜ r ≡ parkingRefusal form rate room ⌝ }
 {
@@ -90,7 +90,7 @@ pub fn write_in(form: Form, board: Board, buffer: &mut [u8]) -> Writing
     }
 }
 
-// The same in the form that is written unless the old is chosen.
+// The same in the new form, which is written unless the old is chosen.
 pub fn write(board: Board, buffer: &mut [u8]) -> Writing
     ensures { λ r. ⌜ r ≡ writingOf defaultForm board (length (now (buffer .entry))) ⌝ }
     ensures { λ _. ⌜ now (buffer .exit) ≡ bufferAfter defaultForm board (now (buffer .entry)) ⌝ }
@@ -111,8 +111,7 @@ fn refused(refusal: u8) -> Reading
     }
 }
 
-// Reads S-1's fields, of a board at a rate, in an image of a form; `ahead` says whether what stands ahead of them is
-// formed.
+// Reads S-1's fields of an image in a form, with its board at a rate. `ahead`: the bytes before them are formed.
 fn read_fields(form: Form, rate: u32, ahead: bool, fields: &[u8]) -> Reading
     ensures { λ r. ⌜ r ≡ membersRead form rate (ahead && formed Old (now (fields .entry)))
         (said Old (now (fields .entry))) ⌝ }
@@ -136,7 +135,7 @@ fn read_fields(form: Form, rate: u32, ahead: bool, fields: &[u8]) -> Reading
     }
 }
 
-// Reads the board whose image in either form a lent slice is. The two forms differ in length.
+// Reads the board of an image in either form. The length tells which of the two it is.
 pub fn read(image: &[u8]) -> Reading
     ensures { λ r. ⌜ r ≡ readingOf (now (image .entry)) ⌝ }
 {
@@ -148,7 +147,7 @@ pub fn read(image: &[u8]) -> Reading
     }
 }
 
-// Reads the board whose image in one form a lent slice is.
+// Reads the board of an image in this form alone.
 fn read_in(form: Form, image: &[u8]) -> Reading
     ensures { λ r. ⌜ r ≡ readingIn form (now (image .entry)) ⌝ }
 {

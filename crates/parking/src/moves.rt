@@ -12,7 +12,7 @@ pub struct Moved {
     pub written: usize,
 }
 
-// The form that an image is moved from, by that which it is moved to.
+// The form that an image is moved from, by the form that it is moved to.
 fn other_form(to: Form) -> Form
     ensures { λ r. ⌜ r ≡ otherForm to ⌝ }
 {

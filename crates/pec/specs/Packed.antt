@@ -5,7 +5,7 @@ use Rattle.controller.specs.declared.IrqController.{IrqController}
 use Rattle.controller.specs.declared.IrqOutput.{IrqOutput}
 
 -- the controller of a number: pending from bit 32 on, enable from bit 16 on, levels from bit 0 on, sixteen bits each;
--- the bits above them are not looked at
+-- the bits above them are ignored
 unfoldable pub controllerOf : ℕ → IrqController
 controllerOf n =
     record { pending = n / 4294967296 % 65536; enable = n / 65536 % 65536; levels = n % 65536 }

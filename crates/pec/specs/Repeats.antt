@@ -19,7 +19,7 @@ pub record Held : Type 0 where
 abbrev pub startedOn : Board → List ℕ → Held
 startedOn b buffer = record { outcome = nothingDone b 0; buffer = buffer }
 
--- a fresh board of which no rate is said
+-- a fresh board without a given rate
 abbrev pub started : List ℕ → Held
 started buffer = startedOn freshBoard buffer
 
@@ -31,12 +31,12 @@ ran l h =
       buffer = over (runOf (h .outcome .board) l (length (h .buffer)) .answers) (h .buffer);
     }
 
--- the same list so many times
+-- the same list n times
 unfoldable pub repeats : ℕ → List ℕ → Held → Held
 repeats zero l h = h
 repeats (suc n) l h = ran l (repeats n l h)
 
--- ---- over a fresh board of a rate
+-- ---- over a fresh board at a rate
 
 -- S-7: '15, another rate, before all else when a board is made': then nothing is run
 abbrev pub unlessRefused : ℕ → (Board → Held) → List ℕ → Held
@@ -44,10 +44,10 @@ unlessRefused rate runs buffer =
     cond (eqb (freshOf rate .refusal) 0) (runs (freshOf rate .board))
     (record { outcome = nothingDone (freshOf rate .board) (freshOf rate .refusal); buffer = buffer })
 
--- a list
+-- a run of a list
 unfoldable pub ranAt : ℕ → List ℕ → List ℕ → Held
 ranAt rate l buffer = unlessRefused rate (λ b. ran l (startedOn b buffer)) buffer
 
--- a list, and then another so many times
+-- a run of a list, and then of another `times` times
 unfoldable pub repeatsAt : ℕ → List ℕ → List ℕ → ℕ → List ℕ → Held
 repeatsAt rate first l times buffer = unlessRefused rate (λ b. repeats times l (ran first (startedOn b buffer))) buffer

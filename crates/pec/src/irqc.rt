@@ -11,7 +11,7 @@ use controller::IrqController;
 use controller::IrqOutput;
 use controller::SourceNumber;
 
-// The controller of a number; its bits from 48 on are not looked at.
+// The controller of a number; its bits from 48 on are ignored.
 fn unpack(word: u64) -> IrqController
     ensures { λ r. ⌜ r ≡ controllerOf word ⌝ }
 {

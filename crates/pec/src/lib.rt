@@ -1,5 +1,5 @@
-// The C interface of the proved board: functions on numbers and slices of them, for programs in other languages to link.
-// A slice is a pointer and a length; a number that is lent is written before the call returns.
+// The C interface of the proved board: functions on numbers and slices, which programs in other languages link. A slice
+// is a pointer and a length; a number that is lent is written before the call returns.
 ghost use mathlib.Core.Path.{_≡_};
 ghost use Prim.Native.Nat.{_+_, _*_, _≤_};
 ghost use lib.ListN.{length};
@@ -18,8 +18,8 @@ use list::Outcome;
 
 mod irqc;
 
-// A list over a board, and then another list a number of times, each time over the board that the run before it left.
-// Each run writes its answers from the buffer's first byte.
+// Runs a list over a board, and then another list a number of times, each time over the board that the run before it
+// left. Each run writes its answers from the buffer's first byte.
 fn repeated(board: Board, first: &[u8], list: &[u8], times: u64, answers: &mut [u8]) -> Outcome
     ensures { λ r. ⌜ r ≡ repeats times (now (list .entry))
         (ran (now (first .entry)) (startedOn board (now (answers .entry)))) .outcome ⌝ }
@@ -36,7 +36,7 @@ fn repeated(board: Board, first: &[u8], list: &[u8], times: u64, answers: &mut [
     r
 }
 
-// The same over a fresh board of a rate; of another rate than a sound board's, nothing is run.
+// The same over a fresh board at a rate. A rate that no sound board has is refused, and nothing is run.
 fn repeated_at(rate: u32, first: &[u8], list: &[u8], times: u64, answers: &mut [u8]) -> Outcome
     ensures { λ r. ⌜ r ≡ repeatsAt rate (now (first .entry)) (now (list .entry)) times (now (answers .entry))
         .outcome ⌝ }
@@ -111,7 +111,7 @@ pub extern "C" fn pec_run_repeated(
     r.refusal
 }
 
-// Runs a list over a fresh board of a rate into a lent buffer, as `pec_run` does over one at 48,000,000. A rate other
+// Runs a list over a fresh board at a rate into a lent buffer, as `pec_run` does over one at 48,000,000. A rate other
 // than 1,000,000, 12,000,000 and 48,000,000 is refused with 15 before all else: the buffer stays, and the counts are 0.
 #[no_mangle]
 pub extern "C" fn pec_run_at(
@@ -135,7 +135,7 @@ pub extern "C" fn pec_run_at(
     r.refusal
 }
 
-// Runs a list over a fresh board of a rate, and then another list a number of times, as `pec_run_repeated` does over
+// Runs a list over a fresh board at a rate, and then another list a number of times, as `pec_run_repeated` does over
 // one at 48,000,000. Another rate is refused as by `pec_run_at`.
 #[no_mangle]
 pub extern "C" fn pec_run_repeated_at(
@@ -166,8 +166,8 @@ pub extern "C" fn pec_run_repeated_at(
     r.refusal
 }
 
-// Writes the listing of a run's answers and of its end, which `listrun` prints, at the start of a lent buffer: as much of
-// it as fits. Its result is the listing's length, at most twice that of the answers and 67.
+// Writes the listing of a run's answers and of its end, which `listrun` prints, at the start of a lent buffer, as much
+// of it as fits. Its result is the listing's length, at most twice that of the answers and 67.
 #[no_mangle]
 pub extern "C" fn pec_listing(
     answers: &[u8],
@@ -198,7 +198,7 @@ pub extern "C" fn pec_fresh(image: &mut [u8], written: &mut usize) -> u8
     r.refusal
 }
 
-// The same of a fresh board of a rate. The refusal is 15, of another rate than a sound board's, ahead of 11.
+// The same for a fresh board at a rate. A rate that no sound board has is refused with 15, ahead of 11.
 #[no_mangle]
 pub extern "C" fn pec_fresh_at(rate: u32, image: &mut [u8], written: &mut usize) -> u8
     ensures { λ r. ⌜ r ≡ freshWriting rate (length (now (image .entry))) .refusal ⌝ }
@@ -230,8 +230,8 @@ pub extern "C" fn pec_move_forward(image: &[u8], moved: &mut [u8], written: &mut
     r.refusal
 }
 
-// Moves an image of the new form back to the old, likewise; 16 comes between 1 and 11, where its board has another rate
-// than 48,000,000.
+// Moves an image of the new form back to the old in the same manner. Between 1 and 11 comes 16, where its board has
+// another rate than 48,000,000.
 #[no_mangle]
 pub extern "C" fn pec_move_back(image: &[u8], moved: &mut [u8], written: &mut usize) -> u8
     ensures { λ r. ⌜ r ≡ moveOf Old (now (image .entry)) (length (now (moved .entry))) .refusal ⌝ }
@@ -283,9 +283,9 @@ pub extern "C" fn pec_run_parked(
     r.refusal
 }
 
-// Whether a parked board's line would be high after each of some totals of further cycles: one byte for each, 1 or 0, at
-// the start of a lent buffer. The board stays as it is. Its result is the refusal: of the image, by 12 or 1; 14 where the
-// clock is enabled in realtime; 11 for a buffer that is shorter than the totals; 0 for none. A refused call writes
+// Whether a parked board's line would be high after each of some totals of further cycles: one byte for each, 1 or 0,
+// at the start of a lent buffer. The board does not change. The result is the refusal: 12 or 1 for the image; 14 where
+// the clock is enabled in realtime; 11 for a buffer that is shorter than the totals; 0 for none. A refused call writes
 // nothing.
 #[no_mangle]
 pub extern "C" fn pec_preview(image: &[u8], totals: &[u64], high: &mut [u8]) -> u8

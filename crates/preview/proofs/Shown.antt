@@ -38,8 +38,7 @@ module _ (b : Board) (f : BoardFits b) (s : sound b ≡ true) (o : fromHost (b .
   pub high-shows : line b ≡ true → line (advancedBoard t b) ≡ true
   high-shows h = advance-shows ∙ rw h refl
 
-  -- a low line without a deadline stays so; of one with a deadline, `advance-reaches` of the board says that it is
-  -- high
+  -- a low line without a deadline stays so; of one with a deadline, `advance-reaches` of the board says that it is high
   -- from there on
   pub none-shows : line b ≡ false → exactDeadline b ≡ none → line (advancedBoard t b) ≡ false
   none-shows low e = advance-shows ∙ rw (low, e) refl

@@ -1,4 +1,4 @@
--- S-6, 'Many previews from one look': what the totals of a lent slice give of a board, and of a parked one.
+-- S-6, 'Many previews from one look': what the totals of a lent slice give, for a board and for a parked one.
 use Prim.Native.Nat.{ℕ}
 use mathlib.Core.Bool.{cond}
 use mathlib.Core.List.{List, map, _++_}
@@ -18,7 +18,7 @@ use Rattle.parking.specs.Parking.{bufferShort, readingOf, readingRefusal}
 abbrev pub clockInRealtime : ℕ
 clockInRealtime = 14
 
--- of so many totals and a buffer of so many bytes: '14, the clock is enabled in realtime, after 1; a short buffer is
+-- for `count` totals and a buffer of `room` bytes: '14, the clock is enabled in realtime, after 1; a short buffer is
 -- 11, after it'
 unfoldable pub previewRefusal : Board → ℕ → ℕ → ℕ
 previewRefusal b count room =

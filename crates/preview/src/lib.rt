@@ -1,5 +1,5 @@
-// Many previews from one look: whether a board's line would be high after each total of a lent slice of totals of
-// cycles, all from one deadline; of a board, and of a parked one.
+// S-6, 'Many previews from one look': whether the line would be high after each total of cycles in a lent slice, all
+// from one deadline; for a board, and for a parked one.
 ghost use mathlib.Core.Path.{_≡_};
 ghost use mathlib.Core.Bool.{cond, _&&_};
 ghost use mathlib.Core.List.{map, _++_};
@@ -23,8 +23,8 @@ use wide::flags;
 // The refusal of a preview of a board whose clock runs from host time, by the number of S-6.
 pub const CLOCK_IN_REALTIME: u8 = 14;
 
-// The refusal of a preview but for 1, 0 for none: by whether the clock runs from host time, the number of totals and
-// the bytes of the buffer.
+// The refusal of a preview of a sound board, 0 for none: by whether the clock runs from host time, the number of totals
+// and the bytes of the buffer.
 fn own_refusal(from_host: bool, count: usize, room: usize) -> u8
     ensures { λ r. ⌜ r ≡ cond «from_host» clockInRealtime (cond (ltb room count) bufferShort 0) ⌝ }
 {
@@ -38,7 +38,7 @@ fn own_refusal(from_host: bool, count: usize, room: usize) -> u8
     }
 }
 
-// Writes one byte for each total: 1 where it is at least so many cycles, else 0; 0 for all where none reaches them.
+// Writes one byte for each total: 1 where `reached` is set and the total is at least `from`, else 0.
 fn put_reached(reached: bool, from: Cycles, totals: &[u64], high: &mut [u8])
     requires { ⌜ length (now totals) ≤ length (now high) ⌝ }
     ensures { λ _. ⌜ now (high .exit) ≡ map (λ total. flagOf (reached && leb (from .0) total)) (now (totals .entry))
@@ -53,9 +53,9 @@ fn put_reached(reached: bool, from: Cycles, totals: &[u64], high: &mut [u8])
 }
 
 // Whether the line would be high after each total of further cycles: one byte each, 1 or 0, at the start of a lent
-// buffer. The line and the deadline are found once, and each total is then one comparison: with the advance that a skip
-// would make. A skip makes none where the line is high, which it stays from 0 cycles on, and where no word of cycles
-// reaches the interrupt.
+// buffer. The line and the advance that a skip would make are computed once, and each total is compared with that
+// advance. A skip makes no advance where the line is high, and every byte is then 1, or where no total can reach the
+// deadline, and every byte is then 0.
 pub fn preview(board: Board, totals: &[u64], high: &mut [u8]) -> EmptyAnswer
     ensures { λ r. ⌜ r ≡ previewOf board (length (now (totals .entry))) (length (now (high .entry))) ⌝ }
     ensures { λ _. ⌜ now (high .exit) ≡ previewedBuffer board (now (totals .entry)) (now (high .entry)) ⌝ }
@@ -72,7 +72,7 @@ pub fn preview(board: Board, totals: &[u64], high: &mut [u8]) -> EmptyAnswer
     EmptyAnswer { board, refusal: 0 }
 }
 
-// The same of a parked board. The refusal is the image's, 12 or 1, where that is refused, and otherwise the preview's.
+// The same for a parked board. The refusal is that of the image, 12 or 1, or else that of the preview.
 pub fn preview_parked(image: &[u8], totals: &[u64], high: &mut [u8]) -> u8
     ensures { λ r. ⌜ r ≡ parkedPreviewRefusal (now (image .entry)) (length (now (totals .entry)))
         (length (now (high .entry))) ⌝ }

@@ -21,7 +21,7 @@ Decides b P = (b ≡ true → P) × (P → b ≡ true)
 unfoldable pub startOf : ℕ → Board
 startOf n = withTimerEnable n freshBoard
 
--- a run's results but the board and the answers
+-- a run's results without the board and the answers
 abbrev pub resultsOf : Outcome → Results
 resultsOf o = record { calls = o .calls; used = o .used; written = o .written; refusal = o .refusal }
 
@@ -43,7 +43,7 @@ headerAt s at =
 abbrev pub recorded : Header → Results
 recorded h = record { calls = h .calls; used = h .used; written = h .written; refusal = h .refusal }
 
--- a record lies within so many bytes, and its buffer is not too long
+-- a record lies within `room` bytes, and its buffer is not too long
 pub record Fits (h : Header) (room : ℕ) : Type 0 where
   pub bytes : 12 + (h .list + h .written) ≤ room
   pub buffer : h .buffer ≤ 32768

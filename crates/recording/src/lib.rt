@@ -17,7 +17,7 @@ pub const RECORD_HEADER_LENGTH: usize = 12;
 // The longest answer buffer.
 pub const BUFFER_LIMIT: usize = 32768;
 
-// A run's results but the board and the answers.
+// A run's results without the board and the answers.
 pub struct Results {
     pub calls: usize,
     pub used: usize,
@@ -53,7 +53,7 @@ pub fn header_at(s: &[u8], at: usize) -> Header
     }
 }
 
-// Whether so many bytes, from a record's first on, have all of it, and its buffer is not too long.
+// Whether a record lies within `room` bytes from its first on, and its buffer is not too long.
 pub fn fits(h: Header, room: usize) -> bool
     requires { ⌜ 12 ≤ room ⌝ }
     ensures { λ r. ⌜ Decides r (Fits h room) ⌝ }
@@ -135,7 +135,7 @@ pub fn agrees(h: Header, list: &[u8], answers: &[u8], buffer: &mut [u8], old: &[
     holds(buffer, answers, old)
 }
 
-// Whether a slice has the same bytes as another in a part of that one.
+// Whether b has the same bytes as a from index `from` up to `to`.
 fn same_part(a: &[u8], b: &[u8], from: usize, to: usize) -> bool
     requires { ⌜ (from ≤ to) × (to ≤ length (now a)) ⌝ }
 {
@@ -145,7 +145,7 @@ fn same_part(a: &[u8], b: &[u8], from: usize, to: usize) -> bool
     check::same(&a[from..to], &b[from..to])
 }
 
-// How many recorded answers, header and value, from the first on, stand in a buffer at their place.
+// How many recorded answers, header and value, a buffer holds at their place, up to the first that it does not hold.
 pub fn leading(answers: &[u8], buffer: &[u8]) -> usize {
     let mut n = 0;
     let mut at = 0;

@@ -1,9 +1,9 @@
 // How many recorded calls agree with the runs of their lists, and the first that does not.
 //
 // A list agrees where the calls done, the list bytes used, the answer bytes and the refusal are those recorded, and the
-// buffer holds the recorded answers and then the bytes that it held before. Of a list that does not agree, the calls
-// agree whose recorded answers stand in the buffer, up to the first that does not; the one behind the last call done
-// is the call that ended the run.
+// buffer holds the recorded answers and then the bytes that it held before. In a list that does not agree, those calls
+// agree whose recorded answers the buffer holds, up to the first that it does not hold; the call after the last one
+// done is the call that ended the run.
 ghost use Prim.Native.Nat.{_-_, _≤_};
 ghost use mathlib.Core.Path.{_≡_};
 ghost use lib.ListN.{length};
@@ -29,7 +29,7 @@ pub struct Tally {
     pub call: usize,
 }
 
-// The tally of no list, and the first that did not agree.
+// The tally of no list, with the first list that did not agree, 0 for none.
 pub fn none(list: usize) -> Tally {
     Tally {
         lists: 0,
@@ -40,7 +40,7 @@ pub fn none(list: usize) -> Tally {
     }
 }
 
-// The second number where it is asked for.
+// b where `second` is set, else a.
 fn chosen(second: bool, a: usize, b: usize) -> usize {
     if second { b } else { a }
 }
@@ -81,7 +81,7 @@ fn compared(h: Header, list: &[u8], answers: &[u8], buffer: &mut [u8], old: &[u8
     }
 }
 
-// A buffer before a run. The `ensures` gives only the length, which lending a part of the array needs.
+// A buffer before a run. The `ensures` gives only the length, which lending a slice of the array needs.
 fn old_bytes() -> [u8; BUFFER_LIMIT]
     ensures { λ r. ⌜ 32768 ≡ length r ⌝ }
 {

@@ -1,6 +1,6 @@
--- Not document 01's sentences: what the code computes of a read, from one channel, the clock, the latches and the word
--- that all channels share. The rule is `readAt` of crates/board, and `read-parts` of proofs/CodeReads.antt shows that
--- the read here is the rule's.
+-- Not document 01's sentences: what the code computes for a read, from one channel, the clock, the latches and the word
+-- of a register that all channels share. The rule is `readAt` of crates/board, and `read-parts` of
+-- proofs/CodeReads.antt shows that the read here is the rule's.
 use Prim.Native.Nat.{ℕ}
 use mathlib.Core.Bool.{Bool, false, not, cond, _&&_, Bool·beq}
 use lib.ListN.{getD, set}
@@ -81,24 +81,24 @@ serving offset ls =
     (cond (inRegister secondsHighAt offset) (ls .high)
     (countServing offset ls))
 
--- that latch of a count is empty
+-- the latches with that latch of a count empty
 unfoldable pub countFreed : ℕ → Latches → Latches
 countFreed offset ls = cond (atCountHigh offset) (withCount (channelIndex offset) Empty ls) ls
 
--- the latch that serves the offset is empty
+-- the latches with the one that serves the offset empty
 unfoldable pub latchFreed : ℕ → Latches → Latches
 latchFreed offset ls =
     cond (inRegister secondsLowAt offset) (withSeconds Empty (ls .high) ls)
     (cond (inRegister secondsHighAt offset) (withSeconds (ls .low) Empty ls)
     (countFreed offset ls))
 
--- the same after byte 3 alone
+-- the same, but only after byte 3
 unfoldable pub freedAt : ℕ → Latches → Latches
 freedAt offset ls = cond (eqb (byteOf offset) 3) (latchFreed offset ls) ls
 
 -- ---- the reading
 
--- the word of the register at an offset, by its channel, its clock and the word that all channels share
+-- the word of the register at an offset, by the channel, the clock and the word of a register that all channels share
 unfoldable pub wordAt : HardwareTimer → Clock → ℕ → ℕ → ℕ
 wordAt h k shared offset =
     cond (inTimers offset) shared
@@ -107,7 +107,7 @@ wordAt h k shared offset =
     0))
 
 -- no latch serves: k is the clock after the alarm check, `before` whether its alarm was pending before. The check can
--- only set pending, so where that is not as it was it rose.
+-- only set pending, so pending rose where it differs from `before`.
 abbrev pub liveReading : HardwareTimer → ℕ → Clock → Bool → Latches → ℕ → LatchedReading
 liveReading h shared k before ls offset =
     record {
@@ -118,7 +118,7 @@ liveReading h shared k before ls offset =
       rose = not (Bool·beq (k .alarm .pending) before);
     }
 
--- a latch serves, which holds a word
+-- a latch that holds `word` serves the read
 abbrev pub latchReading : ℕ → Clock → Latches → ℕ → LatchedReading
 latchReading word k ls offset =
     record {
@@ -129,7 +129,7 @@ latchReading word k ls offset =
       rose = false;
     }
 
--- by the latches, filled where the offset is byte 0 of a low word
+-- a read by the latches, already filled where the offset is byte 0 of a low word
 unfoldable pub readingBy : HardwareTimer → ℕ → Clock → Latches → ℕ → LatchedReading
 readingBy h shared k ls offset =
     cond (heldOf (serving offset ls)) (latchReading (heldValue (serving offset ls)) k ls offset)
@@ -163,12 +163,12 @@ afterReading r b =
 
 -- ---- without the latches
 
--- a channel's register that no latch has to do with
+-- a channel's register whose reads neither fill a latch nor use one
 unfoldable pub plainAt : ℕ → Bool
 plainAt offset =
     inChannels offset
     && (not (eqb (registerOf (placeOf offset)) countLowAt) && not (eqb (registerOf (placeOf offset)) countHighAt))
 
--- a reading but for the latches
+-- a reading without its latches
 abbrev pub plainOf : LatchedReading → PlainReading
 plainOf r = record { byte = r .byte; pending = r .pending; armed = r .armed; rose = r .rose }

@@ -1,5 +1,5 @@
--- Not document 01's sentences: what the code computes of a write, the part of the board that a byte written at an
--- offset changes and the board with that part changed. The rule is `writtenAt` of crates/board, and `written-is` of
+-- Not document 01's sentences: what the code computes for a write. It is the part of the board that a byte written at
+-- an offset changes, and the board with that part changed. The rule is `writtenAt` of crates/board, and `written-is` of
 -- proofs/CodeWrites.antt shows that the board here is the rule's.
 use Prim.Native.Nat.{ℕ, _%_}
 use mathlib.Core.Bool.{Bool, true, false, cond}
@@ -46,11 +46,11 @@ writtenBy Channel offset v b =
 
 -- ---- whether the line can move
 
--- a channel's control register
+-- the offset is in a channel's control register
 abbrev pub atControl : ℕ → Bool
 atControl offset = ltb (placeOf offset) 4
 
--- where it cannot, source 3 needs no setting
+-- a write of this part can move the line; where it cannot, source 3 need not be set
 abbrev pub movesLine : WritePart → ℕ → Bool
 movesLine Nothing offset = false
 movesLine Enable offset = false

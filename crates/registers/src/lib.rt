@@ -28,7 +28,7 @@ fn after_reading(board: Board, reading: LatchedReading) -> Board
     after
 }
 
-// The byte at an address.
+// The byte read at an address. It is refused for a board that is not sound, then for an address from 0x380 on.
 pub fn read(board: Board, address: u16) -> ByteAnswer
     ensures { λ r. ⌜ r ≡ byteAnswer (answerOf (Call.Read address) board) ⌝ }
 {
@@ -52,7 +52,7 @@ pub fn read(board: Board, address: u16) -> ByteAnswer
     }
 }
 
-// A byte written at an address.
+// The board after a byte is written at an address. It is refused as `read` is.
 pub fn write(board: Board, address: u16, value: u8) -> EmptyAnswer
     ensures { λ r. ⌜ r ≡ emptyAnswer (answerOf (Call.Write value address) board) ⌝ }
 {

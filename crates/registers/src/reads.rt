@@ -26,8 +26,8 @@ use wide::flags::both;
 use wide::words::high;
 use wide::words::low;
 
-// After a read the latches, what it answers, the alarm's two flags, and whether its alarm check set pending. The
-// latches stand first, so that no bytes between fields are copied with them.
+// The result of a read: the latches after it, the byte, the alarm's two flags, and whether its alarm check set pending.
+// The latches come first, so that no padding is copied with them.
 pub struct LatchedReading {
     pub latches: Latches,
     pub byte: u8,
@@ -36,7 +36,7 @@ pub struct LatchedReading {
     pub rose: bool,
 }
 
-// The same of a read that leaves the latches alone.
+// The same for a read that leaves the latches unchanged.
 pub struct PlainReading {
     pub byte: u8,
     pub pending: bool,
@@ -66,7 +66,7 @@ pub fn channel_index(offset: u32) -> usize
     0
 }
 
-// Byte 0 of a count's low word.
+// Whether the offset is byte 0 of a count's low word.
 fn at_count_low(offset: u32) -> bool
     ensures { λ r. ⌜ r ≡ atCountLow offset ⌝ }
 {
@@ -76,7 +76,7 @@ fn at_count_low(offset: u32) -> bool
     false
 }
 
-// A count's high word.
+// Whether the offset is in a count's high word.
 fn at_count_high(offset: u32) -> bool
     ensures { λ r. ⌜ r ≡ atCountHigh offset ⌝ }
 {
@@ -132,7 +132,7 @@ fn serving(latches: Latches, offset: u32) -> Latch
     }
 }
 
-// The latch of a count that serves an offset is empty.
+// The latches with the latch of a count that serves an offset empty.
 fn count_freed(latches: Latches, offset: u32) -> Latches
     ensures { λ r. ⌜ r ≡ countFreed offset latches ⌝ }
 {
@@ -142,7 +142,7 @@ fn count_freed(latches: Latches, offset: u32) -> Latches
     latches
 }
 
-// The latch that serves an offset is empty.
+// The latches with the one that serves an offset empty.
 fn latch_freed(latches: Latches, offset: u32) -> Latches
     ensures { λ r. ⌜ r ≡ latchFreed offset latches ⌝ }
 {
@@ -186,7 +186,7 @@ fn word_at(timer: HardwareTimer, clock: Clock, shared: u32, offset: u32) -> u32
     }
 }
 
-// The word of the register at an offset that all channels share, 0 where it is no such register.
+// The word of the register at an offset where all channels share it, else 0.
 fn shared_at(timers: [HardwareTimer; 4], timer_enable: u8, offset: u32) -> u32
     ensures { λ r. ⌜ r ≡ timerWord (registerOf offset) «timer_enable» timers ⌝ }
 {
@@ -263,7 +263,7 @@ pub fn reading_at(board: Board, timer: HardwareTimer, offset: u32) -> LatchedRea
 
 // ---- without the latches
 
-// A channel's register that no latch has to do with.
+// Whether the offset is in a channel's register whose reads neither fill a latch nor use one.
 pub fn plain(offset: u32) -> bool
     ensures { λ r. ⌜ r ≡ plainAt offset ⌝ }
 {
@@ -277,7 +277,7 @@ pub fn plain(offset: u32) -> bool
     false
 }
 
-// A read there; `timer` is the channel of the offset's index.
+// A read of such a register; `timer` is the channel of the offset's index.
 pub fn plain_at(board: Board, timer: HardwareTimer, offset: u32) -> PlainReading
     requires { ⌜ (plainAt offset ≡ true) × Timed (rateOf (board .clock)) (board .clock)
         × (timer ≡ channelAt (channelIndex offset) board) ⌝ }

@@ -1,4 +1,4 @@
-// What a byte written at an offset leaves of the part of a board that it changes.
+// Writes of a byte: the part of a board that a byte written at an offset changes, and that part after it.
 ghost use mathlib.Core.Path.{_≡_};
 ghost use Prim.Native.Nat.{_%_};
 ghost use Rattle.channel.specs.Registers.{byteWritten};
@@ -42,7 +42,7 @@ pub fn part_at(offset: u32) -> WritePart
     }
 }
 
-// A channel's control register, which alone of its registers moves the line.
+// Whether the offset is in a channel's control register, the only one of its registers that can move the line.
 pub fn at_control(offset: u32) -> bool
     requires { ⌜ Inside channelBlocks offset ⌝ }
     ensures { λ r. ⌜ r ≡ atControl offset ⌝ }
@@ -76,7 +76,7 @@ pub fn timer_after(timer: HardwareTimer, offset: u32, value: u8) -> HardwareTime
 
 // ---- the board
 
-// A byte written at an offset.
+// The board after a byte is written at an offset.
 pub(crate) fn written_at(board: Board, offset: u32, value: u8) -> Board
     requires { ⌜ Timed (rateOf (board .clock)) (board .clock) ⌝ }
     ensures { λ r. ⌜ r ≡ writtenAt offset value board ⌝ }

@@ -1,4 +1,4 @@
-// The parts of an offset, and the channel that one names.
+// The byte of a register's word, and the channel and the place in its block that an offset names.
 ghost use mathlib.Core.Path.{_≡_};
 ghost use Prim.Native.Nat.{_<_};
 ghost use Rattle.board.specs.Fields.{channelAt};
@@ -26,7 +26,7 @@ pub fn channel_of(offset: u32) -> ChannelNumber
     )
 }
 
-// The offset in that block.
+// The offset within that block.
 pub fn place_of(offset: u32) -> u32
     requires { ⌜ Inside channelBlocks offset ⌝ }
     ensures { λ r. ⌜ r ≡ placeOf offset ⌝ }

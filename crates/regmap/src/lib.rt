@@ -4,8 +4,8 @@ pub mod fields;
 pub mod words;
 pub mod writes;
 
-// Offsets of the registers that no channel has, and of the channels' blocks. A name that ends in LAST is of the last
-// byte of a register, or of those blocks.
+// Offsets of the registers outside the channels' blocks, and of those blocks. A name that ends in LAST is the offset of
+// the last byte of a register, or of those blocks.
 pub struct Registers;
 
 impl Registers {
@@ -50,7 +50,7 @@ impl Registers {
 
     pub const TIMER_CHANNEL_BASE: u32 = 0x400;
 
-    // From a channel's block to the next.
+    // The distance from a channel's block to the next.
     pub const TIMER_CHANNEL_STRIDE: u32 = 0x40;
 
     pub const TIMER_CHANNELS: usize = 4;

@@ -12,7 +12,7 @@ use wide::words::low;
 // What TIMER_ID reads as.
 const ID: u32 = 0x5154_0001;
 
-// A bit for each channel, channel 0's the lowest.
+// The word of TIMER_PENDING: a bit for each channel, channel 0's the lowest.
 fn timer_pending(timers: [HardwareTimer; 4]) -> u32
     ensures { λ r. ⌜ r ≡ pendingWord timers ⌝ }
 {

@@ -9,7 +9,7 @@ use channel::ChannelNumber;
 use channel::HardwareTimer;
 use clock::Clock;
 
-// Pending is cleared where the flag says so.
+// The channel with pending cleared where `clear` is set.
 fn cleared_by(mut timer: HardwareTimer, clear: bool) -> HardwareTimer
     ensures { λ r. ⌜ r ≡ clearedBy clear timer ⌝ }
 {
@@ -19,7 +19,7 @@ fn cleared_by(mut timer: HardwareTimer, clear: bool) -> HardwareTimer
     timer
 }
 
-// Pending is cleared of each channel whose bit is set in the byte.
+// The channels, with pending cleared in each whose bit is set in the byte.
 pub fn acknowledged(timers: [HardwareTimer; 4], value: u8) -> [HardwareTimer; 4]
     ensures { λ r. ⌜ r ≡ acknowledged value timers ⌝ }
 {
@@ -34,7 +34,7 @@ pub fn acknowledged(timers: [HardwareTimer; 4], value: u8) -> [HardwareTimer; 4]
     out
 }
 
-// Byte `byte` of a register of the clock, 0 the most significant.
+// The clock after byte `byte` of one of its registers is written, 0 the most significant.
 pub fn clock_written(clock: Clock, register: u32, byte: usize, value: u8) -> Clock
     requires { ⌜ (byte < 4) × Timed (rateOf clock) clock ⌝ }
     ensures { λ r. ⌜ r ≡ clockWritten register byte value clock ⌝ }

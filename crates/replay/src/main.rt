@@ -6,7 +6,7 @@
 // answer buffer 2; calls done 2, list bytes used 2, answer bytes 2, refusal 1; the list; the answers. rust/oracle has
 // the program that records.
 //
-// Call 0 stands for a record that cannot be read, or a file; crates/recording says when a list and a call agree.
+// Call 0 stands for a record or a file that cannot be read; crates/recording says when a list and a call agree.
 use recording::tally::Tally;
 use recording::tally::joined;
 use recording::tally::none;

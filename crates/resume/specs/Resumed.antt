@@ -9,11 +9,11 @@ use Rattle.parking.specs.Parking.{readingOf, readingRefusal}
 use Rattle.list.specs.Run.{Run, runOf, over}
 use Rattle.resume.specs.declared.Resumed.{Resumed}
 
--- document 01's run of a list over the board that an image says, with so much room for the answers
+-- document 01's run of a list over the board of an image, with this room for the answers
 abbrev pub runParked : List ℕ → List ℕ → ℕ → Run
 runParked image l room = runOf (readingOf image .board) l room
 
--- 'A refused image changes nothing and gives counts 0; otherwise the result is the run's refusal'
+-- a refused image gives its refusal and counts 0; otherwise refusal and counts are the run's
 unfoldable pub resumedOf : List ℕ → List ℕ → ℕ → Resumed
 resumedOf image l room =
     cond (eqb (readingRefusal image) 0)
@@ -25,7 +25,7 @@ resumedOf image l room =
     })
     (record { refusal = readingRefusal image; calls = 0; used = 0; written = 0 })
 
--- the image is then that of the board that the run left, in the form that was read
+-- the image afterwards: that of the board that the run left, in the form that was read; a refused image stays
 unfoldable pub imageAfter : List ℕ → List ℕ → ℕ → List ℕ
 imageAfter image l room =
     cond (eqb (readingRefusal image) 0) (imageOf (readingOf image .form) (runParked image l room .outcome .board))

@@ -7,7 +7,7 @@ use Rattle.wide.specs.declared.deadline.Deadline.{Deadline}
 use Rattle.wide.specs.declared.deadline.Deadline.the-variants.{Never, At}
 use Rattle.wide.specs.Number.{valueOf}
 
--- the number that a deadline of the code is
+-- the code's deadline as an optional number
 abbrev pub numberOf : Deadline → Option ℕ
 numberOf Never = none
 numberOf (At w) = some (valueOf w)

@@ -1,4 +1,4 @@
--- Big-endian fields: the number that some bytes of a list are, and the bytes that a number is.
+-- Big-endian fields: the number in some bytes of a list, and a number in bytes.
 use Prim.Native.Nat.{ℕ, zero, suc, _+_, _*_, _/_, _%_, _^_}
 use mathlib.Core.List.{List, [], _∷_}
 use lib.ListN.{getD}
@@ -13,6 +13,6 @@ unfoldable pub be : ℕ → ℕ → List ℕ
 be zero v = []
 be (suc n) v = v / 256 ^ n % 256 ∷ be n v
 
--- n with v for its byte that has k bytes below it
+-- n with its byte that has k bytes below it replaced by v
 unfoldable pub withByte : ℕ → ℕ → ℕ → ℕ
 withByte k v n = (n / 256 ^ k / 256 * 256 + v) * 256 ^ k + n % 256 ^ k

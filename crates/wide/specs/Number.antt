@@ -1,4 +1,4 @@
--- The number that two words are, and the two words of a number.
+-- The number that two words stand for, and the two words of a number.
 use Prim.Native.Nat.{ℕ, _+_, _-_, _*_, _/_, _%_, _^_}
 use Rattle.wide.specs.declared.number.Wide.{Wide}
 

@@ -1,4 +1,4 @@
--- The two 32-bit words of a number of 64 bits.
+-- The two 32-bit words of a 64-bit number.
 use Prim.Native.Nat.{ℕ, _/_, _%_, _^_}
 
 abbrev pub lowWord : ℕ → ℕ

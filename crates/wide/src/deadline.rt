@@ -1,4 +1,4 @@
-// A number of cycles, or none: what the parts of a board answer when asked for their next interrupt.
+// A deadline: the number of cycles until the next interrupt, or none.
 ghost use mathlib.Core.Path.{_≡_};
 ghost use Rattle.wide.specs.Deadline.{numberOf, sooner};
 use crate::number::Wide;
@@ -9,7 +9,7 @@ pub enum Deadline {
 }
 
 impl Deadline {
-    // The smaller of two, or the one that there is.
+    // The smaller of two deadlines; where one is `Never`, the other.
     pub fn sooner(self, other: Deadline) -> Self
         ensures { λ r. ⌜ numberOf r ≡ sooner (numberOf self) (numberOf other) ⌝ }
     {

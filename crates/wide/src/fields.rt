@@ -28,7 +28,7 @@ pub fn get(s: &[u8], at: usize, width: usize) -> u64
     v
 }
 
-// The word in the eight bytes of s from index at on, most significant first, in two halves, which is faster.
+// The word in the eight bytes of s from index at on, most significant first. It is read in two halves, which is faster.
 pub fn get_word(s: &[u8], at: usize) -> u64
     requires { ⌜ at + 8 ≤ length (now s) ⌝ }
     ensures { λ r. ⌜ r ≡ beAt (now (s .entry)) at 8 ⌝ }
@@ -36,7 +36,7 @@ pub fn get_word(s: &[u8], at: usize) -> u64
     get(s, at, 4) * 0x1_0000_0000 + get(s, at + 4, 4)
 }
 
-// What a byte counts for that has n bytes below it.
+// The value of a 1 in the byte that has n bytes below it.
 fn unit(n: usize) -> u64
     requires { ⌜ n < 8 ⌝ }
     ensures { λ r. ⌜ r ≡ 256 ^ n ⌝ }
@@ -66,7 +66,7 @@ pub fn put(buf: &mut [u8], at: usize, value: u64, width: usize)
     }
 }
 
-// The value with another byte where it has n bytes below.
+// The value with its byte that has n bytes below it replaced.
 pub fn with_byte(value: u64, n: usize, byte: u8) -> u64
     requires { ⌜ n < 8 ⌝ }
     ensures { λ r. ⌜ r ≡ withByte n byte value ⌝ }

@@ -11,7 +11,7 @@ pub struct Wide {
 }
 
 impl Wide {
-    // One half of a word has this many values.
+    // The number of values that half a word has.
     const HALF: u64 = 0x1_0000_0000;
 
     pub fn from_word(n: u64) -> Self
@@ -24,7 +24,7 @@ impl Wide {
     pub fn product(a: u64, b: u64) -> Self
         ensures { λ r. ⌜ valueOf r ≡ a * b ⌝ }
     {
-        // Two numbers of half a word have a product of one word.
+        // The product of two half words fits in a word.
         if a < Self::HALF {
             if b < Self::HALF {
                 return Wide {

@@ -1,4 +1,4 @@
-// The two 32-bit words of a number of 64 bits, which registers read as.
+// The two 32-bit words of a 64-bit number, as a pair of registers reads.
 ghost use mathlib.Core.Path.{_≡_};
 ghost use Rattle.wide.specs.Words.{lowWord, highWord};
 
