@@ -50,7 +50,8 @@ use Rattle.board.proofs.Loops.{map-length}
 use Rattle.board.proofs.FourChannels.{channels-kept}
 use Rattle.board.proofs.Soundness.{facts-sound, wired-sound}
 use Rattle.board.specs.Kept.{Good, Keeps}
-use Rattle.board.proofs.Good.{good, good-sound, good-parts, parts-good, own-parts, at-rate, timers-parts, clock-parts, controller-parts}
+use Rattle.board.proofs.Good.{good, good-sound, good-parts, parts-good, own-parts, at-rate}
+use Rattle.board.proofs.Good.{timers-parts, clock-parts, controller-parts}
 
 -- ---- fresh boards
 

@@ -1,4 +1,5 @@
--- The invariant of a board: sound, of a rate, and with every field within its width; and what it is that a call keeps it.
+-- The invariant of a board: it is sound, has a given rate, and has every field within its width. And that a call
+-- keeps it.
 use Prim.Native.Nat.{ℕ}
 use mathlib.Core.Path.{_≡_}
 use mathlib.Core.Bool.{true}

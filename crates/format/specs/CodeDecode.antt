@@ -14,7 +14,8 @@ use Rattle.board.specs.declared.calls.Call.the-variants.{ControllerRead, Contro
 use Rattle.board.specs.Calls.{hostTimeRefusal, addressRefusal, sourceRefusal, effectOf}
 use Rattle.format.specs.declared.Decoded.{Decoded}
 use Rattle.format.specs.declared.Lengths.{Lengths}
-use Rattle.format.specs.Format.{lengthWrong, valueCut, answerTooLong, known, valueLength, answerLength, headerLength}
+use Rattle.format.specs.Format.{lengthWrong, valueCut, answerTooLong, headerLength}
+use Rattle.format.specs.Format.{known, valueLength, answerLength}
 use Rattle.format.specs.Codec.{tagOf, frameRefusal, callAt, recordLength, firstOf}
 
 -- what the code finds of a tag: whether it is known, and the lengths of its value and answer

@@ -123,8 +123,8 @@ run-spec =
     (λ c. let l = c .before .before .before .before .before .before .before .before .before .before .loop in
     let g = l .inv .good in
     let n = counts-begin _ _ _ _ (l .b) (g .fits .four) _ _ (c .before .before .put-begun .ensures) in
-    (begins _ _ _ (g .fits .four) (sound-facts _ (g .sound) .timers), n)) (λ c. omega (arith, c .loop2-test .taken)) (λ c. c
-    .loop2-test .taken)
+    (begins _ _ _ (g .fits .four) (sound-facts _ (g .sound) .timers), n))
+    (λ c. omega (arith, c .loop2-test .taken)) (λ c. c .loop2-test .taken)
     (λ c. omega (arith, c .before .loop2-test .taken)) (λ c κs. tt) (λ c κs. tt)
     (λ c κs. next-phase _ _ _ _ _ (c .before .before .before .before .before .loop2 .inv .0)
     (c .before .before .before .before .loop2-test .taken))
