@@ -17,7 +17,7 @@ use Rattle.wide.proofs.Deadlines.{due-sooner, due-is}
 use Rattle.channel.specs.declared.HardwareTimer.{HardwareTimer}
 use Rattle.channel.specs.Deadline.{deadlineOf}
 use Rattle.channel.proofs.Sound.{GoodTimer}
-use Rattle.channel.proofs.Law.{Within, deadline-within as channel-within}
+use Rattle.channel.proofs.Law.{Within, within-bounds}
 use Rattle.clock.specs.Clock.{rateOf, fromHost, ownTime}
 use Rattle.clock.specs.Deadline.{awaited, toAlarm, clockDeadline}
 use Rattle.clock.proofs.Rate.{rate-fits}
@@ -152,7 +152,7 @@ soonest-within enable k [] g = tt
 soonest-within enable k (h ∷ ts) g =
     sooner-within (2 ^ 96) (deadlineOf (bit k enable) h)
     (foldFrom (λ i t. deadlineOf (bit i enable) t) sooner none (suc k) ts)
-    (channel-within (bit k enable) h (g .0 .fits) (g .0 .phase))
+    (within-bounds (bit k enable) h (g .0 .fits) (g .0 .phase))
     (soonest-within enable (suc k) ts (g .1))
 
 -- left is the seconds to an alarm

@@ -104,8 +104,8 @@ module _ (b : Board) (f : BoardFits b) (i : ℕ) (l : i < 4) (cs : List ℕ) whe
       rw (channel-by i cs b within, counts-are i cs b within)
       (next-compare-split (selects i b) cs (channelAt i b) m (rw (channel-by i cs b within) at e))
 
-  -- in mode 1, enabled before and switched off by one of the parts, it has its old compare point plus some periods, fewer
-  -- than the points that the counts answer
+  -- in mode 1, enabled before and switched off by one of the parts, it has its old compare point plus some periods,
+  -- fewer than the points that the counts answer
   pub switched-off-compare : modeOf (channelAt i b .control) ≡ 1 → enabledOf (channelAt i b .control) ≡ true →
       enabledOf (channelAt i (boardBy cs b) .control) ≡ false →
       FewerPeriods (countsBy i cs b) (channelAt i b .compare) (channelAt i b .reload)

@@ -23,8 +23,8 @@ countsBy i (c ∷ cs) b = countAt i c b + countsBy i cs (advancedBoard c b)
 
 -- ---- the same by the answers of direct calls
 
--- the count of channel i that a direct call of advance answers: its line is member 0, and 'four 16-byte counts, channel 0
--- first' follow. The rule takes every number of cycles, and a call of the code those below 2^64
+-- the count of channel i that a direct call of advance answers: member 0 is the line, and 'four 16-byte counts,
+-- channel 0 first' follow it. The rule takes every number of cycles, and a call of the code those below 2^64
 abbrev pub answeredAt : ℕ → ℕ → Board → ℕ
 answeredAt i c b = memberAt (i + 1) (answerOf (advanceBy c) b)
 

@@ -320,10 +320,10 @@ in-cycles-within v p (some n) l k w =
     (omega arith, omega arith)
 
 -- a channel's deadline, where it has one, is at least 1 and at most 2^96
-pub deadline-within : (selected : Bool) (h : HardwareTimer) → TimerFits h → h .phase < divisor h →
+pub within-bounds : (selected : Bool) (h : HardwareTimer) → TimerFits h → h .phase < divisor h →
     Within (2 ^ 96) (deadlineOf selected h)
 unfolding deadlineOf
-deadline-within selected h f q =
+within-bounds selected h f q =
     choose (Within (2 ^ 96)) (waiting selected h)
     (λ _. in-cycles-within (divisor h) (h .phase) (toGo (modeOf (h .control)) h) q (omega (arith, f .prescaler))
     (to-go-within (modeOf (h .control)) h f))
@@ -332,7 +332,7 @@ deadline-within selected h f q =
 pub deadline-bounds : (selected : Bool) (h : HardwareTimer) → TimerFits h → soundTimer h ≡ true →
     (d : ℕ) → deadlineOf selected h ≡ some d → (1 ≤ d) × (d ≤ 2 ^ 96)
 deadline-bounds selected h f s d e =
-    subst (Within (2 ^ 96)) e (deadline-within selected h f (timer-good h f s .phase))
+    subst (Within (2 ^ 96)) e (within-bounds selected h f (timer-good h f s .phase))
 
 -- ---- what stays as it was
 

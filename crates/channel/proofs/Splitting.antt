@@ -300,10 +300,10 @@ module _ (t : ℕ) (h : HardwareTimer) where
 
 -- ---- cycles in parts
 
--- the count of a channel that runs, by the ticks that its cycles give. Without a tick it is 0. Else in mode 0 it is 1 if
--- the ticks bring the counter to compare, or it is there or past it; in mode 1 it is the number of the points compare,
--- compare + reload, .. up to the new counter, with reload 0 the first alone; in mode 2 it is 1 if the channel is armed
--- and the ticks reach the distance; in mode 3 it is 0
+-- the count of a channel that runs, by the ticks that its cycles give. Without a tick it is 0. Else in mode 0 it is 1
+-- if the ticks bring the counter to compare, or it is there or past it; in mode 1 it is the number of the points
+-- compare, compare + reload, .. up to the new counter, with reload 0 the first alone; in mode 2 it is 1 if the channel
+-- is armed and the ticks reach the distance; in mode 3 it is 0
 pub running-count : (selected : Bool) (c : ℕ) (h : HardwareTimer) → runs selected h ≡ true →
     matchesOf selected c h ≡ met (ticksOf c h) h
 running-count selected c h r =
@@ -531,8 +531,8 @@ next-compare-split selected (c ∷ cs) h m e =
     next-step selected c cs h e (advanced-next selected c h m)
     (λ a. next-compare-split selected cs (advanced selected c h) (rw a m) e)
 
--- switched off by one of the parts, it has its old compare point plus some periods, fewer than the points met: the parts
--- before that one moved it, and that one leaves it
+-- switched off by one of the parts, it has its old compare point plus some periods, fewer than the points met: the
+-- parts before that one moved it, and that one leaves it
 pub switched-off-split : (selected : Bool) (cs : List ℕ) (h : HardwareTimer) → modeOf (h .control) ≡ 1 →
     enabledOf (h .control) ≡ true → enabledOf (advancedBy selected cs h .control) ≡ false →
     FewerPeriods (matchesBy selected cs h) (h .compare) (h .reload) (advancedBy selected cs h .compare)
