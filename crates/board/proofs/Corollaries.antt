@@ -1,29 +1,35 @@
 -- What a contract quotes of the deadline. Each theorem is about a sound machine board. In the first two parts its line
--- is low and its clock does not run from host time: its deadline is d, or it gives none. In the last its clock has a
--- deadline of its own. Assumes nothing.
-use Prim.Native.Nat.{ℕ, _+_, _-_, _≤_, _<_}
+-- is low and its clock does not run from host time: its deadline is d, or it gives none. In the third its clock has a
+-- deadline of its own. The last has the bounds of every deadline. Assumes nothing.
+use Prim.Native.Nat.{ℕ, suc, _+_, _-_, _*_, _^_, _≤_, _<_}
+use native.Mathlib.Nat.{mul-le-mul}
 use native.Mathlib.Omega.{arith}
-use mathlib.Core.Path.{_≡_, sym, ap, _∙_}
+use mathlib.Core.Path.{_≡_, sym, ap, subst, _∙_}
 use mathlib.Core.Bool.{true, false, not, _&&_, _||_, or-false, or-true, false≢true}
 use mathlib.Core.Option.{Option, none, some}
-use mathlib.Core.List.{List}
+use mathlib.Core.List.{List, [], _∷_}
 use lib.Dec.{leb}
 use borrow.Author.Tests.{le-leb, lt-leb}
 use Rattle.wide.specs.Bits.{bit}
-use Rattle.wide.specs.Deadline.{due}
+use Rattle.wide.specs.Deadline.{due, sooner}
 use Rattle.wide.proofs.Choices.{either, and-parts, leb-same}
 use Rattle.wide.proofs.Deadlines.{due-sooner, due-is}
+use Rattle.channel.specs.declared.HardwareTimer.{HardwareTimer}
+use Rattle.channel.specs.Deadline.{deadlineOf}
+use Rattle.channel.proofs.Sound.{GoodTimer}
+use Rattle.channel.proofs.Law.{Within, within-bounds}
 use Rattle.clock.specs.Clock.{rateOf, fromHost, ownTime}
 use Rattle.clock.specs.Deadline.{awaited, toAlarm, clockDeadline}
+use Rattle.clock.proofs.Rate.{rate-fits}
 use Rattle.board.specs.declared.Board.{Board}
 use Rattle.board.specs.declared.calls.Call.{Call}
-use Rattle.board.specs.Loops.{All}
+use Rattle.board.specs.Loops.{All, foldFrom}
 use Rattle.board.specs.Board.{BoardFits, line, exactDeadline, sound}
 use Rattle.board.specs.Channels.{soonestOf}
 use Rattle.board.specs.Calls.{isPresent, orZero, advancedBoard}
 use Rattle.board.specs.Demand.{PassesTime, afterAll, cyclesPassed, source3}
-use Rattle.board.proofs.Soundness.{clock-facts}
-use Rattle.board.proofs.Good.{good}
+use Rattle.board.proofs.Soundness.{sound-facts, clock-facts}
+use Rattle.board.proofs.Good.{good, good-parts}
 use Rattle.board.proofs.Steps.{boardDue, line-due, advance-step}
 use Rattle.board.proofs.Demand3.{line-after, source-after}
 
@@ -130,3 +136,50 @@ module _ (b : Board) (f : BoardFits b) (s : sound b ≡ true) where
         ∙ ap (λ (x : Option ℕ). due channels n || due x n) own
         ∙ ap (λ v. due channels n || v) (le-leb n n (omega arith))
         ∙ or-true (due channels n)
+
+-- ---- the bounds of a deadline
+
+-- the sooner of two is within what both are
+sooner-within : (n : ℕ) (x y : Option ℕ) → Within n x → Within n y → Within n (sooner x y)
+sooner-within n none y p q = q
+sooner-within n (some d) none p q = p
+sooner-within n (some d) (some e) p q = (omega (arith, p .0, q .0), omega (arith, p .1))
+
+soonest-within : (enable k : ℕ) (ts : List HardwareTimer) → All GoodTimer ts →
+    Within (2 ^ 96) (foldFrom (λ i h. deadlineOf (bit i enable) h) sooner none k ts)
+unfolding foldFrom
+soonest-within enable k [] g = tt
+soonest-within enable k (h ∷ ts) g =
+    sooner-within (2 ^ 96) (deadlineOf (bit k enable) h)
+    (foldFrom (λ i t. deadlineOf (bit i enable) t) sooner none (suc k) ts)
+    (within-bounds (bit k enable) h (g .0 .fits) (g .0 .phase))
+    (soonest-within enable (suc k) ts (g .1))
+
+-- left is the seconds to an alarm
+alarm-within : (left rate subsecond : ℕ) → 0 < left → left ≤ 2 ^ 64 → subsecond < rate → rate ≤ 2 ^ 32 →
+    Within (2 ^ 96) (some (left * rate - subsecond))
+alarm-within left rate subsecond p l q r =
+    let least : 1 * rate ≤ left * rate = mul-le-mul p (omega arith) in
+    let most : left * rate ≤ 2 ^ 64 * 2 ^ 32 = mul-le-mul l r in
+    (omega arith, omega arith)
+
+module _ (b : Board) (f : BoardFits b) (s : sound b ≡ true) where
+  clock-within : Within (2 ^ 96) (clockDeadline (rateOf (b .clock)) (b .clock))
+  clock-within =
+      let k = b .clock in
+      either (awaited k)
+      (λ a. let l = ahead b f s a in
+      rw (awaited-is b f s a)
+      (alarm-within (k .alarm .seconds - k .seconds) (rateOf k) (k .subsecond) (omega arith)
+      (omega (arith, f .clock .alarm)) (clock-facts b (f .clock) s .parts .subsecond)
+      (rate-fits (rateOf k) (sound-facts b s .rate))))
+      (λ a. rw (resting-is b f s a) tt)
+
+  -- a deadline is at least 1 and at most 2^96, whether the line is low or high and whatever the clock runs from
+  pub deadline-bounds : (d : ℕ) → exactDeadline b ≡ some d → (1 ≤ d) × (d ≤ 2 ^ 96)
+  unfolding exactDeadline
+  deadline-bounds d given =
+      subst (Within (2 ^ 96)) given
+      (sooner-within (2 ^ 96) (soonestOf (b .«timer_enable») (b .timers))
+      (clockDeadline (rateOf (b .clock)) (b .clock))
+      (soonest-within (b .«timer_enable») 0 (b .timers) (good-parts (good b f s) .timers)) clock-within)

@@ -1,25 +1,30 @@
 -- An advance of a sound board in parts: the counts that its parts answer for a channel add up to the count that one
--- advance of all their cycles answers, and a periodic channel's next compare point follows from them. Assumes nothing.
+-- advance of all their cycles answers, and a periodic channel's next compare point follows from them. The first is also
+-- stated of the answers of direct calls. Assumes nothing.
 use Prim.Native.Nat.{ℕ, _+_, _*_, _<_}
 use native.Mathlib.Nat.{zero-add}
 use native.Mathlib.Numerals.{add-one}
 use mathlib.Core.Path.{_≡_, refl, sym, ap, ap₂, _∙_}
-use mathlib.Core.Bool.{Bool, true}
+use mathlib.Core.Bool.{Bool, true, false}
 use mathlib.Core.List.{List, [], _∷_}
 use lib.ListN.{length}
 use Rattle.wide.specs.Bits.{bit}
 use Rattle.channel.specs.Channel.{TimerFits, freshTimer, modeOf, enabledOf, soundTimer}
 use Rattle.channel.specs.Prescaler.{advanced}
 use Rattle.channel.specs.Matches.{matchesOf}
-use Rattle.channel.specs.Splits.{total, advancedBy, matchesBy}
-use Rattle.channel.proofs.Splitting.{matches-split, next-compare-split}
+use Rattle.channel.specs.Splits.{total, advancedBy, matchesBy, FewerPeriods}
+use Rattle.channel.proofs.Splitting.{matches-split, next-compare-split, switched-off-split}
 use Rattle.board.specs.declared.Board.{Board}
 use Rattle.board.specs.Fields.{channelAt}
 use Rattle.board.specs.Board.{BoardFits, wired, sound}
-use Rattle.board.specs.Calls.{movedBoard, advancedBoard}
-use Rattle.board.specs.Splits.{countAt, boardBy, countsBy}
+use Rattle.board.specs.Calls.{movedBoard, advancedBoard, advanceBy, answerOf}
+use Rattle.board.specs.Splits.{countAt, boardBy, countsBy, answeredAt, answeredBy}
 use Rattle.board.proofs.Loops.{map-length, map-at, each-at, all-at}
 use Rattle.board.proofs.Soundness.{sound-facts}
+use Rattle.board.specs.Kept.{Good}
+use Rattle.board.proofs.Good.{good, good-sound}
+use Rattle.board.proofs.Kept.{advanced-good}
+use Rattle.board.proofs.Answers.{answer-accepted}
 
 -- a channel's bit in timer enable
 abbrev selects : ℕ → Board → Bool
@@ -99,3 +104,38 @@ module _ (b : Board) (f : BoardFits b) (i : ℕ) (l : i < 4) (cs : List ℕ) whe
   compare-split m e =
       rw (channel-by i cs b within, counts-are i cs b within)
       (next-compare-split (selects i b) cs (channelAt i b) m (rw (channel-by i cs b within) at e))
+
+  -- in mode 1, enabled before and switched off by one of the parts, it has its old compare point plus some periods,
+  -- fewer than the points that the counts answer
+  pub switched-off-compare : modeOf (channelAt i b .control) ≡ 1 → enabledOf (channelAt i b .control) ≡ true →
+      enabledOf (channelAt i (boardBy cs b) .control) ≡ false →
+      FewerPeriods (countsBy i cs b) (channelAt i b .compare) (channelAt i b .reload)
+      (channelAt i (boardBy cs b) .compare)
+  switched-off-compare m a e =
+      rw (channel-by i cs b within, counts-are i cs b within)
+      (switched-off-split (selects i b) cs (channelAt i b) m a (rw (channel-by i cs b within) at e))
+
+-- ---- the answers of direct calls
+
+module _ (i : ℕ) where
+  -- on a sound board an advance answers the count, and returns the board after it
+  answered-is : (c : ℕ) (b : Board) → sound b ≡ true →
+      (answeredAt i c b ≡ countAt i c b) × (answerOf (advanceBy c) b .board ≡ advancedBoard c b)
+  unfolding advancedBoard
+  answered-is c b s = let a = answer-accepted (advanceBy c) b (rw s) in (rw a, rw a)
+
+  -- so that the counts answered are those of the parts
+  answered-are : {rate : ℕ} (cs : List ℕ) (b : Board) → Good rate b → answeredBy i cs b ≡ countsBy i cs b
+  unfolding answeredBy countsBy
+  answered-are [] b g = refl
+  answered-are (c ∷ cs) b g =
+      let a = answered-is c b (good-sound g) in
+      ap₂ _+_ (a .0)
+      (ap (answeredBy i cs) (a .1) ∙ answered-are cs (advancedBoard c b) (advanced-good g c))
+
+-- 'how many compare points it met' in parts: on a sound board, direct calls of advance, each on the board that the call
+-- before returned, answer counts that add up to the count that one call with all their cycles answers
+pub answers-split : (b : Board) → BoardFits b → sound b ≡ true → (i : ℕ) → i < 4 → (cs : List ℕ) →
+    answeredBy i cs b ≡ answeredAt i (total cs) b
+answers-split b f s i l cs =
+    answered-are i cs b (good b f s) ∙ counts-split b f i l cs s ∙ sym (answered-is i (total cs) b s .0)

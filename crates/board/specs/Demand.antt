@@ -5,7 +5,7 @@ use Prim.Native.Nat.{ℕ, _+_, _≤_, min}
 use mathlib.Core.Path.{_≡_}
 use mathlib.Core.Logic.{_↔_, _⊎_}
 use mathlib.Core.Bool.{Bool, true, false, cond}
-use mathlib.Core.Option.{some}
+use mathlib.Core.Option.{none, some}
 use mathlib.Core.List.{List, [], _∷_}
 use lib.Dec.{eqb}
 use Rattle.wide.specs.Bits.{bit}
@@ -105,9 +105,15 @@ Promise b present d word =
 
 -- ---- skip
 
--- S-2: 'every accepted skip with a D ends with the line high', whatever the clock runs from, and where the line was low
--- it passes D. b is the board before the skip, r the answer
+-- what an accepted skip does, whatever the clock runs from: b is the board before it, r the answer
+pub record Skipped (b : Board) (r : SkipAnswer) : Type 0 where
+  -- S-2: 'every accepted skip with a D ends with the line high'
+  pub reaches : (d : ℕ) → exactDeadline b ≡ some d → (r .line ≡ true) × (line (r .board) ≡ true)
+  -- and where the line was low it passes D
+  pub passes : (d : ℕ) → exactDeadline b ≡ some d → line b ≡ false → r .passed .0 ≡ d
+  -- 'with the line high or no D, it makes no advance, changes nothing and passes 0'
+  pub stays : (line b ≡ true) ⊎ (exactDeadline b ≡ none) → (r .passed .0 ≡ 0) × (r .board ≡ b) × (r .line ≡ line b)
+
+-- the promise of a skip
 abbrev pub SkipPromise : Board → SkipAnswer → Type 0
-SkipPromise b r =
-    r .refusal ≡ 0 → (d : ℕ) → exactDeadline b ≡ some d →
-    (r .line ≡ true) × (line (r .board) ≡ true) × (line b ≡ false → r .passed .0 ≡ d)
+SkipPromise b r = r .refusal ≡ 0 → Skipped b r

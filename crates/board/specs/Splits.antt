@@ -4,7 +4,7 @@ use Prim.Native.Nat.{ℕ, _+_}
 use mathlib.Core.List.{List, [], _∷_}
 use lib.ListN.{getD}
 use Rattle.board.specs.declared.Board.{Board}
-use Rattle.board.specs.Calls.{effectOf, advanceBy, advancedBoard}
+use Rattle.board.specs.Calls.{effectOf, advanceBy, advancedBoard, answerOf, memberAt}
 
 -- 'Call 04 answers the line and four 16-byte counts, channel 0 first': the count of channel i that an accepted advance
 -- of c cycles answers
@@ -20,3 +20,15 @@ boardBy (c ∷ cs) b = boardBy cs (advancedBoard c b)
 unfoldable pub countsBy : ℕ → List ℕ → Board → ℕ
 countsBy i [] b = 0
 countsBy i (c ∷ cs) b = countAt i c b + countsBy i cs (advancedBoard c b)
+
+-- ---- the same by the answers of direct calls
+
+-- the count of channel i that a direct call of advance answers: member 0 is the line, and 'four 16-byte counts,
+-- channel 0 first' follow it. The rule takes every number of cycles, and a call of the code those below 2^64
+abbrev pub answeredAt : ℕ → ℕ → Board → ℕ
+answeredAt i c b = memberAt (i + 1) (answerOf (advanceBy c) b)
+
+-- the counts of channel i that such calls answer, added: each call is on the board that the call before returned
+unfoldable pub answeredBy : ℕ → List ℕ → Board → ℕ
+answeredBy i [] b = 0
+answeredBy i (c ∷ cs) b = answeredAt i c b + answeredBy i cs (answerOf (advanceBy c) b .board)

@@ -30,6 +30,11 @@ module _ (n e : ℕ) (fn : n < 2 ^ 64) (fe : e < 2 ^ 64) where
       either (ltb n e) (λ q. let h = ltb-true n e q in omega (arith, distance-above h))
       (λ q. let h = ltb-false n e q in omega (arith, distance-below h))
 
+  pub distance-most : distance n e ≤ 2 ^ 64
+  distance-most =
+      either (ltb n e) (λ q. let h = ltb-true n e q in omega (arith, distance-above h))
+      (λ q. let h = ltb-false n e q in omega (arith, distance-below h))
+
   -- after k ticks, fewer than the distance, it is less by k
   pub distance-after : (k : ℕ) → k < distance n e → distance ((n + k) % 2 ^ 64) e ≡ distance n e - k
   distance-after k h =

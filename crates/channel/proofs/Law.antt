@@ -1,13 +1,13 @@
 -- The channel's law for the deadline: what is due after c cycles at t is what was due at c + t, for every mode,
--- prescaler and phase; what an advance leaves of pending and interrupt enable; and where a channel, or its part of the
--- line, stays as it was. Assumes nothing.
-use Prim.Native.Nat.{ℕ, zero, suc, _+_, _-_, _/_, _%_, _^_, _≤_, _<_, min}
-use native.Mathlib.Nat.{div-eq-of-lt, add-zero, zero-add}
+-- prescaler and phase; what an advance leaves of pending and interrupt enable; the bounds of a deadline; and where a
+-- channel, or its part of the line, stays as it was. Assumes nothing.
+use Prim.Native.Nat.{ℕ, zero, suc, _+_, _-_, _*_, _/_, _%_, _^_, _≤_, _<_, min}
+use native.Mathlib.Nat.{div-eq-of-lt, mul-le-mul, add-zero, zero-add}
 use native.Mathlib.Omega.{arith}
-use mathlib.Core.Path.{_≡_, refl, sym, ap, _∙_}
+use mathlib.Core.Path.{_≡_, refl, sym, ap, subst, _∙_}
 use mathlib.Core.Logic.{_≢_}
 use mathlib.Core.Bool.{Bool, true, false, _&&_, _||_, and-false, or-false, false≢true}
-use mathlib.Core.Option.{Option, some}
+use mathlib.Core.Option.{Option, none, some}
 use lib.Dec.{leb, ltb, eqb}
 use borrow.Author.Tests.{ltb-true, leb-true, leb-false, le-leb, lt-leb, lt-ltb, le-ltb, eqb-true, eqb-false}
 use Rattle.wide.specs.Number.{largest}
@@ -29,10 +29,10 @@ use Rattle.channel.specs.Modes.{
   tickedIn,
   ticked,
 }
-use Rattle.channel.specs.Deadline.{ticksToGo, deadlineOf}
+use Rattle.channel.specs.Deadline.{ticksToGo, inCycles, waiting, deadlineOf}
 use Rattle.channel.specs.Registers.{byteWritten}
 use Rattle.channel.proofs.Keeping.{Kept, written-cases}
-use Rattle.channel.proofs.Distances.{distance-positive, distance-after}
+use Rattle.channel.proofs.Distances.{distance-positive, distance-most, distance-after}
 use Rattle.channel.proofs.Prescaling.{due-in-cycles}
 use Rattle.channel.proofs.Sound.{
   GoodTimer,
@@ -286,6 +286,53 @@ module _ (selected : Bool) (c : ℕ) (h : HardwareTimer) (f : TimerFits h) (s : 
       ∙ due-after t
       ∙ ap (λ o. due o (c + t)) e
       ∙ leb-same d (c + t) (d - c) t (λ p. omega arith) (λ p. omega arith))
+
+-- ---- the bounds of a deadline
+
+-- at least 1 and at most n, where there is one
+abbrev pub Within : ℕ → Option ℕ → Type 0
+Within n none = Unit {0}
+Within n (some d) = (1 ≤ d) × (d ≤ n)
+
+-- N is at most 2^64
+to-go-within : (m : ℕ) (h : HardwareTimer) → TimerFits h → Within (2 ^ 64) (toGo m h)
+unfolding ticksToGo
+to-go-within zero h f = (
+  to-go-positive zero h f,
+  choose (λ n. n ≤ 2 ^ 64) (ltb (h .counter) (h .compare)) (λ _. omega (arith, f .compare)) (λ _. omega arith),
+)
+to-go-within (suc zero) h f = to-go-within zero h f
+to-go-within (suc (suc zero)) h f =
+    choose (Within (2 ^ 64)) (h .armed)
+    (λ _. (
+      distance-positive (h .counter) (h .compare) (f .counter) (f .compare),
+      distance-most (h .counter) (h .compare) (f .counter) (f .compare),
+    ))
+    (λ _. tt)
+to-go-within (suc (suc (suc m))) h f = tt
+
+-- v is the divisor and p the phase
+in-cycles-within : (v p : ℕ) (a : Option ℕ) → p < v → v ≤ 2 ^ 32 → Within (2 ^ 64) a → Within (2 ^ 96) (inCycles v p a)
+in-cycles-within v p none l k w = tt
+in-cycles-within v p (some n) l k w =
+    let q : n - 1 ≤ 2 ^ 64 - 1 = omega (arith, w .1) in
+    let m : (n - 1) * v ≤ (2 ^ 64 - 1) * 2 ^ 32 = mul-le-mul q k in
+    (omega arith, omega arith)
+
+-- a channel's deadline, where it has one, is at least 1 and at most 2^96
+pub within-bounds : (selected : Bool) (h : HardwareTimer) → TimerFits h → h .phase < divisor h →
+    Within (2 ^ 96) (deadlineOf selected h)
+unfolding deadlineOf
+within-bounds selected h f q =
+    choose (Within (2 ^ 96)) (waiting selected h)
+    (λ _. in-cycles-within (divisor h) (h .phase) (toGo (modeOf (h .control)) h) q (omega (arith, f .prescaler))
+    (to-go-within (modeOf (h .control)) h f))
+    (λ _. tt)
+
+pub deadline-bounds : (selected : Bool) (h : HardwareTimer) → TimerFits h → soundTimer h ≡ true →
+    (d : ℕ) → deadlineOf selected h ≡ some d → (1 ≤ d) × (d ≤ 2 ^ 96)
+deadline-bounds selected h f s d e =
+    subst (Within (2 ^ 96)) e (within-bounds selected h f (timer-good h f s .phase))
 
 -- ---- what stays as it was
 

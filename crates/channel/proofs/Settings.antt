@@ -135,6 +135,22 @@ pub compare-left :
 unfolding matchesIn pointsMet advanced ticked tickedIn periodic matched reloaded enabledOf disabled
 compare-left = (refl, refl, refl)
 
+-- two points in 64 bits, one half of them apart
+abbrev twoPoints : HardwareTimer
+twoPoints = withCompare 1 (withReload (2 ^ 63) (inMode 1))
+
+-- in parts, its compare point is the one that the parts before the last left: one period past the old, with two points
+-- met. One advance of the same cycles meets the two at once and leaves the old one
+pub compare-left-split :
+    (enabledOf (advancedBy true (1 ∷ (2 ^ 64 - 2) ∷ []) twoPoints .control) ≡ false)
+    × (advancedBy true (1 ∷ (2 ^ 64 - 2) ∷ []) twoPoints .compare ≡ 1 + 2 ^ 63)
+    × (matchesBy true (1 ∷ (2 ^ 64 - 2) ∷ []) twoPoints ≡ 2)
+    × (advanced true largest twoPoints .compare ≡ 1)
+    × (matchesOf true largest twoPoints ≡ 2)
+unfolding
+    matchesIn pointsMet matchesBy advancedBy advanced ticked tickedIn periodic matched reloaded enabledOf disabled
+compare-left-split = (refl, refl, refl, refl, refl)
+
 -- 'overdue ones too': with compare below the counter mode 0 meets one point at its first tick, and mode 1 all up to it
 pub matches-overdue :
     (matchesOf true 0 (withCounter 5 (inMode 0)) ≡ 0)

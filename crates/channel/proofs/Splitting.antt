@@ -13,7 +13,7 @@ use native.Mathlib.Nat.{
   zero-add,
 }
 use native.Mathlib.Omega.{arith}
-use mathlib.Core.Path.{_≡_, refl, sym, ap, subst, _∙_}
+use mathlib.Core.Path.{_≡_, refl, sym, ap, _∙_}
 use mathlib.Core.Logic.{_≢_}
 use mathlib.Core.Bool.{Bool, true, false, cond, _&&_, false≢true}
 use mathlib.Core.List.{List, [], _∷_}
@@ -47,7 +47,7 @@ use Rattle.channel.specs.Modes.{
 }
 use Rattle.channel.specs.Prescaler.{ticksOf, phaseAfter, runs, advanced}
 use Rattle.channel.specs.Matches.{pointsMet, matchesIn, matchesOf}
-use Rattle.channel.specs.Splits.{total, advancedBy, matchesBy}
+use Rattle.channel.specs.Splits.{total, advancedBy, matchesBy, FewerPeriods}
 use Rattle.channel.proofs.Keeping.{Kept}
 use Rattle.channel.proofs.Distances.{distance-after}
 use Rattle.channel.proofs.Counting.{
@@ -77,7 +77,7 @@ use Rattle.channel.proofs.Sound.{
 -- ---- the points k, k + r, k + 2 r, .. up to n, and up to m
 
 -- how many are met where the counter is n: only the first with reload 0
-unfoldable upTo : ℕ → ℕ → ℕ → ℕ
+unfoldable pub upTo : ℕ → ℕ → ℕ → ℕ
 upTo n k r = cond (leb k n) (cond (eqb r 0) 1 (pointsTo n k r)) 0
 
 -- none, the first alone, or all
@@ -119,13 +119,13 @@ module _ (n m k r : ℕ) (past : k ≤ n) (more : n ≤ m) (z : r ≢ 0) where
 -- ---- the count by the fields that it depends on
 
 -- what t ticks, 1 or more, meet in each mode: n is the counter, k compare, r reload
-unfoldable counted : ℕ → ℕ → ℕ → ℕ → ℕ → Bool → ℕ
+unfoldable pub counted : ℕ → ℕ → ℕ → ℕ → ℕ → Bool → ℕ
 counted zero t n k r armed = cond (leb k (n + t)) 1 0
 counted (suc zero) t n k r armed = upTo (min (n + t) largest) k r
 counted (suc (suc zero)) t n k r armed = cond (armed && leb (distance n k) t) 1 0
 counted (suc (suc (suc mode))) t n k r armed = 0
 
-abbrev count : ℕ → ℕ → HardwareTimer → ℕ
+abbrev pub count : ℕ → ℕ → HardwareTimer → ℕ
 count m t h = counted m t (h .counter) (h .compare) (h .reload) (h .armed)
 
 module _ (t : ℕ) (h : HardwareTimer) where
@@ -167,7 +167,7 @@ mode-count (suc (suc zero)) t h = free-count t h
 mode-count (suc (suc (suc m))) t h = unmet-by (suc (suc (suc m))) (tickedIn (suc (suc (suc m))) t) h refl
 
 -- t ticks, 0 too
-abbrev met : ℕ → HardwareTimer → ℕ
+abbrev pub met : ℕ → HardwareTimer → ℕ
 met t h = cond (eqb t 0) 0 (count (modeOf (h .control)) t h)
 
 ticked-count : (t : ℕ) (h : HardwareTimer) → matchesIn (modeOf (h .control)) (ticked t) h ≡ met t h
@@ -300,8 +300,11 @@ module _ (t : ℕ) (h : HardwareTimer) where
 
 -- ---- cycles in parts
 
--- the count of a channel that runs, by its ticks
-running-count : (selected : Bool) (c : ℕ) (h : HardwareTimer) → runs selected h ≡ true →
+-- the count of a channel that runs, by the ticks that its cycles give. Without a tick it is 0. Else in mode 0 it is 1
+-- if the ticks bring the counter to compare, or it is there or past it; in mode 1 it is the number of the points
+-- compare, compare + reload, .. up to the new counter, with reload 0 the first alone; in mode 2 it is 1 if the channel
+-- is armed and the ticks reach the distance; in mode 3 it is 0
+pub running-count : (selected : Bool) (c : ℕ) (h : HardwareTimer) → runs selected h ≡ true →
     matchesOf selected c h ≡ met (ticksOf c h) h
 running-count selected c h r =
     ran-matches selected c h r ∙ ticked-count (ticksOf c h) (withPhase (phaseAfter c h) h)
@@ -499,14 +502,24 @@ module _ (selected : Bool) (c : ℕ) (cs : List ℕ) (h : HardwareTimer) where
       (false≢true
       (sym d ∙ ap (λ (x : HardwareTimer). enabledOf (x .control)) (sym (resting-by selected first d cs .0)) ∙ e))
 
-  off-step : 0 < h .reload → Next met-first h first →
-      (first .control ≡ h .control → first .reload ≡ h .reload →
-      last .compare < first .compare + others * first .reload) →
-      last .compare < h .compare + (met-first + others) * h .reload
-  off-step p (on a b q) rest = subst (λ (x : ℕ). last .compare < x) (joined q b) (rest a b)
-  off-step p (off d q l) rest =
-      rw (resting-by selected first d cs .0, resting-by selected first d cs .1, q, add-zero met-first)
-      (omega (arith, mul-le-mul l p))
+  off-step : Next met-first h first →
+      (first .control ≡ h .control → FewerPeriods others (first .compare) (first .reload) (last .compare)) →
+      FewerPeriods (met-first + others) (h .compare) (h .reload) (last .compare)
+  off-step (on a b q) rest =
+      let r = rest a in
+      record {
+        periods = met-first + r .periods;
+        fewer = omega (arith, r .fewer);
+        compare =
+            r .compare
+            ∙ periods-join (h .compare) met-first (r .periods) (h .reload) (first .compare) (first .reload) q b;
+      }
+  off-step (off d q l) rest =
+      record {
+        periods = 0;
+        fewer = omega (arith, l);
+        compare = ap (λ (x : HardwareTimer). x .compare) (resting-by selected first d cs .0) ∙ q ∙ unmoved h;
+      }
 
 -- still enabled after all parts
 pub next-compare-split : (selected : Bool) (cs : List ℕ) (h : HardwareTimer) → modeOf (h .control) ≡ 1 →
@@ -518,12 +531,20 @@ next-compare-split selected (c ∷ cs) h m e =
     next-step selected c cs h e (advanced-next selected c h m)
     (λ a. next-compare-split selected cs (advanced selected c h) (rw a m) e)
 
--- switched off by one of the parts, it is left at a point that it has met, so that the equation is false
+-- switched off by one of the parts, it has its old compare point plus some periods, fewer than the points met: the
+-- parts before that one moved it, and that one leaves it
 pub switched-off-split : (selected : Bool) (cs : List ℕ) (h : HardwareTimer) → modeOf (h .control) ≡ 1 →
-    0 < h .reload → enabledOf (h .control) ≡ true → enabledOf (advancedBy selected cs h .control) ≡ false →
-    advancedBy selected cs h .compare < h .compare + matchesBy selected cs h * h .reload
+    enabledOf (h .control) ≡ true → enabledOf (advancedBy selected cs h .control) ≡ false →
+    FewerPeriods (matchesBy selected cs h) (h .compare) (h .reload) (advancedBy selected cs h .compare)
 unfolding advancedBy matchesBy
-switched-off-split selected [] h m p a e = absurd (false≢true (sym e ∙ a))
-switched-off-split selected (c ∷ cs) h m p a e =
-    off-step selected c cs h p (advanced-next selected c h m)
-    (λ d b. switched-off-split selected cs (advanced selected c h) (rw d m) (rw b p) (rw d a) e)
+switched-off-split selected [] h m a e = absurd (false≢true (sym e ∙ a))
+switched-off-split selected (c ∷ cs) h m a e =
+    off-step selected c cs h (advanced-next selected c h m)
+    (λ d. switched-off-split selected cs (advanced selected c h) (rw d m) (rw d a) e)
+
+-- with reload above 0 it is below the point that the count would give: there the equation of `next-compare-split` is
+-- false
+pub fewer-below : (n old reload new : ℕ) → 0 < reload → FewerPeriods n old reload new → new < old + n * reload
+fewer-below n old reload new p f =
+    let q : suc (f .periods) * reload ≤ n * reload = mul-le-mul (f .fewer) (omega arith) in
+    rw (f .compare) (omega arith)

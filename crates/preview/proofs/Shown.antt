@@ -1,14 +1,15 @@
 -- What one advance would show of a sound board whose clock does not run from host time: by its line and its deadline,
--- and by the advance that a skip would make. Assumes nothing.
+-- and by the advance that a skip would make. And of every sound board, what a call of advance answers. Assumes nothing.
 use Prim.Native.Nat.{ℕ, _≤_}
 use native.Mathlib.Nat.{add-zero}
 use native.Mathlib.Omega.{arith}
-use mathlib.Core.Path.{_≡_, refl, sym, _∙_}
+use mathlib.Core.Path.{_≡_, refl, sym, ap, _∙_}
 use mathlib.Core.Bool.{Bool, true, false, cond, _&&_, _||_}
 use mathlib.Core.Option.{Option, none, some}
 use mathlib.Core.List.{List}
 use lib.Dec.{leb, ltb}
 use borrow.Author.Tests.{le-leb, lt-leb, ltb-true}
+use Rattle.wide.specs.Bits.{flagOf}
 use Rattle.wide.specs.Number.{largest}
 use Rattle.wide.specs.Deadline.{due}
 use Rattle.wide.proofs.Choices.{either}
@@ -18,12 +19,15 @@ use Rattle.board.specs.declared.calls.Call.{Call}
 use Rattle.board.specs.declared.calls.SkipAdvance.{SkipAdvance}
 use Rattle.board.specs.Loops.{All}
 use Rattle.board.specs.Board.{BoardFits, line, exactDeadline, sound}
-use Rattle.board.specs.Calls.{advancedBoard, skipLength}
+use Rattle.board.specs.Calls.{advanceBy, movedBoard, advancedBoard, skipLength, answerOf, memberAt}
 use Rattle.board.specs.CodeCalls.{skipAdvanceOf}
 use Rattle.board.specs.Demand.{PassesTime, afterAll, cyclesPassed}
+use Rattle.board.proofs.Soundness.{wired-line}
 use Rattle.board.proofs.Good.{good}
 use Rattle.board.proofs.Steps.{boardDue, line-due, advance-step}
 use Rattle.board.proofs.Demand3.{line-after}
+use Rattle.board.proofs.Answers.{answer-accepted}
+use Rattle.preview.specs.Preview.{previewByte}
 
 module _ (b : Board) (f : BoardFits b) (s : sound b ≡ true) (o : fromHost (b .clock .control) ≡ false) (t : ℕ) where
   -- an advance shows a high line where the line is high, and where it reaches the deadline
@@ -49,6 +53,14 @@ pub any-list-shows : (b : Board) → BoardFits b → sound b ≡ true → line b
     line (afterAll calls b) ≡ line (advancedBoard (cyclesPassed calls b) b)
 any-list-shows b f s low o calls w =
     line-after b f s low o calls w ∙ sym (advance-shows b f s o (cyclesPassed calls b) ∙ rw low refl)
+
+-- 'Each byte equals what one advance would show': on a sound board, the byte for a total is the line, the first member,
+-- that a direct call of advance with that total answers
+pub answer-shows : (b : Board) → sound b ≡ true → (total : ℕ) →
+    memberAt 0 (answerOf (advanceBy total) b) ≡ previewByte b total
+unfolding advancedBoard
+answer-shows b s total =
+    rw (answer-accepted (advanceBy total) b (rw s)) (ap flagOf (sym (wired-line (movedBoard total b))))
 
 -- ---- the same by the advance that a skip would make
 
