@@ -1,2 +1,4 @@
 pub mod Answers
 pub mod TwoRuns
+pub mod Carried
+pub mod OneCall

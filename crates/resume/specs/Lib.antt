@@ -1,1 +1,2 @@
 pub mod Resumed
+pub mod Carried
