@@ -2,3 +2,4 @@ pub mod Answers
 pub mod TwoRuns
 pub mod Carried
 pub mod OneCall
+pub mod SuccessiveRuns
