@@ -3,3 +3,4 @@ pub mod TwoRuns
 pub mod Carried
 pub mod OneCall
 pub mod SuccessiveRuns
+pub mod Counts
