@@ -37,7 +37,7 @@ use Rattle.list.proofs.Kept.{began-sound, run-keeps}
 -- ---- one call
 
 -- an accepted call of the list is the direct call
-accepted-after : (call : Call) (b : Board) → sound b ≡ true → effectOf call b .refusal ≡ 0 →
+pub accepted-after : (call : Call) (b : Board) → sound b ≡ true → effectOf call b .refusal ≡ 0 →
     boardAfter call b ≡ after call b
 unfolding after
 accepted-after call b s z =
@@ -186,18 +186,18 @@ all-take P (suc n) [] h = tt
 all-take P (suc n) (x ∷ xs) h = (h .0, all-take P n xs (h .1))
 
 -- bytes in front of bytes
-bytes-before : (l m : List ℕ) → ((i : ℕ) → getD (l ++ m) i 0 < 256) → (i : ℕ) → getD l i 0 < 256
+pub bytes-before : (l m : List ℕ) → ((i : ℕ) → getD (l ++ m) i 0 < 256) → (i : ℕ) → getD l i 0 < 256
 bytes-before [] m h i = omega arith
 bytes-before (x ∷ l) m h zero = h 0
 bytes-before (x ∷ l) m h (suc i) = bytes-before l m (λ j. h (suc j)) i
 
 -- and behind
-bytes-behind : (l m : List ℕ) → ((i : ℕ) → getD (l ++ m) i 0 < 256) → (i : ℕ) → getD m i 0 < 256
+pub bytes-behind : (l m : List ℕ) → ((i : ℕ) → getD (l ++ m) i 0 < 256) → (i : ℕ) → getD m i 0 < 256
 bytes-behind [] m h i = h i
 bytes-behind (x ∷ l) m h i = bytes-behind l m (λ j. h (suc j)) i
 
 -- a run over a sound board is refused inside the calls: what stands behind them has no part in it
-run-ends : (b : Board) (l m : List ℕ) (room : ℕ) (calls : List Call) → sound b ≡ true → ListIs l calls →
+pub run-ends : (b : Board) (l m : List ℕ) (room : ℕ) (calls : List Call) → sound b ≡ true → ListIs l calls →
     (runOf b l room .outcome .refusal ≡ 0 → ⊥) → runOf b (l ++ m) room ≡ runOf b l room
 unfolding runOf
 run-ends b l m room calls s h r =

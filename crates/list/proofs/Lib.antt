@@ -1,5 +1,5 @@
 pub mod Results
-mod Runs
+pub mod Runs
 mod Records
 mod CallParts
 mod Advances

@@ -3,7 +3,7 @@
 use Prim.Native.Nat.{ℕ, _≤_}
 use native.Mathlib.Omega.{arith}
 use mathlib.Core.Path.{_≡_, refl, sym, ap, _∙_}
-use mathlib.Core.Bool.{true}
+use mathlib.Core.Bool.{true, false, cond}
 use mathlib.Core.List.{List, [], _∷_, _++_}
 use lib.ListN.{length, drop}
 use lib.Seq.{drop-at}
@@ -15,31 +15,40 @@ use Rattle.board.specs.declared.Board.{Board}
 use Rattle.board.specs.Board.{BoardFits, sound}
 use Rattle.image.specs.declared.Form.{Form}
 use Rattle.image.specs.declared.Form.the-variants.{Old, New}
-use Rattle.image.specs.Image.{rateField, fieldLength, imageLength, fieldBytes, imageOf, boardFrom}
+use Rattle.image.specs.Image.{rateField, fieldLength, imageLength, fieldBytes, imageOf, formed, boardFrom}
 use Rattle.image.proofs.Fields.{field-length, front-image}
 use Rattle.parking.specs.declared.Reading.{Reading}
 use Rattle.parking.specs.declared.Writing.{Writing}
 use Rattle.parking.specs.Parking.{
   formTakes,
+  parkingRefusal,
   writingRefusal,
   writingOf,
   bufferAfter,
+  imageMalformed,
   boardIn,
   formRefusal,
   readingIn,
+  formOf,
+  readingRefusal,
   readingOf,
 }
 use Rattle.parking.specs.Moves.{otherForm, moveRefusal, movedImage, moveOf, movedBuffer}
+use Rattle.format.specs.Codec.{firstOf}
 use Rattle.format.proofs.Members.{Bytes}
 use Rattle.parking.proofs.RoundTrip.{
   in-sound,
   in-fits,
   only-in,
+  formed-long,
+  formed-not,
+  one-form,
   form-took,
   image-accepted,
   board-said,
   read-back,
   read-as,
+  accepted-formed,
 }
 
 -- ---- what a move answers, by the reading and the writing that it is made of
@@ -82,6 +91,62 @@ module _ (to : Form) (l old : List ℕ) (r : Reading) (e : r ≡ readingIn (othe
           ∙ rw written refl,
       g ∙ ap (λ (b : Board). bufferAfter to b old) board ∙ rw written refl,
     )
+
+-- ---- what a move refuses
+
+-- bytes that are formed in one form are not formed in the other
+formed-once : (f : Form) (l : List ℕ) → formed f l ≡ true → formed (otherForm f) l ≡ false
+formed-once New l e = let long = formed-long New l e in formed-not Old l (λ same. omega (arith, long, same))
+formed-once Old l e = let long = formed-long Old l e in formed-not New l (λ same. omega (arith, long, same))
+
+-- and reading refuses those that are formed in neither
+formed-neither : (f : Form) (l : List ℕ) → formed f l ≡ false → formed (otherForm f) l ≡ false →
+    readingRefusal l ≡ imageMalformed
+unfolding readingRefusal formOf formRefusal
+formed-neither New l n o = rw (n, o)
+formed-neither Old l n o = rw (o, n)
+
+module _ (to : Form) (l : List ℕ) (room : ℕ) where
+  -- 12 is every image that is not formed in the form that is moved from
+  pub move-malformed : formed (otherForm to) l ≡ false → moveRefusal to l room ≡ imageMalformed
+  unfolding moveRefusal formRefusal
+  move-malformed e = rw e refl
+
+  -- of one that is, the move's refusal is the reading's, or else the writing's of the board that is read
+  pub move-formed : formed (otherForm to) l ≡ true →
+      moveRefusal to l room
+      ≡ firstOf (readingRefusal l) (parkingRefusal to (rateOf (readingOf l .board .clock)) room)
+  unfolding moveRefusal readingRefusal
+  move-formed e =
+      let form : formOf l ≡ otherForm to = one-form (otherForm to) l e in
+      either (eqb (formRefusal (otherForm to) l) 0)
+      (λ h. let read = read-as (otherForm to) l (eqb-true (formRefusal (otherForm to) l) 0 h) in
+      rw (form, h, read) refl)
+      (λ h. rw (form, h) refl)
+
+  -- 'a move checks its image as reading does, and 12 is also one already in the target form', with 16 'after 12 and 1
+  -- and before 11': of all bytes
+  pub move-checks :
+      moveRefusal to l room
+      ≡ cond (formed to l) imageMalformed
+      (firstOf (readingRefusal l) (parkingRefusal to (rateOf (readingOf l .board .clock)) room))
+  move-checks =
+      either (formed to l) (λ t. rw t (move-malformed (formed-once to l t)))
+      (λ n. rw n
+      (either (formed (otherForm to) l) move-formed
+      (λ o. move-malformed o ∙ sym (rw (formed-neither to l n o) refl))))
+
+  -- bytes that reading refuses are refused by both moves, with the same number, or with 12 where they are formed in the
+  -- target form
+  pub move-refuses : (readingRefusal l ≡ 0 → ⊥) →
+      moveRefusal to l room ≡ cond (formed to l) imageMalformed (readingRefusal l)
+  move-refuses n = move-checks ∙ rw (ne-eqb (readingRefusal l) 0 n) refl
+
+-- an accepted image is refused with 12 by the move to the form that it has
+pub move-already : (l : List ℕ) (room : ℕ) → readingOf l .refusal ≡ 0 →
+    moveRefusal (readingOf l .form) l room ≡ imageMalformed
+move-already l room e =
+    move-checks (readingOf l .form) l room ∙ rw (accepted-formed l e) refl
 
 -- ---- there and back
 

@@ -251,9 +251,12 @@ module _ (l : List ℕ) (e : readingOf l .refusal ≡ 0) where
   pub accepted-sound : sound (readingOf l .board) ≡ true
   accepted-sound = rw read (in-sound (formOf l) l (read-of l e .0))
 
-  -- it has the length of the form that is told, and the rate of a board that the form takes
+  -- it is formed in the form that is told, has its length, and the rate of a board that the form takes
+  pub accepted-formed : formed (readingOf l .form) l ≡ true
+  accepted-formed = rw read (accepted (formOf l) l (read-of l e .0) .form)
+
   pub accepted-long : length l ≡ imageLength (readingOf l .form)
-  accepted-long = rw read (formed-long (formOf l) l (accepted (formOf l) l (read-of l e .0) .form))
+  accepted-long = formed-long (readingOf l .form) l accepted-formed
 
   pub accepted-rate : formTakes (readingOf l .form) (rateOf (readingOf l .board .clock)) ≡ true
   accepted-rate = rw read (form-took (formOf l) l)

@@ -1,2 +1,6 @@
 pub mod Answers
 pub mod TwoRuns
+pub mod Carried
+pub mod OneCall
+pub mod SuccessiveRuns
+pub mod Counts

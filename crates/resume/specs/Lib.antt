@@ -1,1 +1,3 @@
 pub mod Resumed
+pub mod Carried
+pub mod Counts
