@@ -27,11 +27,11 @@ use Rattle.format.specs.Format.{membersBytes, answerBytes, recordOf}
 use Rattle.format.specs.Codec.{frameRefusal, callAt, callLength, answerRecord}
 use Rattle.format.proofs.Frames.{framed}
 use Rattle.list.specs.declared.Outcome.{Outcome}
-use Rattle.list.specs.Run.{Result, done, refused, resultOf, stepped, Run, runOn, nothingDone, runOf}
-use Rattle.list.specs.Demand.{FrontIs, ListIs}
+use Rattle.list.specs.Run.{Result, done, refused, resultOf, stepped, Run, runOn, nothingDone, runOf, joined}
+use Rattle.list.specs.Demand.{FrontIs, ListIs, Stretch}
 use Rattle.list.proofs.Results.{refused-numbered, done-placed, done-fits, step-good}
 use Rattle.list.proofs.Runs.{go-on, stop-at, rest-bytes}
-use Rattle.list.proofs.TwoParts.{result-before, joined, two-parts}
+use Rattle.list.proofs.TwoParts.{result-before, two-parts}
 use Rattle.list.proofs.Kept.{began-sound, run-keeps}
 
 -- ---- one call
@@ -205,38 +205,17 @@ run-ends b l m room calls s h r =
 
 -- of a run over b whose list is `first`, `stretch` and `last`, one after another: the calls are those of the stretch
 module _ (b : Board) (first stretch last : List ℕ) (room : ℕ) (calls : List Call) where
-  -- the run up to the stretch, the run up to its end, and the whole run
-  abbrev pub Before : Run
+  abbrev Before : Run
   Before = runOf b first room
 
-  abbrev pub Through : Run
+  abbrev Through : Run
   Through = runOf b (first ++ stretch) room
 
-  abbrev pub Whole : Run
-  Whole = runOf b ((first ++ stretch) ++ last) room
-
-  -- the board at the stretch's start
-  abbrev pub AtStart : Board
+  abbrev AtStart : Board
   AtStart = Before .outcome .board
 
-  -- the calls of the stretch that the run carries out: all of them, or those before the one that it refuses
-  abbrev pub CarriedOut : List Call
+  abbrev CarriedOut : List Call
   CarriedOut = take (Through .outcome .calls - Before .outcome .calls) calls
-
-  pub record Stretch : Type 0 where
-    -- the board at its end is the board after these calls
-    pub board : Through .outcome .board ≡ afterAll CarriedOut AtStart
-    -- all of them, where the run is not refused there
-    pub all : Through .outcome .refusal ≡ 0 → CarriedOut ≡ calls
-    -- what is promised of the deadline of the board at its start holds of them
-    pub promise : PromiseAfter (isPresent (exactDeadline AtStart)) (orZero (exactDeadline AtStart))
-        (orZero (wordDeadline (exactDeadline AtStart))) AtStart (cyclesPassed CarriedOut AtStart) (afterAll
-        CarriedOut AtStart)
-    -- the whole run does the same up to there, and goes on from there over what stands behind the stretch
-    pub goes-on : Through .outcome .refusal ≡ 0 →
-        Whole ≡ joined Through (runOf (Through .outcome .board) last (room - length (Through .answers)))
-    -- or it is refused inside the stretch, and ends there
-    pub ends : (Through .outcome .refusal ≡ 0 → ⊥) → Whole ≡ Through
 
   -- the stretch by itself, over the board at its start
   abbrev Alone : Run
@@ -265,7 +244,7 @@ module _ (b : Board) (first stretch last : List ℕ) (room : ℕ) (calls : List 
   -- behind it
   pub run-demand-3 : BoardFits b → ((i : ℕ) → getD (first ++ stretch) i 0 < 256) → All PassesTime calls →
       ListIs stretch calls → Before .outcome .refusal ≡ 0 → line AtStart ≡ false →
-      fromHost (AtStart .clock .control) ≡ false → Stretch
+      fromHost (AtStart .clock .control) ≡ false → Stretch b first stretch last room calls
   run-demand-3 f bytes w h z low o =
       let few = bytes-before first stretch bytes in
       let those = bytes-behind first stretch bytes in

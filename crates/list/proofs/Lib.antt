@@ -8,4 +8,3 @@ pub mod TwoParts
 pub mod Kept
 pub mod Demand
 pub mod Settings
-pub mod Skips

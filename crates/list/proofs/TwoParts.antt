@@ -17,6 +17,7 @@ use Rattle.board.proofs.Good.{good, good-sound}
 use Rattle.list.specs.declared.Outcome.{Outcome}
 use Rattle.format.specs.Codec.{frameRefusal, refusalAt}
 use Rattle.list.specs.Run.{Result, done, refused, resultOf, stepped, Run, runOn, nothingDone, runOf, over}
+use Rattle.list.specs.Run.{behind, joined}
 use Rattle.format.proofs.Frames.{frame-before, call-before}
 use Rattle.list.proofs.Results.{refused-numbered, done-placed, done-fits, step-good}
 use Rattle.list.proofs.Runs.{next-done, next-refused}
@@ -64,21 +65,6 @@ module _ (m : List ℕ) (room : ℕ) where
           ∙ ap (λ (q : Run). runOn 0 m room (q .outcome) (q .answers)) (sym g)
 
 -- ---- the second part
-
--- what one part says behind what another said: its board and refusal, with the counts of both
-abbrev behind : Outcome → Outcome → Outcome
-behind o s =
-    record {
-      board = s .board;
-      calls = o .calls + s .calls;
-      used = o .used + s .used;
-      written = o .written + s .written;
-      refusal = s .refusal;
-    }
-
--- two runs as one
-abbrev pub joined : Run → Run → Run
-joined p q = record { outcome = behind (p .outcome) (q .outcome); answers = p .answers ++ q .answers }
 
 -- a run that was not refused, as the start of another
 from-start : (q : Outcome) → q .refusal ≡ 0 → behind q (nothingDone (q .board) 0) ≡ q

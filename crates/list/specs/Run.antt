@@ -74,3 +74,20 @@ runOf b l room =
 -- 'the answers of the calls carried out, in order from its first byte, then its old bytes'
 unfoldable pub over : List ℕ → List ℕ → List ℕ
 over answers old = answers ++ drop (length answers) old
+
+-- ---- two runs
+
+-- the counts of two runs, the second over the board that the first left, added up; board and refusal are the second's
+abbrev pub behind : Outcome → Outcome → Outcome
+behind o s =
+    record {
+      board = s .board;
+      calls = o .calls + s .calls;
+      used = o .used + s .used;
+      written = o .written + s .written;
+      refusal = s .refusal;
+    }
+
+-- the two as one run, with the answers of the first and then those of the second
+abbrev pub joined : Run → Run → Run
+joined p q = record { outcome = behind (p .outcome) (q .outcome); answers = p .answers ++ q .answers }

@@ -16,7 +16,8 @@ use Rattle.board.specs.declared.calls.Call.{Call}
 use Rattle.board.specs.Loops.{All}
 use Rattle.board.specs.Board.{BoardFits, sound}
 use Rattle.board.specs.Demand.{after, afterAll}
-use Rattle.board.proofs.Good.{Good, good, good-sound}
+use Rattle.board.specs.Kept.{Good}
+use Rattle.board.proofs.Good.{good, good-sound}
 use Rattle.format.specs.Codec.{frameRefusal, callAt, callLength, answerRecord, refusalAt}
 use Rattle.format.proofs.Frames.{framed, call-least}
 use Rattle.format.proofs.Decoding.{clear}
@@ -26,7 +27,7 @@ use Rattle.list.specs.Demand.{FrontIs, ListIs}
 use Rattle.list.proofs.Results.{result-refused, result-done, step-good}
 use Rattle.list.proofs.Runs.{go-on, stop-at, rest-bytes}
 use Rattle.list.proofs.Demand.{accepted-after}
-use Rattle.resume.specs.Carried.{callsIn, BeginsWith, carriedBy, answersOf}
+use Rattle.resume.specs.Carried.{callsIn, BeginsWith, carriedBy, answersOf, Carried}
 
 -- ---- the calls at the front of some bytes
 
@@ -167,16 +168,6 @@ carries rate room (suc fuel) l h bytes s out g =
 -- ---- a run over a sound board
 
 module _ (b : Board) (l : List ℕ) (room : ℕ) where
-  pub record Carried : Type 0 where
-    -- the board is that after the calls carried out
-    pub board : runOf b l room .outcome .board ≡ afterAll (carriedBy b l room) b
-    -- the answers are theirs
-    pub answers : runOf b l room .answers ≡ answersOf (carriedBy b l room) b
-    -- they are the calls at the front of its list
-    pub begins : BeginsWith l (carriedBy b l room)
-    -- and where the run is not refused they are its list
-    pub whole : runOf b l room .outcome .refusal ≡ 0 → ListIs l (carriedBy b l room)
-
   module _ (f : BoardFits b) (s : sound b ≡ true) (bytes : (i : ℕ) → getD l i 0 < 256) where
     from-start : Carries l (nothingDone b 0) [] (runOf b l room)
     unfolding runOf
@@ -186,7 +177,7 @@ module _ (b : Board) (l : List ℕ) (room : ℕ) where
     count-is : from-start .count ≡ runOf b l room .outcome .calls
     count-is = sym (from-start .counted ∙ zero-add (from-start .count))
 
-    pub run-carries : Carried
+    pub run-carries : Carried b l room
     run-carries =
         record {
           board = from-start .board ∙ ap (λ (n : ℕ). afterAll (callsIn n l) b) count-is;

@@ -22,7 +22,8 @@ use Rattle.board.specs.Board.{BoardFits, line, sound}
 use Rattle.board.specs.Calls.{effectOf, advanceBy, movedBoard, advancedBoard}
 use Rattle.board.specs.Demand.{after}
 use Rattle.board.specs.Splits.{countAt, countsBy}
-use Rattle.board.proofs.Good.{Good, good, good-sound}
+use Rattle.board.specs.Kept.{Good}
+use Rattle.board.proofs.Good.{good, good-sound}
 use Rattle.board.proofs.Loops.{by-four}
 use Rattle.board.proofs.Steps.{advance-call-step}
 use Rattle.board.proofs.Matches.{counts-split}

@@ -18,16 +18,18 @@ use Rattle.board.specs.declared.calls.Call.the-variants.{Skip}
 use Rattle.board.specs.Board.{BoardFits, line, exactDeadline, sound}
 use Rattle.board.specs.Calls.{effectOf, boardAfter, advancedBoard, movedBy, skipLength}
 use Rattle.board.proofs.Soundness.{wired-line, wired-sound}
-use Rattle.board.proofs.Good.{Good, good-sound}
-use Rattle.board.proofs.Skips.{skip-by, skip-high}
+use Rattle.board.specs.Kept.{Good}
+use Rattle.board.proofs.Good.{good-sound}
+use Rattle.board.proofs.Skips.{skip-by, skip-high, skip-none}
 use Rattle.format.specs.Format.{answerTooLong, answerBytes, recordOf}
 use Rattle.format.specs.Codec.{callLength, answerRecord, recordLength, firstOf, refusalAt}
 use Rattle.format.proofs.Frames.{framed}
-use Rattle.list.specs.Run.{done, resultOf, stepped, Run, runOn, nothingDone, runOf}
+use Rattle.list.specs.Run.{done, resultOf, stepped, Run, runOn, nothingDone, runOf, joined}
 use Rattle.list.specs.Demand.{FrontIs, ListIs}
+use Rattle.resume.specs.OneCall.{InRun, SkipInRun}
 use Rattle.list.proofs.Results.{result-refused, result-done}
 use Rattle.list.proofs.Runs.{go-on, stop-at}
-use Rattle.list.proofs.TwoParts.{joined, two-parts}
+use Rattle.list.proofs.TwoParts.{two-parts}
 use Rattle.list.proofs.Kept.{began-sound, run-keeps}
 use Rattle.list.proofs.Demand.{bytes-before, run-ends}
 
@@ -81,35 +83,14 @@ module _ (b : Board) (one : List ℕ) (room : ℕ) (call : Call) (s : sound b �
 
 -- of a run over b whose list is `first`, `one` and `last`, one after another: `one` is the bytes of the call
 module _ (b : Board) (first one last : List ℕ) (room : ℕ) (call : Call) where
-  -- the run up to the call, the run up to its end, and the whole run
-  abbrev pub Before : Run
+  abbrev Before : Run
   Before = runOf b first room
 
-  abbrev pub Through : Run
+  abbrev Through : Run
   Through = runOf b (first ++ one) room
 
-  abbrev pub Whole : Run
-  Whole = runOf b ((first ++ one) ++ last) room
-
-  -- the board before the call
-  abbrev pub AtCall : Board
+  abbrev AtCall : Board
   AtCall = Before .outcome .board
-
-  pub record InRun : Type 0 where
-    -- it is refused as on that board, or because its answer has no room
-    pub refusal : Through .outcome .refusal
-        ≡ firstOf (effectOf call AtCall .refusal)
-        (cond (ltb (room - length (Before .answers)) (recordLength call)) answerTooLong 0)
-    -- where it is not refused, the board after it and its answer are those of that board
-    pub board : Through .outcome .refusal ≡ 0 → Through .outcome .board ≡ boardAfter call AtCall
-    pub answer : Through .outcome .refusal ≡ 0 → Through .answers ≡ Before .answers ++ answerRecord call AtCall
-    -- and the whole run does the same up to there, and goes on from there over what stands behind the call
-    pub goes-on : Through .outcome .refusal ≡ 0 →
-        Whole ≡ joined Through (runOf (Through .outcome .board) last (room - length (Through .answers)))
-    -- where it is refused, the board and the answers are those before it, and the whole run ends there
-    pub board-left : (Through .outcome .refusal ≡ 0 → ⊥) → Through .outcome .board ≡ AtCall
-    pub answers-left : (Through .outcome .refusal ≡ 0 → ⊥) → Through .answers ≡ Before .answers
-    pub ends : (Through .outcome .refusal ≡ 0 → ⊥) → Whole ≡ Through
 
   -- the call by itself, on the board before it
   abbrev Left : ℕ
@@ -151,7 +132,7 @@ module _ (b : Board) (first one last : List ℕ) (room : ℕ) (call : Call) wher
 
   -- every call of a run that goes on up to it, whatever stands before it and behind it
   pub run-call : BoardFits b → ((i : ℕ) → getD (first ++ one) i 0 < 256) → ListIs one (call ∷ []) →
-      Before .outcome .refusal ≡ 0 → InRun
+      Before .outcome .refusal ≡ 0 → InRun b first one last room call
   run-call f bytes h z =
       let few = bytes-before first one bytes in
       let s = good-sound (run-keeps b first room f few (began-sound b first room z)) in
@@ -192,50 +173,24 @@ module _ (b : Board) where
       skip-answer : answerRecord Skip b ≡ recordOf 6 (answerBytes 6 (d ∷ 1 ∷ []))
       skip-answer = rw (skip-high b d given g, skip-by b d given low)
 
-  no-length : ((line b ≡ true) ⊎ (exactDeadline b ≡ none)) → skipLength b ≡ none
-  no-length (inl high) = rw high
-  no-length (inr without) = either (line b) (λ h. rw h) (λ low. rw (low, without))
-
   module _ (w : (line b ≡ true) ⊎ (exactDeadline b ≡ none)) where
     stay-board : sound b ≡ true → boardAfter Skip b ≡ b
-    stay-board s = rw (no-length w) (wired-sound b s)
+    stay-board s = rw (skip-none b w) (wired-sound b s)
 
     stay-answer : answerRecord Skip b ≡ recordOf 6 (answerBytes 6 (0 ∷ flagOf (line b) ∷ []))
-    stay-answer = rw (no-length w)
+    stay-answer = rw (skip-none b w)
 
 -- of a run over b whose list is `first`, `skip` and `last`, one after another: `skip` is the bytes of a skip
 module _ (b : Board) (first skip last : List ℕ) (room : ℕ) where
-  abbrev pub BeforeSkip : Run
+  abbrev BeforeSkip : Run
   BeforeSkip = runOf b first room
 
-  abbrev pub ThroughSkip : Run
-  ThroughSkip = runOf b (first ++ skip) room
-
-  -- the board before the skip
-  abbrev pub AtSkip : Board
+  abbrev AtSkip : Board
   AtSkip = BeforeSkip .outcome .board
-
-  pub record SkipInRun : Type 0 where
-    -- as of every call: when it is refused, and how the whole run goes on
-    pub call : InRun b first skip last room Skip
-    -- where it is not refused: with a deadline, the line is high after it
-    pub high : ThroughSkip .outcome .refusal ≡ 0 → (d : ℕ) → exactDeadline AtSkip ≡ some d →
-        line (ThroughSkip .outcome .board) ≡ true
-    -- and where the line was low it advances once by the deadline, and answers that this passed and the line is high
-    pub advances : ThroughSkip .outcome .refusal ≡ 0 → (d : ℕ) → exactDeadline AtSkip ≡ some d →
-        line AtSkip ≡ false → ThroughSkip .outcome .board ≡ advancedBoard d AtSkip
-    pub passes : ThroughSkip .outcome .refusal ≡ 0 → (d : ℕ) → exactDeadline AtSkip ≡ some d →
-        line AtSkip ≡ false → ThroughSkip .answers ≡ BeforeSkip .answers ++ recordOf 6 (answerBytes 6 (d ∷ 1 ∷ []))
-    -- with the line high or without a deadline it changes nothing, and answers that 0 passed, and the line
-    pub stays : ThroughSkip .outcome .refusal ≡ 0 → ((line AtSkip ≡ true) ⊎ (exactDeadline AtSkip ≡ none)) →
-        ThroughSkip .outcome .board ≡ AtSkip
-    pub passes-none : ThroughSkip .outcome .refusal ≡ 0 → ((line AtSkip ≡ true) ⊎ (exactDeadline AtSkip ≡ none)) →
-        ThroughSkip .answers
-        ≡ BeforeSkip .answers ++ recordOf 6 (answerBytes 6 (0 ∷ flagOf (line AtSkip) ∷ []))
 
   -- every skip of a run that goes on up to it, whatever stands before it and behind it, and whatever the clock runs from
   pub run-skip : BoardFits b → ((i : ℕ) → getD (first ++ skip) i 0 < 256) → ListIs skip (Skip ∷ []) →
-      BeforeSkip .outcome .refusal ≡ 0 → SkipInRun
+      BeforeSkip .outcome .refusal ≡ 0 → SkipInRun b first skip last room
   run-skip f bytes h z =
       let g = run-keeps b first room f (bytes-before first skip bytes) (began-sound b first room z) in
       let c = run-call b first skip last room Skip f bytes h z in

@@ -18,8 +18,8 @@ use Rattle.parking.specs.Parking.{formTakes, readingRefusal, readingOf}
 use Rattle.parking.specs.Demand.{parkedAndRead}
 use Rattle.parking.proofs.RoundTrip.{refusal-is, read-back, accepted-sound, accepted-rate, accepted-fits}
 use Rattle.parking.proofs.Parkings.{parked-back}
-use Rattle.list.specs.Run.{Run, runOf}
-use Rattle.list.proofs.TwoParts.{joined, two-parts}
+use Rattle.list.specs.Run.{Run, runOf, joined}
+use Rattle.list.proofs.TwoParts.{two-parts}
 use Rattle.list.proofs.Kept.{began-sound, run-sound, run-fits, run-rate}
 use Rattle.resume.specs.Resumed.{runParked, imageAfter}
 

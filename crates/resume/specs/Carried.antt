@@ -2,12 +2,13 @@
 -- run carries out one after another are such a list too', a list of the deadline's promise; S-1: 'Demand 3 holds too
 -- where the board is written and read back between calls of the list.'
 use Prim.Native.Nat.{ℕ, zero, suc, _<_}
+use mathlib.Core.Path.{_≡_}
 use mathlib.Core.List.{List, [], _∷_, _++_}
 use lib.ListN.{drop, getD}
 use Rattle.board.specs.declared.Board.{Board}
 use Rattle.board.specs.declared.calls.Call.{Call}
 use Rattle.board.specs.Loops.{All}
-use Rattle.board.specs.Demand.{PassesTime, after}
+use Rattle.board.specs.Demand.{PassesTime, after, afterAll}
 use Rattle.format.specs.Codec.{callAt, callLength, answerRecord}
 use Rattle.list.specs.Run.{runOf}
 use Rattle.list.specs.Demand.{FrontIs, ListIs}
@@ -33,6 +34,17 @@ carriedBy b l room = callsIn (runOf b l room .outcome .calls) l
 unfoldable pub answersOf : List Call → Board → List ℕ
 answersOf [] b = []
 answersOf (call ∷ calls) b = answerRecord call b ++ answersOf calls (after call b)
+
+-- a run is the calls that it carries out
+pub record Carried (b : Board) (l : List ℕ) (room : ℕ) : Type 0 where
+  -- its board is that after them
+  pub board : runOf b l room .outcome .board ≡ afterAll (carriedBy b l room) b
+  -- its answers are theirs
+  pub answers : runOf b l room .answers ≡ answersOf (carriedBy b l room) b
+  -- they are the first calls of its list
+  pub begins : BeginsWith l (carriedBy b l room)
+  -- and all of its list, where it is not refused
+  pub whole : runOf b l room .outcome .refusal ≡ 0 → ListIs l (carriedBy b l room)
 
 -- ---- runs over images, one after another
 

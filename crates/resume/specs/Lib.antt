@@ -1,3 +1,4 @@
 pub mod Resumed
 pub mod Carried
+pub mod OneCall
 pub mod Counts
