@@ -128,8 +128,8 @@ uint8_t pec_irqc_dispatch_new(void);
    number, going round from 15 to 0, and clears its pending bit and nothing else. The source `last` itself comes last;
    a `last` above 15 is read as 15. The result is packed as that of `pec_irqc_output`, which remains lowest first:
    valid in bit 8, the source's number below, and 0 where no enabled source is pending. Gives the controller after, and
-   the number to remember: the source's or, where there is none, `last`, read so. The bits of `word` above 47 are not
-   looked at, and are 0 in `after`.
+   the number to remember: the source's or, where there is none, `last`, read as 15 where it is above 15. The bits of
+   `word` above 47 are not looked at, and are 0 in `after`.
 
    A source that stays enabled and pending is served within 16 turns, each given the remembered number that the turn
    before left, however the other sources behave between them. `after` and `remembered` must not overlap each other;
