@@ -1,5 +1,7 @@
 //! The functions of the crate pass slices, results, repeats and images as they say.
 
+use std::time::{Duration, Instant};
+
 use pec::{
     answers, image_form, image_refusal, list_of, park_fresh, preview_parked, run, run_parked, run_repeated, Answer,
     Board, Call, Controller, Outcome, Refusal, IMAGE_SIZE,
@@ -223,6 +225,34 @@ fn a_preview_is_what_an_advance_of_a_copy_answers() {
             assert_eq!(answers[3], byte, "{cycles}");
         }
     }
+}
+
+/// The least time that something takes, of some repeats.
+fn least(repeats: u32, mut done: impl FnMut()) -> Duration {
+    let times = (0..repeats).map(|_| {
+        let start = Instant::now();
+        done();
+        start.elapsed()
+    });
+    times.min().expect("there are repeats")
+}
+
+#[test]
+fn one_deadline_serves_the_whole_slice() {
+    // The bytes do not show how often the deadline is found, but the time does. A total by itself is a reading of the
+    // image and a deadline, and one of a slice is a comparison: together they take some 135th of the time. With a
+    // deadline for each total of the slice they would take a seventh.
+    let board = due_after_30();
+    let totals: Vec<u64> = (0..4_096).map(|total| total % 60).collect();
+    let (mut high, mut apart) = (vec![7; totals.len()], vec![7; totals.len()]);
+    let slice = least(100, || assert_eq!(board.preview(&totals, &mut high), Ok(())));
+    let one_by_one = least(10, || {
+        for (total, byte) in totals.chunks(1).zip(apart.chunks_mut(1)) {
+            assert_eq!(board.preview(total, byte), Ok(()));
+        }
+    });
+    assert_eq!(high, apart);
+    assert!(30 * slice < one_by_one, "{slice:?} {one_by_one:?}");
 }
 
 #[test]
