@@ -74,6 +74,7 @@ impl Dispatcher {
     /// assert_eq!(dispatcher.next(&mut Controller::new()), None);
     /// assert_eq!(dispatcher.last(), 15);
     /// ```
+    #[must_use = "the source is not pending any more: what is ignored is not served again"]
     pub fn next(&mut self, controller: &mut Controller) -> Option<u8> {
         let (word, last) = (controller.word, self.last);
         // SAFETY: the pointers are those of two numbers that live through the call and do not overlap.

@@ -54,7 +54,7 @@ fn repeats_go_on_from_the_board_that_is_left() {
     assert_eq!(run_repeated(&configure, &step, 0, &mut answers).calls, 3);
     // A first list that is refused leaves its board all the same.
     let cut = [&configure[..], &[9]].concat();
-    run_repeated(&cut, &step, 3, &mut answers);
+    assert_eq!(run_repeated(&cut, &step, 3, &mut answers).refusal, None);
     assert_eq!(answers[..68], advance_record(1, 1));
 }
 
@@ -207,7 +207,10 @@ fn due_after_30() -> Board {
 fn a_preview_is_what_an_advance_of_a_copy_answers() {
     let mut high_line = due_after_30();
     let mut answers = [0; 68];
-    high_line.run(&list_of(&[Call::Advance { cycles: 30 }]), &mut answers);
+    let advance = |board: &mut Board, cycles, answers: &mut [u8]| {
+        assert_eq!(board.run(&list_of(&[Call::Advance { cycles }]), answers).refusal, None);
+    };
+    advance(&mut high_line, 30, &mut answers);
     // In any order, with repeats, and into a buffer with a byte more.
     let totals = [30, 29, 0, 31, u64::MAX, 29, 30, 1];
     for (board, expected) in [
@@ -221,7 +224,7 @@ fn a_preview_is_what_an_advance_of_a_copy_answers() {
         assert_eq!((&high[..8], high[8], &board), (&expected[..], 7, &before));
         for (cycles, byte) in totals.into_iter().zip(high) {
             let mut copy = board.clone();
-            copy.run(&list_of(&[Call::Advance { cycles }]), &mut answers);
+            advance(&mut copy, cycles, &mut answers);
             assert_eq!(answers[3], byte, "{cycles}");
         }
     }
@@ -263,7 +266,7 @@ fn previews_are_refused_in_order_and_write_nothing() {
         address: 0x083,
         byte: 5,
     };
-    realtime.run(&list_of(&[write]), &mut [0; 3]);
+    assert_eq!(realtime.run(&list_of(&[write]), &mut [0; 3]).refusal, None);
     let mut unsound = *realtime.image();
     unsound[TIMER_ENABLE] = 16;
     for (image, room, refusal) in [

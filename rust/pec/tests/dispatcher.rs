@@ -87,7 +87,7 @@ fn a_turn_clears_one_pending_bit_and_nothing_else() {
     assert_eq!(dispatcher.last(), 12);
     // The level stayed high, so only a fall and a rise make the source pending again.
     controller = Controller::from_words(0x0004, 0xFFFF, 0x0004);
-    dispatcher.next(&mut controller);
+    assert_eq!(dispatcher.next(&mut controller), Some(2));
     controller.set_source(2, true);
     assert_eq!(dispatcher.next(&mut controller), None);
     controller.set_source(2, false);
