@@ -1,8 +1,14 @@
 //! The header's numbers are those of the crate: names, numbers and meanings of the refusals, rates and sizes of images.
+//! And the header has the library's functions, whose contracts ask nothing of a caller.
 
 use pec::{Refusal, DEFAULT_RATE, IMAGE_SIZE, OLD_IMAGE_SIZE, RATES};
 
 const HEADER: &str = include_str!("../include/pec.h");
+/// The sources of the library's exported functions.
+const SOURCES: [&str; 2] = [
+    include_str!("../../../crates/pec/src/lib.rt"),
+    include_str!("../../../crates/pec/src/irqc.rt"),
+];
 
 /// What the header defines with a name that begins so: the rest of the name, the value, and the comment behind it.
 fn defined(prefix: &str) -> Vec<(String, String, String)> {
@@ -64,4 +70,32 @@ fn the_header_has_the_rates_and_the_sizes_of_the_crate() {
         numbers("PEC_OLD_IMAGE_"),
         [("SIZE".to_string(), OLD_IMAGE_SIZE.to_string())]
     );
+}
+
+#[test]
+fn the_header_has_every_exported_function() {
+    let exported = SOURCES.iter().flat_map(|source| source.lines()).filter_map(|line| {
+        let (name, _) = line.strip_prefix("pub extern \"C\" fn ")?.split_once('(')?;
+        Some(name)
+    });
+    let mut exported: Vec<&str> = exported.collect();
+    let declared = HEADER.lines().filter_map(|line| {
+        let (before, _) = line.split_once('(')?;
+        let (result, name) = before.rsplit_once(' ')?;
+        (name.starts_with("pec_") && !result.contains(' ')).then_some(name)
+    });
+    let mut declared: Vec<&str> = declared.collect();
+    exported.sort_unstable();
+    declared.sort_unstable();
+    assert!(!exported.is_empty());
+    assert_eq!(declared, exported);
+}
+
+#[test]
+fn the_exported_functions_ask_nothing_of_a_caller() {
+    // What the crate says of its safety rests on it: every board, image, list, buffer, total and rate is accepted or
+    // refused by number.
+    for source in SOURCES {
+        assert!(source.contains("ensures {") && !source.contains("requires {"));
+    }
 }
