@@ -60,8 +60,8 @@ impl Outcome {
         self.refusal.map_or(0, Refusal::number)
     }
 
-    /// The outcome of a list of which this part was run first, without a refusal, and then the rest into the rest of the
-    /// buffer.
+    /// The outcome of a list of which this part was run first, without a refusal, and then the rest into the rest of
+    /// the buffer.
     pub fn then(self, rest: Self) -> Self {
         Self {
             calls: self.calls + rest.calls,

@@ -81,7 +81,7 @@ fn run(board: &mut Board, calls: &[Call], record: &mut Vec<u8>) -> Result<(), Bo
 }
 
 /// Writes the image, of the new form, to a file beside the named one, and puts it in that one's place once it is on the
-/// disk: a crash leaves the old image or the new one. Where that fails, the old one stays and nothing is left beside it.
+/// disk: a crash leaves the old image or the new one. Where it fails, the old one stays, and nothing is left beside it.
 fn park(board: &Board, path: &Path) -> io::Result<()> {
     let mut beside = OsString::from(path);
     beside.push(".new");

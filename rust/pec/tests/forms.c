@@ -60,7 +60,8 @@ static void fresh_at(uint32_t rate)
         printf(" %u %zu", refusal, written);
         must(stays(buffer, written), "the bytes behind those written stay");
         must(refusal != PEC_REFUSAL_NONE || rate_of(buffer) == rate, "an image says its rate");
-        must(refusal != PEC_REFUSAL_NONE || pec_image_refusal(buffer, written) == PEC_REFUSAL_NONE, "an image is accepted");
+        must(refusal != PEC_REFUSAL_NONE || pec_image_refusal(buffer, written) == PEC_REFUSAL_NONE,
+             "an image is accepted");
     }
     printf("\n");
 }
