@@ -50,8 +50,8 @@ fn next_after(controller: IrqController, last: SourceNumber) -> IrqOutput
     controller::output_of(controller)
 }
 
-// One turn. The pending bit of the source served is cleared, and nothing else; where none is enabled and pending, the
-// controller and the remembered number stay.
+// One turn. The pending bit of the source served is cleared, and nothing else. Where none is enabled and pending, the
+// controller stays, and the number to remember is the one that it was given, read as 15 where it is above 15.
 pub fn dispatch(controller: IrqController, last: SourceNumber) -> Dispatched
     ensures { λ r. ⌜ r ≡ dispatched controller (last .0) ⌝ }
 {

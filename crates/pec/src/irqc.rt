@@ -153,7 +153,8 @@ pub extern "C" fn pec_irqc_dispatch_new() -> u8
 }
 
 // One turn of the dispatcher, of a controller and the number that the turn before left. Gives the controller after, the
-// number to remember, and as its result the source that was served, as `pec_irqc_output` gives one.
+// number to remember, and as its result the source that was served, as `pec_irqc_output` gives one. Where none is
+// served, the number to remember is the one that it was given, read as 15 where it is above 15.
 #[no_mangle]
 pub extern "C" fn pec_irqc_dispatch(
     word: u64,

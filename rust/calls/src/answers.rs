@@ -13,6 +13,7 @@ pub fn answers(buffer: &[u8]) -> Answers<'_> {
 }
 
 /// The iterator that [`answers`] gives.
+#[must_use = "the answers are decoded as they are asked for"]
 #[derive(Clone, Debug)]
 pub struct Answers<'a> {
     buffer: &'a [u8],

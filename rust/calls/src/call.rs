@@ -293,6 +293,7 @@ impl Call {
 
     /// The call's own refusal as far as its value alone decides it, 6 to 10, in document 01's order. A skip's own, 13,
     /// depends on the board and is not found here; 1 is the board's too, 2 to 5 and 11 are the run's.
+    #[must_use]
     pub fn refusal(&self) -> Option<Refusal> {
         match *self {
             Self::HostTime { nanoseconds, .. } if nanoseconds >= NANOSECONDS_PER_SECOND => {

@@ -31,10 +31,11 @@ pub enum Refusal {
     ReservedSource = 9,
     /// Source: 'level above 1'.
     LevelOutOfRange = 10,
-    /// 'Answer longer than the buffer's rest'; for an image and for previews, 'a short buffer'.
+    /// In a run: 'answer longer than the buffer's rest'. Where a board is parked or an image moved, and for previews:
+    /// 'a short buffer', with fewer bytes than the image has or than there are totals.
     BufferTooSmall = 11,
-    /// An image: 'a field missing, cut, out of order, of wrong length, a flag above 1, or bytes over'; for a move, also
-    /// 'one already in the target form'.
+    /// An image that is read, run over, previewed or moved: 'a field missing, cut, out of order, of wrong length, a
+    /// flag above 1, or bytes over', in both forms; for a move, also 'one already in the target form'.
     MalformedImage = 12,
     /// Skip: 'D too large for one skip', above 2^64 - 1 with the line low.
     DeadlineTooLarge = 13,
@@ -94,12 +95,12 @@ impl fmt::Display for Refusal {
             Self::SourceOutOfRange => "the source number is above 15",
             Self::ReservedSource => "source 3 is set from the line only",
             Self::LevelOutOfRange => "the level is above 1",
-            Self::BufferTooSmall => "the answer is longer than the rest of the buffer",
-            Self::MalformedImage => "the image is malformed",
+            Self::BufferTooSmall => "the buffer has no room for the answer, the image or the previews",
+            Self::MalformedImage => "the image is malformed, or for a move already in the target form",
             Self::DeadlineTooLarge => "the deadline is above 2^64 - 1, too large for one skip",
             Self::ClockInRealtime => "the clock is enabled in realtime",
-            Self::UnsupportedRate => "the rate is not one that is supported",
-            Self::RateNeedsNewForm => "an image of the old form has no rate, and the board is not at 48,000,000",
+            Self::UnsupportedRate => "the rate is not 1,000,000, 12,000,000 or 48,000,000",
+            Self::RateNeedsNewForm => "the old form has no rate, and the board is not at 48,000,000",
         })
     }
 }

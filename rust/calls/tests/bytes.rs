@@ -298,12 +298,12 @@ fn refusals_have_their_numbers_and_words() {
         "the source number is above 15",
         "source 3 is set from the line only",
         "the level is above 1",
-        "the answer is longer than the rest of the buffer",
-        "the image is malformed",
+        "the buffer has no room for the answer, the image or the previews",
+        "the image is malformed, or for a move already in the target form",
         "the deadline is above 2^64 - 1, too large for one skip",
         "the clock is enabled in realtime",
-        "the rate is not one that is supported",
-        "an image of the old form has no rate, and the board is not at 48,000,000",
+        "the rate is not 1,000,000, 12,000,000 or 48,000,000",
+        "the old form has no rate, and the board is not at 48,000,000",
     ];
     assert_eq!(words.len(), Refusal::ALL.len());
     for (number, words) in (1..).zip(words) {

@@ -81,15 +81,18 @@ fn run(board: &mut Board, calls: &[Call], record: &mut Vec<u8>) -> Result<(), Bo
 }
 
 /// Writes the image, of the new form, to a file beside the named one, and puts it in that one's place once it is on the
-/// disk: a crash leaves the old image or the new one.
+/// disk: a crash leaves the old image or the new one. Where it fails, the old one stays, and nothing is left beside it.
 fn park(board: &Board, path: &Path) -> io::Result<()> {
     let mut beside = OsString::from(path);
     beside.push(".new");
     let beside = PathBuf::from(beside);
     let mut file = File::create(&beside)?;
-    file.write_all(board.image())?;
-    file.sync_all()?;
-    fs::rename(&beside, path)?;
+    let written = file.write_all(board.image()).and_then(|()| file.sync_all());
+    if let Err(error) = written.and_then(|()| fs::rename(&beside, path)) {
+        // What is told is why the image was not parked.
+        let _ = fs::remove_file(&beside);
+        return Err(error);
+    }
     // The new name is on the disk once the directory is.
     let directory = match path.parent() {
         Some(directory) if directory != Path::new("") => directory,

@@ -1,8 +1,9 @@
 /* The C interface of the proved PeC board, libpec.a, for C and C++. The contract of each function is in crates/pec/src.
 
    A slice is a pointer and a length, the number of its elements. Pointers must be valid for their lengths and aligned,
-   and what is written must not overlap anything else that is lent; a pointer with length 0 must not be null. The
-   library keeps nothing between calls and uses no heap. */
+   and what is written must not overlap anything else that is lent. No pointer may be null, not even one with length 0:
+   for an empty slice, which is neither read nor written, give the address of any variable. The library keeps nothing
+   between calls and uses no heap. */
 #ifndef PEC_H
 #define PEC_H
 
@@ -14,10 +15,30 @@
 extern "C" {
 #endif
 
+/* The refusals by their numbers, which the functions that can refuse give as their results. */
+#define PEC_REFUSAL_NONE 0                     /* nothing is refused */
+#define PEC_REFUSAL_UNSOUND_BOARD 1            /* the board is not sound */
+#define PEC_REFUSAL_TRUNCATED_HEADER 2         /* one or two bytes are left, fewer than a tag and a length */
+#define PEC_REFUSAL_UNKNOWN_TAG 3              /* the tag is unknown */
+#define PEC_REFUSAL_WRONG_LENGTH 4             /* the length is not that of the tag */
+#define PEC_REFUSAL_TRUNCATED_VALUE 5          /* the value is cut */
+#define PEC_REFUSAL_ADDRESS_OUT_OF_RANGE 6     /* the address is 0x380 or above */
+#define PEC_REFUSAL_NANOSECONDS_OUT_OF_RANGE 7 /* the nanoseconds are 1,000,000,000 or more */
+#define PEC_REFUSAL_SOURCE_OUT_OF_RANGE 8      /* the source number is above 15 */
+#define PEC_REFUSAL_RESERVED_SOURCE 9          /* source 3 is set from the line only */
+#define PEC_REFUSAL_LEVEL_OUT_OF_RANGE 10      /* the level is above 1 */
+#define PEC_REFUSAL_BUFFER_TOO_SMALL 11        /* the buffer has no room for the answer, the image or the previews */
+#define PEC_REFUSAL_MALFORMED_IMAGE 12         /* the image is malformed, or for a move already in the target form */
+#define PEC_REFUSAL_DEADLINE_TOO_LARGE 13      /* the deadline is above 2^64 - 1, too large for one skip */
+#define PEC_REFUSAL_CLOCK_IN_REALTIME 14       /* the clock is enabled in realtime */
+#define PEC_REFUSAL_UNSUPPORTED_RATE 15        /* the rate is not 1,000,000, 12,000,000 or 48,000,000 */
+#define PEC_REFUSAL_RATE_NEEDS_NEW_FORM 16     /* the old form has no rate, and the board is not at 48,000,000 */
+
 /* Runs a list over a fresh board. Gives the calls done, the list bytes they used and the answer bytes; the result is
    the refusal, 0 for none. The first call that is refused stops the run and changes nothing; the calls before it stand.
-   A skip with the line low is refused with 13 where the deadline is above 2^64 - 1; else, where there is a deadline, it
-   ends with the line high.
+   A call is refused with 2, 3, 4 or 5 where it is not a whole one of a known tag; else with its own refusal, 6 to 10 or
+   13; else with 11. A skip with the line low is refused with 13 where the deadline is above 2^64 - 1; else, where there
+   is a deadline, it ends with the line high. The pointers of an empty list and of an empty buffer must not be null.
 
    The value of an advance's answer has 65 bytes: the line, and, channel 0 first, how many compare points each channel
    met, overdue ones too, in 16 bytes each, big-endian. A match counts 1; in mode 1 with a reload other than 0 it counts
@@ -26,13 +47,13 @@ uint8_t pec_run(const uint8_t *list, size_t list_length, uint8_t *answers, size_
                 size_t *used, size_t *written);
 
 /* Runs `first` over a fresh board, and then `list` so many times, each time over the board that the run before it left.
-   The results are those of the last run. */
+   The results are those of the last run. The pointers of empty lists and of an empty buffer must not be null. */
 uint8_t pec_run_repeated(const uint8_t *first, size_t first_length, const uint8_t *list, size_t list_length,
                          uint64_t times, uint8_t *answers, size_t answers_length, size_t *calls, size_t *used,
                          size_t *written);
 
 /* The rates of boards, in cycles a second: so many cycles are a second of the clock, and a thousandth of them lie
-   between two polls of an alarm on host time. A fresh board of which no rate is said is at PEC_RATE_DEFAULT; a parked
+   between two polls of an alarm on host time. A fresh board without a given rate is at PEC_RATE_DEFAULT; a parked
    board has the rate that its image says. */
 #define PEC_RATE_1_MHZ 1000000
 #define PEC_RATE_12_MHZ 12000000
@@ -40,7 +61,8 @@ uint8_t pec_run_repeated(const uint8_t *first, size_t first_length, const uint8_
 #define PEC_RATE_DEFAULT PEC_RATE_48_MHZ
 
 /* What `pec_run` and `pec_run_repeated` do, over a fresh board of a rate. A rate other than these three is refused with
-   15, ahead of all else: nothing is done, the answer buffer stays, and the counts are 0. */
+   15, ahead of all else: nothing is done, the answer buffer stays, and the counts are 0. The pointers of empty lists
+   and of an empty buffer must not be null. */
 uint8_t pec_run_at(uint32_t rate, const uint8_t *list, size_t list_length, uint8_t *answers, size_t answers_length,
                    size_t *calls, size_t *used, size_t *written);
 uint8_t pec_run_repeated_at(uint32_t rate, const uint8_t *first, size_t first_length, const uint8_t *list,
@@ -49,7 +71,8 @@ uint8_t pec_run_repeated_at(uint32_t rate, const uint8_t *first, size_t first_le
 
 /* Writes the listing of a run at the start of `text`, as much of it as fits: a line for each answer, its tag and value
    in hexadecimal, and a last line with calls done, refusal and list bytes used in decimal. The result is the listing's
-   length, at most twice `answers_length` and 67; no zero byte follows it. */
+   length, at most twice `answers_length` and 67; no zero byte follows it. The pointers of empty answers and of an empty
+   text must not be null. */
 size_t pec_listing(const uint8_t *answers, size_t answers_length, size_t calls, uint8_t refusal, size_t used,
                    uint8_t *text, size_t text_length);
 
@@ -66,33 +89,34 @@ size_t pec_listing(const uint8_t *answers, size_t answers_length, size_t calls, 
 
 /* Parks a fresh board at PEC_RATE_DEFAULT: writes its image at the start of `image` and leaves the bytes after it.
    Gives the bytes written; the result is the refusal, 0 for none. A buffer shorter than PEC_IMAGE_SIZE is refused with
-   11 and left as it is, and 0 bytes are written. */
+   11 and left as it is, and 0 bytes are written. The pointer of an empty buffer must not be null. */
 uint8_t pec_fresh(uint8_t *image, size_t image_length, size_t *written);
 
 /* What `pec_fresh` does, of a fresh board of a rate. A rate other than the three is refused with 15, ahead of 11: the
-   buffer stays, and 0 bytes are written. */
+   buffer stays, and 0 bytes are written. The pointer of an empty buffer must not be null. */
 uint8_t pec_fresh_at(uint32_t rate, uint8_t *image, size_t image_length, size_t *written);
 
 /* The refusal of reading an image: 12 where it has neither form, else 1 where its board is not sound, as it is not
-   where its rate is none of the three, else 0. */
+   where its rate is none of the three, else 0. No bytes are no image, 12; their pointer must not be null. */
 uint8_t pec_image_refusal(const uint8_t *image, size_t image_length);
 
 /* Moves an image of the old form to the new one, with the rate PEC_RATE_DEFAULT: writes it at the start of `moved` and
    leaves the bytes after it; the image is only read. Gives the bytes written, PEC_IMAGE_SIZE; the result is the
    refusal, 0 for none: 12 where the image has neither form or the new one already, else 1 where its board is not sound,
-   else 11 where `moved_length` is less than PEC_IMAGE_SIZE. A refused move leaves `moved`, and 0 bytes are written. */
+   else 11 where `moved_length` is less than PEC_IMAGE_SIZE. A refused move leaves `moved`, and 0 bytes are written. The
+   pointers of an empty image and of an empty buffer must not be null. */
 uint8_t pec_move_forward(const uint8_t *image, size_t image_length, uint8_t *moved, size_t moved_length,
                          size_t *written);
 
 /* Moves an image of the new form to the old one, likewise. Gives the bytes written, PEC_OLD_IMAGE_SIZE; the result is
    the refusal, 0 for none: 12 where the image has neither form or the old one already, else 1 where its board is not
    sound, else 16 where its rate is not PEC_RATE_DEFAULT, else 11 where `moved_length` is less than PEC_OLD_IMAGE_SIZE.
-   There and back gives the same bytes. */
+   There and back gives the same bytes. The pointers of an empty image and of an empty buffer must not be null. */
 uint8_t pec_move_back(const uint8_t *image, size_t image_length, uint8_t *moved, size_t moved_length, size_t *written);
 
 /* Runs a list over a parked board, and writes the board that the run left back into the same bytes, in the form that
    the image had. A refused image, by 12 or 1, changes nothing and gives counts 0; otherwise the results are those of
-   the run, as of `pec_run`. */
+   the run, as of `pec_run`. The pointers of an empty image, list or buffer must not be null. */
 uint8_t pec_run_parked(uint8_t *image, size_t image_length, const uint8_t *list, size_t list_length, uint8_t *answers,
                        size_t answers_length, size_t *calls, size_t *used, size_t *written);
 
@@ -100,7 +124,8 @@ uint8_t pec_run_parked(uint8_t *image, size_t image_length, const uint8_t *list,
    repeats: writes one byte for each at the start of `high`, 1 or 0, the line that one advance of that total would
    answer. Leaves the bytes after them; image and totals are only read. The result is the refusal, 0 for none: 12 or 1
    of the image, as of `pec_image_refusal`; else 14 where its clock is enabled in realtime; else 11 where `high_length`
-   is less than `count`. A refused call writes nothing. The deadline is worked out once for all totals. */
+   is less than `count`. A refused call writes nothing. The deadline is worked out once for all totals. Without totals
+   nothing is written; the pointers of no totals, of an empty image and of an empty buffer must not be null. */
 uint8_t pec_preview(const uint8_t *image, size_t image_length, const uint64_t *totals, size_t count, uint8_t *high,
                     size_t high_length);
 
@@ -128,8 +153,8 @@ uint8_t pec_irqc_dispatch_new(void);
    number, going round from 15 to 0, and clears its pending bit and nothing else. The source `last` itself comes last;
    a `last` above 15 is read as 15. The result is packed as that of `pec_irqc_output`, which remains lowest first:
    valid in bit 8, the source's number below, and 0 where no enabled source is pending. Gives the controller after, and
-   the number to remember: the source's or, where there is none, `last`, read so. The bits of `word` above 47 are not
-   looked at, and are 0 in `after`.
+   the number to remember: the source's or, where there is none, `last`, read as 15 where it is above 15. The bits of
+   `word` above 47 are not looked at, and are 0 in `after`.
 
    A source that stays enabled and pending is served within 16 turns, each given the remembered number that the turn
    before left, however the other sources behave between them. `after` and `remembered` must not overlap each other;

@@ -20,14 +20,14 @@ use crate::{Outcome, Refusal};
 /// let program = [(0x293, 3), (0x283, 12), (0x007, 1)].map(|(address, byte)| Call::Write { address, byte });
 /// assert_eq!(board.run(&list_of(&program), &mut answers).refusal, None);
 /// let two = list_of(&[Call::Advance { cycles: 2 }]);
-/// board.run(&two, &mut answers);
+/// assert_eq!(board.run(&two, &mut answers).refusal, None);
 /// assert_eq!(answers[..4], [4, 0, 65, 0]);
 ///
 /// // Parked, and taken up again: two cycles more raise the line.
 /// let image = board.image().to_vec();
 /// let mut resumed = Board::from_image(&image)?;
 /// assert_eq!(resumed, board);
-/// resumed.run(&two, &mut answers);
+/// assert_eq!(resumed.run(&two, &mut answers).refusal, None);
 /// assert_eq!(answers[..4], [4, 0, 65, 1]);
 ///
 /// assert_eq!(Board::from_image(&image[1..]), Err(Refusal::MalformedImage));
@@ -63,7 +63,7 @@ impl Board {
     /// let mut board = Board::fresh_at(1_000_000)?;
     /// let mut answers = [0; 72];
     /// let second = [Call::Advance { cycles: 1_000_000 }, Call::Read { address: 0x08B }];
-    /// board.run(&list_of(&second), &mut answers);
+    /// assert_eq!(board.run(&list_of(&second), &mut answers).refusal, None);
     /// assert_eq!(answers[68..], [2, 0, 1, 1]);
     ///
     /// // Parked and taken up again, the board has its rate.
@@ -138,7 +138,7 @@ impl Board {
     /// let mut board = Board::fresh();
     /// let mut buffer = [0; 128];
     /// let start = [(0x283, 0x1E), (0x007, 1)].map(|(address, byte)| Call::Write { address, byte });
-    /// board.run(&list_of(&start), &mut buffer);
+    /// assert_eq!(board.run(&list_of(&start), &mut buffer).refusal, None);
     /// let outcome = board.run(&list_of(&[Call::Skip]), &mut buffer);
     /// assert_eq!(outcome.refusal, Some(Refusal::DeadlineTooLarge));
     ///
@@ -175,7 +175,7 @@ impl Board {
     /// assert_eq!(board.preview(&[30, 29], &mut high[..1]), Err(Refusal::BufferTooSmall));
     /// // With the clock in realtime, an alarm may come with any advance.
     /// let realtime = Call::Write { address: 0x083, byte: 5 };
-    /// board.run(&list_of(&[realtime]), &mut [0; 3]);
+    /// assert_eq!(board.run(&list_of(&[realtime]), &mut [0; 3]).refusal, None);
     /// assert_eq!(board.preview(&[30, 29], &mut high), Err(Refusal::ClockInRealtime));
     /// # Ok::<(), Refusal>(())
     /// ```

@@ -57,14 +57,24 @@ impl Dispatcher {
         Self { last }
     }
 
-    /// The number that is remembered: of the source last served, or the one that the dispatcher began with.
+    /// The number that is remembered: of the source last served or, before any is, the one that the dispatcher began
+    /// with. The first turn reads that one as 15 where it is above 15, also a turn that serves none.
     pub fn last(&self) -> u8 {
         self.last
     }
 
     /// One turn: clears the pending bit of the next enabled pending source, and nothing else of the controller, and
-    /// gives its number, which is then the remembered one. Where no enabled source is pending, the controller stays,
-    /// and so does the remembered number, read as 15 where it is above.
+    /// gives its number, which is then the remembered one. Where no enabled source is pending, it gives none, the
+    /// controller stays, and the remembered number is the one that the turn was given, read as 15 where it is above 15:
+    ///
+    /// ```
+    /// use pec::{Controller, Dispatcher};
+    ///
+    /// let mut dispatcher = Dispatcher::from_last(255);
+    /// assert_eq!(dispatcher.next(&mut Controller::new()), None);
+    /// assert_eq!(dispatcher.last(), 15);
+    /// ```
+    #[must_use = "the source is not pending any more: what is ignored is not served again"]
     pub fn next(&mut self, controller: &mut Controller) -> Option<u8> {
         let (word, last) = (controller.word, self.last);
         // SAFETY: the pointers are those of two numbers that live through the call and do not overlap.

@@ -42,7 +42,8 @@ pub use parked::{
     IMAGE_SIZE, OLD_IMAGE_SIZE,
 };
 
-// A slice goes as its pointer and its length.
+// A slice goes as its pointer and its length. The library asks for pointers that are not null, also with length 0, and
+// Rust's slices have such, the empty ones too.
 unsafe extern "C" {
     fn pec_run(
         list: *const u8,

@@ -19,7 +19,8 @@ pub enum Form {
     New,
 }
 
-// A slice goes as its pointer and its length.
+// A slice goes as its pointer and its length. The library asks for pointers that are not null, also with length 0, and
+// Rust's slices have such, the empty ones too.
 unsafe extern "C" {
     fn pec_fresh(image: *mut u8, image_length: usize, written: *mut usize) -> u8;
     fn pec_fresh_at(rate: u32, image: *mut u8, image_length: usize, written: *mut usize) -> u8;
@@ -163,6 +164,7 @@ pub fn image_form(image: &[u8]) -> Result<Form, Refusal> {
 /// Why some bytes are not the image of a board, of either form, or none where they are: [`Refusal::MalformedImage`],
 /// or, of an image that is well formed, [`Refusal::UnsoundBoard`]. A rate other than [`RATES`](crate::RATES) is not
 /// sound.
+#[must_use]
 pub fn image_refusal(image: &[u8]) -> Option<Refusal> {
     // SAFETY: the pointer and the length are those of a slice, which is only read.
     refusal_of(unsafe { pec_image_refusal(image.as_ptr(), image.len()) })

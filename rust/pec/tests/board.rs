@@ -1,5 +1,7 @@
 //! The functions of the crate pass slices, results, repeats and images as they say.
 
+use std::time::{Duration, Instant};
+
 use pec::{
     answers, image_form, image_refusal, list_of, park_fresh, preview_parked, run, run_parked, run_repeated, Answer,
     Board, Call, Controller, Outcome, Refusal, IMAGE_SIZE,
@@ -52,7 +54,7 @@ fn repeats_go_on_from_the_board_that_is_left() {
     assert_eq!(run_repeated(&configure, &step, 0, &mut answers).calls, 3);
     // A first list that is refused leaves its board all the same.
     let cut = [&configure[..], &[9]].concat();
-    run_repeated(&cut, &step, 3, &mut answers);
+    assert_eq!(run_repeated(&cut, &step, 3, &mut answers).refusal, None);
     assert_eq!(answers[..68], advance_record(1, 1));
 }
 
@@ -205,7 +207,10 @@ fn due_after_30() -> Board {
 fn a_preview_is_what_an_advance_of_a_copy_answers() {
     let mut high_line = due_after_30();
     let mut answers = [0; 68];
-    high_line.run(&list_of(&[Call::Advance { cycles: 30 }]), &mut answers);
+    let advance = |board: &mut Board, cycles, answers: &mut [u8]| {
+        assert_eq!(board.run(&list_of(&[Call::Advance { cycles }]), answers).refusal, None);
+    };
+    advance(&mut high_line, 30, &mut answers);
     // In any order, with repeats, and into a buffer with a byte more.
     let totals = [30, 29, 0, 31, u64::MAX, 29, 30, 1];
     for (board, expected) in [
@@ -219,10 +224,38 @@ fn a_preview_is_what_an_advance_of_a_copy_answers() {
         assert_eq!((&high[..8], high[8], &board), (&expected[..], 7, &before));
         for (cycles, byte) in totals.into_iter().zip(high) {
             let mut copy = board.clone();
-            copy.run(&list_of(&[Call::Advance { cycles }]), &mut answers);
+            advance(&mut copy, cycles, &mut answers);
             assert_eq!(answers[3], byte, "{cycles}");
         }
     }
+}
+
+/// The least time that something takes, of some repeats.
+fn least(repeats: u32, mut done: impl FnMut()) -> Duration {
+    let times = (0..repeats).map(|_| {
+        let start = Instant::now();
+        done();
+        start.elapsed()
+    });
+    times.min().expect("there are repeats")
+}
+
+#[test]
+fn one_deadline_serves_the_whole_slice() {
+    // The bytes do not show how often the deadline is found, but the time does. A total by itself is a reading of the
+    // image and a deadline, and one of a slice is a comparison: together they take some 135th of the time. With a
+    // deadline for each total of the slice they would take a seventh.
+    let board = due_after_30();
+    let totals: Vec<u64> = (0..4_096).map(|total| total % 60).collect();
+    let (mut high, mut apart) = (vec![7; totals.len()], vec![7; totals.len()]);
+    let slice = least(100, || assert_eq!(board.preview(&totals, &mut high), Ok(())));
+    let one_by_one = least(10, || {
+        for (total, byte) in totals.chunks(1).zip(apart.chunks_mut(1)) {
+            assert_eq!(board.preview(total, byte), Ok(()));
+        }
+    });
+    assert_eq!(high, apart);
+    assert!(30 * slice < one_by_one, "{slice:?} {one_by_one:?}");
 }
 
 #[test]
@@ -233,7 +266,7 @@ fn previews_are_refused_in_order_and_write_nothing() {
         address: 0x083,
         byte: 5,
     };
-    realtime.run(&list_of(&[write]), &mut [0; 3]);
+    assert_eq!(realtime.run(&list_of(&[write]), &mut [0; 3]).refusal, None);
     let mut unsound = *realtime.image();
     unsound[TIMER_ENABLE] = 16;
     for (image, room, refusal) in [

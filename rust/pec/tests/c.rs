@@ -241,8 +241,9 @@ fn the_library_uses_no_heap() {
     assert!(names.iter().all(|name| known.contains(name)), "{names:?}");
 }
 
-#[test]
-fn the_clock_divides_by_constants() {
+/// The division instructions of the archive by its disassembly, each behind its function and the instruction ahead of
+/// it.
+fn divisions() -> Vec<[String; 3]> {
     let output = Command::new("objdump")
         .args(["-d", "--no-show-raw-insn"])
         .arg(archive())
@@ -250,12 +251,41 @@ fn the_clock_divides_by_constants() {
         .expect("objdump runs");
     assert!(output.status.success());
     let text = String::from_utf8(output.stdout).expect("objdump prints text");
-    let instructions = text
-        .lines()
-        .filter_map(|line| line.split_once(":\t"))
-        .map(|(_, instruction)| instruction);
-    let divisions =
-        instructions.filter(|instruction| instruction.starts_with("div") || instruction.starts_with("idiv"));
+    let (mut function, mut ahead) = (String::new(), String::new());
+    let mut divisions = Vec::new();
+    for line in text.lines() {
+        if let Some((_, instruction)) = line.split_once(":\t") {
+            let instruction = instruction.split_whitespace().collect::<Vec<_>>().join(" ");
+            if instruction.starts_with("div") || instruction.starts_with("idiv") {
+                divisions.push([function.clone(), ahead, instruction.clone()]);
+            }
+            ahead = instruction;
+        } else if let Some((_, name)) = line.split_once(" <") {
+            function = name.trim_end_matches(">:").to_string();
+            ahead = String::new();
+        }
+    }
+    divisions
+}
+
+#[test]
+fn the_clock_divides_by_constants() {
     // Those by a prescaler or a reload. A division by a constant is a multiplication, so that the rates add none.
-    assert_eq!(divisions.count(), 16);
+    assert_eq!(divisions().len(), 16);
+}
+
+#[test]
+fn prescaler_0_is_taken_first_and_every_division_is_of_one_word() {
+    let divisions = divisions();
+    // With the case of prescaler 0 taken out of the step, the compiler does not unroll the loop over the channels, and
+    // there are 4. A division of two words by hand would add some.
+    assert_eq!(divisions.len(), 16);
+    for [function, ahead, division] in divisions {
+        // The dividend is rdx and rax: the high word is 0.
+        assert_eq!(
+            (&function[..], &ahead[..]),
+            ("list::run", "xor %edx,%edx"),
+            "{division}"
+        );
+    }
 }

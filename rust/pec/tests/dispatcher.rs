@@ -62,13 +62,14 @@ fn a_number_above_15_is_read_as_15() {
 fn none_leaves_the_controller_and_the_number() {
     // Every source pending and none enabled, the other way round, and each source pending or enabled but not both.
     for [pending, enable] in [[0xFFFF, 0], [0, 0xFFFF], [0x5A3C, 0xA5C3]] {
-        for last in 0..16 {
+        for last in 0..=255 {
             let mut dispatcher = Dispatcher::from_last(last);
             let mut controller = Controller::from_words(pending, enable, LEVELS);
             assert_eq!(dispatcher.next(&mut controller), None);
+            // A number above 15 is read as 15, so 255 becomes 15.
             assert_eq!(
                 (words(&controller), dispatcher.last()),
-                ([pending, enable, LEVELS], last)
+                ([pending, enable, LEVELS], last.min(15))
             );
         }
     }
@@ -86,7 +87,7 @@ fn a_turn_clears_one_pending_bit_and_nothing_else() {
     assert_eq!(dispatcher.last(), 12);
     // The level stayed high, so only a fall and a rise make the source pending again.
     controller = Controller::from_words(0x0004, 0xFFFF, 0x0004);
-    dispatcher.next(&mut controller);
+    assert_eq!(dispatcher.next(&mut controller), Some(2));
     controller.set_source(2, true);
     assert_eq!(dispatcher.next(&mut controller), None);
     controller.set_source(2, false);

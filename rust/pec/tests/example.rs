@@ -48,7 +48,7 @@ fn the_example_prints_both_days_and_leaves_fridays_board() {
     assert_eq!(files.count(), 1, "nothing stands beside the image");
     let mut board = Board::from_image(&fs::read(&image).expect("the image is there")).expect("it is an image");
     let mut answer = [0; 28];
-    board.run(&list_of(&[Call::Deadline]), &mut answer);
+    assert_eq!(board.run(&list_of(&[Call::Deadline]), &mut answer).refusal, None);
     // The record's header, present, D in 16 bytes and the 64-bit deadline.
     assert_eq!((answer[3], answer[19], answer[27]), (1, 17, 17));
 }
@@ -133,11 +133,16 @@ fn the_example_tells_what_it_cannot_write() {
         assert_eq!(output.status.code(), Some(1), "{text}");
         assert!(text.starts_with(&message), "{text}");
     }
-    // A directory in the image's place stays, and so does what is in it.
+    // A directory in the image's place stays, and so does what is in it; nothing is left beside it.
     let taken = folder.join("taken");
     fs::create_dir(&taken).expect("the folder can be made");
     fs::write(taken.join("file"), b"kept").expect("the file can be written");
-    let output = example(&[taken.to_str().expect("the path is text")]);
-    assert_eq!(output.status.code(), Some(1));
+    let name = taken.to_str().expect("the path is text");
+    let output = example(&[name]);
+    let text = String::from_utf8(output.stderr).expect("the example prints text");
+    assert_eq!(output.status.code(), Some(1), "{text}");
+    assert!(text.starts_with(&format!("deadline: {name}: ")), "{text}");
     assert_eq!(fs::read(taken.join("file")).expect("it is there"), b"kept");
+    let files = fs::read_dir(&folder).expect("the folder is there");
+    assert_eq!(files.count(), 1, "nothing stands beside it");
 }

@@ -59,8 +59,9 @@ static void fresh_at(uint32_t rate)
         unsigned refusal = pec_fresh_at(rate, buffer, ROOM[i], &written);
         printf(" %u %zu", refusal, written);
         must(stays(buffer, written), "the bytes behind those written stay");
-        must(refusal != 0 || rate_of(buffer) == rate, "an image says its rate");
-        must(refusal != 0 || pec_image_refusal(buffer, written) == 0, "an image is accepted");
+        must(refusal != PEC_REFUSAL_NONE || rate_of(buffer) == rate, "an image says its rate");
+        must(refusal != PEC_REFUSAL_NONE || pec_image_refusal(buffer, written) == PEC_REFUSAL_NONE,
+             "an image is accepted");
     }
     printf("\n");
 }
@@ -109,16 +110,21 @@ static void both_forms(void)
     uint8_t answers[ANSWERS], old_answers[ANSWERS], high[2], old_high[2];
     size_t written;
     pec_fresh(image, sizeof image, &written);
-    must(pec_move_back(image, sizeof image, old, sizeof old, &written) == 0, "a fresh board is moved back");
+    must(pec_move_back(image, sizeof image, old, sizeof old, &written) == PEC_REFUSAL_NONE,
+         "a fresh board is moved back");
     size_t calls = run(image, sizeof image, answers), old_calls = run(old, sizeof old, old_answers);
     printf("calls: %zu %zu\n", calls, old_calls);
     must(memcmp(answers, old_answers, ANSWERS) == 0, "the answers are those of the new form");
     pec_preview(image, sizeof image, TOTALS, 2, high, 2);
     pec_preview(old, sizeof old, TOTALS, 2, old_high, 2);
     printf("previews: %u %u %u %u\n", high[0], high[1], old_high[0], old_high[1]);
-    must(pec_move_forward(old, sizeof old, moved, sizeof moved, &written) == 0, "an old image is moved forward");
+    must(pec_move_forward(old, sizeof old, moved, sizeof moved, &written) == PEC_REFUSAL_NONE,
+         "an old image is moved forward");
     must(memcmp(moved, image, sizeof image) == 0, "the old image moved forward is the new one");
-    must(pec_move_back(moved, sizeof moved, back, sizeof back, &written) == 0, "a new image is moved back");
+    must(pec_move_back(moved, sizeof moved, back, sizeof back, &written) == PEC_REFUSAL_NONE,
+         "a new image is moved back");
+    must(pec_move_back(back, sizeof back, moved, sizeof moved, &written) == PEC_REFUSAL_MALFORMED_IMAGE,
+         "an image of the old form is not moved back");
     must(memcmp(back, old, sizeof old) == 0, "there and back gives the same bytes");
     moves("new", image, sizeof image);
     moves("old", old, sizeof old);
@@ -140,6 +146,8 @@ static void another_rate(void)
     printf("calls: %zu", run(image, sizeof image, answers));
     printf(", rate %lu\n", (unsigned long)rate_of(image));
     moves("12 MHz", image, sizeof image);
+    must(pec_move_back(image, sizeof image, answers, 0, &written) == PEC_REFUSAL_RATE_NEEDS_NEW_FORM,
+         "a board of another rate has no image of the old form");
     image[TIMER_ENABLE_AT] = 16;
     moves("12 MHz, unsound", image, sizeof image);
     image[TIMER_ENABLE_AT] = 0;

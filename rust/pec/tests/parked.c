@@ -32,7 +32,7 @@ static void run_in_two_parts(void)
     memset(whole, FILLING, ANSWERS);
     uint8_t refusal = pec_run(LIST, sizeof LIST, whole, ANSWERS, &all_calls, &all_used, &all_written);
     printf("whole: %u %zu %zu %zu\n", refusal, all_calls, all_used, all_written);
-    must(pec_fresh(again, sizeof again, &written) == 0, "a buffer of the image's size holds it");
+    must(pec_fresh(again, sizeof again, &written) == PEC_REFUSAL_NONE, "a buffer of the image's size holds it");
     pec_run_parked(again, sizeof again, LIST, sizeof LIST, answers, ANSWERS, &calls, &used, &written);
     must(calls == all_calls && used == all_used && written == all_written, "a parked run has the counts of a run");
     must(memcmp(answers, whole, ANSWERS) == 0, "a parked run has the answers of a run");
@@ -60,7 +60,7 @@ static void skip_too_far(void)
 {
     uint8_t answers[ANSWERS], far[PEC_IMAGE_SIZE], started[PEC_IMAGE_SIZE];
     size_t calls, used, written;
-    must(pec_fresh(started, sizeof started, &written) == 0, "a buffer of the image's size holds it");
+    must(pec_fresh(started, sizeof started, &written) == PEC_REFUSAL_NONE, "a buffer of the image's size holds it");
     pec_run_parked(started, sizeof started, FAR, STARTED, answers, ANSWERS, &calls, &used, &written);
     const size_t lengths[] = {ANSWERS, 6};
     for (size_t i = 0; i < 2; i++) {
@@ -69,6 +69,7 @@ static void skip_too_far(void)
         unsigned refusal =
             pec_run_parked(far, sizeof far, FAR, sizeof FAR, answers, lengths[i], &calls, &used, &written);
         printf("too far: %u %zu %zu %zu\n", refusal, calls, used, written);
+        must(refusal == PEC_REFUSAL_DEADLINE_TOO_LARGE, "a deadline that is too large for a skip refuses it");
         must(memcmp(far, started, sizeof far) == 0, "a refused skip leaves the board of the calls before it");
         must(answers[written] == FILLING, "a refused skip leaves the rest of the answers");
         refusal = pec_run(FAR, sizeof FAR, answers, lengths[i], &calls, &used, &written);
@@ -80,7 +81,7 @@ static void skip_too_far(void)
 }
 
 /* The refusals of an image: of the question, and of a run over it, which must change nothing. */
-static void show_refused(const char *name, size_t length)
+static void show_refused(const char *name, size_t length, unsigned refusal)
 {
     uint8_t answers[ANSWERS], before[ANSWERS];
     size_t calls = 7, used = 7, written = 7;
@@ -90,6 +91,7 @@ static void show_refused(const char *name, size_t length)
     unsigned asked = pec_image_refusal(image, length);
     unsigned run = pec_run_parked(image, length, LIST, sizeof LIST, answers, ANSWERS, &calls, &used, &written);
     printf("%s: %u %u %zu %zu %zu\n", name, asked, run, calls, used, written);
+    must(asked == refusal && run == refusal, "the refusal has its name");
     must(memcmp(image, kept, sizeof image) == 0, "a refused image stays");
     must(memcmp(answers, before, ANSWERS) == 0, "a refused image leaves the answers");
 }
@@ -101,6 +103,7 @@ int main(void)
     memset(kept, FILLING, sizeof kept);
     unsigned refusal = pec_fresh(image, PEC_IMAGE_SIZE - 1, &written);
     printf("short: %u %zu\n", refusal, written);
+    must(refusal == PEC_REFUSAL_BUFFER_TOO_SMALL, "a short buffer is refused for that");
     must(memcmp(image, kept, sizeof image) == 0, "a short buffer stays");
     refusal = pec_fresh(image, sizeof image, &written);
     printf("fresh: %u %zu, read %u\n", refusal, written, pec_image_refusal(image, written));
@@ -109,13 +112,13 @@ int main(void)
     run_in_two_parts();
     skip_too_far();
 
-    show_refused("one byte over", PEC_IMAGE_SIZE + 1);
-    show_refused("cut", PEC_IMAGE_SIZE - 1);
+    show_refused("one byte over", PEC_IMAGE_SIZE + 1, PEC_REFUSAL_MALFORMED_IMAGE);
+    show_refused("cut", PEC_IMAGE_SIZE - 1, PEC_REFUSAL_MALFORMED_IMAGE);
     image[TIMER_ENABLE_AT] = 16;
-    show_refused("unsound", PEC_IMAGE_SIZE);
+    show_refused("unsound", PEC_IMAGE_SIZE, PEC_REFUSAL_UNSOUND_BOARD);
     image[0] = 0x21;
-    show_refused("damaged and unsound", PEC_IMAGE_SIZE);
+    show_refused("damaged and unsound", PEC_IMAGE_SIZE, PEC_REFUSAL_MALFORMED_IMAGE);
     image[TIMER_ENABLE_AT] = 1;
-    show_refused("damaged", PEC_IMAGE_SIZE);
+    show_refused("damaged", PEC_IMAGE_SIZE, PEC_REFUSAL_MALFORMED_IMAGE);
     return wrong;
 }

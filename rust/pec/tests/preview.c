@@ -38,7 +38,8 @@ static void run(uint8_t *image, const uint8_t *list, size_t length)
 {
     uint8_t answers[128];
     size_t calls, used, written;
-    if (pec_run_parked(image, PEC_IMAGE_SIZE, list, length, answers, sizeof answers, &calls, &used, &written) != 0) {
+    if (pec_run_parked(image, PEC_IMAGE_SIZE, list, length, answers, sizeof answers, &calls, &used, &written) !=
+        PEC_REFUSAL_NONE) {
         printf("not so: the list is carried out\n");
         wrong = 1;
     }

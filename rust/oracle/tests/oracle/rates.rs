@@ -312,7 +312,7 @@ const RATE_FAULTS: [(&str, RateFault); 11] = [
         }
     }),
     ("15 with answers written", |rate, list, answers| {
-        at_the_default(rate, list, answers);
+        let _ = at_the_default(rate, list, answers);
         if RATES.contains(&rate) {
             run_at(rate, list, answers)
         } else {
