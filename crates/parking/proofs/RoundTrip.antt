@@ -251,7 +251,7 @@ module _ (l : List ℕ) (e : readingOf l .refusal ≡ 0) where
   pub accepted-sound : sound (readingOf l .board) ≡ true
   accepted-sound = rw read (in-sound (formOf l) l (read-of l e .0))
 
-  -- it is formed in the form that is told, has its length, and the rate of a board that the form takes
+  -- it is formed in the form that the reading gives, has its length, and the rate of a board that the form takes
   pub accepted-formed : formed (readingOf l .form) l ≡ true
   accepted-formed = rw read (accepted (formOf l) l (read-of l e .0) .form)
 

@@ -1,4 +1,4 @@
--- What a run carries out: the calls at the front of its list, each as the direct call on the board that the call before
+-- What a run carries out: the first calls of its list, each as the direct call on the board that the call before
 -- returned, with their answers one after another. Assumes nothing.
 use Prim.Native.Nat.{ℕ, zero, suc, _+_, _-_, _≤_, _<_}
 use native.Mathlib.Nat.{add-zero, zero-add}
@@ -29,9 +29,9 @@ use Rattle.list.proofs.Runs.{go-on, stop-at, rest-bytes}
 use Rattle.list.proofs.Demand.{accepted-after}
 use Rattle.resume.specs.Carried.{callsIn, BeginsWith, carriedBy, answersOf, Carried}
 
--- ---- the calls at the front of some bytes
+-- ---- the first calls of some bytes
 
--- no call stands at the front of nothing
+-- no bytes are no call
 no-front : (l : List ℕ) (call : Call) → l ≡ [] → FrontIs l call → ⊥
 no-front l call e f = omega (arith, framed l (f .0), ap length e)
 
@@ -61,9 +61,9 @@ same-calls (c ∷ calls) (a ∷ others) l h g =
     (same-calls calls others (drop (callLength a) l)
     (subst (λ (k : Call). ListIs (drop (callLength k) l) calls) same (h .1)) (g .1))
 
--- ---- a run under way
+-- ---- a run that goes on
 
--- it goes on from s, with the answers `out`, over l, and ends as r
+-- from s, with the answers `out`, over l, to its end r: the calls that it carries out, and their count
 record Carries (l : List ℕ) (s : Outcome) (out : List ℕ) (r : Run) : Type 0 where
   count : ℕ
   counted : r .outcome .calls ≡ s .calls + count
@@ -85,7 +85,7 @@ none-carried l s out r n e a z =
       whole = z;
     }
 
--- the call at the front, and then those
+-- the first call, and then those
 one-more : (l : List ℕ) (s : Outcome) (out : List ℕ) (r : Run) → frameRefusal l ≡ 0 →
     Carries (drop (callLength (callAt l)) l)
     (stepped s (done (after (callAt l) (s .board)) (callLength (callAt l)) (answerRecord (callAt l) (s .board))))
@@ -158,6 +158,7 @@ by-list rate room [] bytes s out g next =
     none-carried [] s out (record { outcome = s; answers = out }) refl refl refl (λ _. refl)
 by-list rate room (x ∷ rest) bytes s out g next = one-call rate room (x ∷ rest) bytes s out g (omega arith) next
 
+-- by the length of the list, of which each call uses some bytes
 carries : (rate room fuel : ℕ) (l : List ℕ) → length l ≤ fuel → ((i : ℕ) → getD l i 0 < 256) → (s : Outcome)
     (out : List ℕ) → Good rate (s .board) → Carries l s out (runOn 0 l room s out)
 carries rate room zero l h bytes s out g = by-list rate room l bytes s out g (λ n k. absurd (omega (arith, h, k)))
