@@ -6,7 +6,7 @@ use native.Mathlib.Omega.{arith}
 use mathlib.Core.Path.{_≡_, refl, sym, ap, _∙_, subst}
 use mathlib.Core.Bool.{true, false, false≢true}
 use mathlib.Core.List.{List, [], _∷_, _++_, append-assoc, append-nil}
-use lib.ListN.{length, drop, getD, length-drop}
+use lib.ListN.{length, take, drop, getD, length-drop}
 use lib.Dec.{eqb}
 use borrow.Author.Tests.{eqb-true, eq-eqb}
 use Rattle.wide.proofs.Choices.{either}
@@ -35,18 +35,31 @@ use Rattle.resume.specs.Carried.{callsIn, BeginsWith, carriedBy, answers
 no-front : (l : List ℕ) (call : Call) → l ≡ [] → FrontIs l call → ⊥
 no-front l call e f = omega (arith, framed l (f .0), ap length e)
 
-module _ (P : Call → Type 0) where
-  -- of bytes that are calls: what holds of these calls holds of those that they begin with
-  all-begun : (calls some : List Call) (l : List ℕ) → ListIs l calls → BeginsWith l some → All P calls → All P some
-  unfolding ListIs BeginsWith
-  all-begun calls [] l h g p = tt
-  all-begun [] (a ∷ some) l h g p = absurd (no-front l a h (g .0))
-  all-begun (c ∷ calls) (a ∷ some) l h g p =
-      let same : c ≡ a = sym (h .0 .1) ∙ g .0 .1 in (
-        subst P same (p .0),
-        all-begun calls some (drop (callLength a) l)
-            (subst (λ (k : Call). ListIs (drop (callLength k) l) calls) same (h .1)) (g .1) (p .1),
-      )
+-- of the first elements holds what holds of all
+pub all-take : {A : Type 0} (P : A → Type 0) (n : ℕ) (xs : List A) → All P xs → All P (take n xs)
+all-take P zero [] h = tt
+all-take P zero (x ∷ xs) h = tt
+all-take P (suc n) [] h = tt
+all-take P (suc n) (x ∷ xs) h = (h .0, all-take P n xs (h .1))
+
+-- bytes that are calls begin with the first of these alone
+begun-first : (calls some : List Call) (l : List ℕ) → ListIs l calls → BeginsWith l some →
+    some ≡ take (length some) calls
+unfolding ListIs BeginsWith
+begun-first [] [] l h g = refl
+begun-first (c ∷ calls) [] l h g = refl
+begun-first [] (a ∷ some) l h g = absurd (no-front l a h (g .0))
+begun-first (c ∷ calls) (a ∷ some) l h g =
+    let same : c ≡ a = sym (h .0 .1) ∙ g .0 .1 in
+    ap (λ (ks : List Call). a ∷ ks)
+    (begun-first calls some (drop (callLength a) l)
+    (subst (λ (k : Call). ListIs (drop (callLength k) l) calls) same (h .1)) (g .1))
+    ∙ ap (λ (k : Call). k ∷ take (length some) calls) (sym same)
+
+calls-count : (n : ℕ) (l : List ℕ) → length (callsIn n l) ≡ n
+unfolding callsIn
+calls-count zero l = refl
+calls-count (suc n) l = ap suc (calls-count n (drop (callLength (callAt l)) l))
 
 -- bytes are the calls of one list at most
 same-calls : (calls others : List Call) (l : List ℕ) → ListIs l calls → ListIs l others → calls ≡ others
@@ -192,8 +205,14 @@ module _ (b : Board) (l : List ℕ) (room : ℕ) where
         carriedBy b l room ≡ calls
     carries-all calls h z = same-calls (carriedBy b l room) calls l (run-carries .whole z) h
 
-    -- and refused or not, some of them
+    -- and refused or not, the first of them
+    pub carries-first : (calls : List Call) → ListIs l calls →
+        carriedBy b l room ≡ take (runOf b l room .outcome .calls) calls
+    carries-first calls h =
+        begun-first calls (carriedBy b l room) l h (run-carries .begins)
+        ∙ ap (λ (n : ℕ). take n calls) (calls-count (runOf b l room .outcome .calls) l)
+
     pub carries-some : (P : Call → Type 0) (calls : List Call) → ListIs l calls → All P calls →
         All P (carriedBy b l room)
     carries-some P calls h p =
-        all-begun P calls (carriedBy b l room) l h (run-carries .begins) p
+        subst (All P) (sym (carries-first calls h)) (all-take P (runOf b l room .outcome .calls) calls p)

@@ -1,4 +1,5 @@
 pub mod Resumed
 pub mod Carried
 pub mod OneCall
+pub mod Stretch
 pub mod Counts
