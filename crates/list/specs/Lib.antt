@@ -1,3 +1,2 @@
 pub mod Run
-pub mod CodeParts
 pub mod Demand

@@ -4,7 +4,6 @@
 ghost use mathlib.Core.Path.{_≡_};
 ghost use lib.ListN.{length};
 ghost use Rattle.list.specs.Run.{runOf, over};
-use crate::parts::Step;
 use board::Board;
 use channel::ChannelNumber;
 use channel::Cycles;
@@ -12,8 +11,7 @@ use registers::reads;
 use registers::writes;
 use registers::writes::WritePart;
 use regmap::writes::acknowledged;
-
-pub mod parts;
+use steps::Step;
 
 // The number of bytes of a read and of its record, and of a write and of its record.
 const READ_CALL: usize = 5;
@@ -62,7 +60,7 @@ pub fn run(board: Board, list: &[u8], answers: &mut [u8]) -> Outcome
     let mut written = 0;
     while used < list.len() {
         let rest = &list[used..];
-        let step = parts::step_of(b, rest, answers.len() - written);
+        let step = steps::step_of(b, rest, answers.len() - written);
         let mut size = 0;
         let mut moved = false; // whether the line can have moved
         match step {
@@ -75,7 +73,7 @@ pub fn run(board: Board, list: &[u8], answers: &mut [u8]) -> Outcome
                     b.clock.alarm.pending = r.pending;
                     b.clock.alarm.armed = r.armed;
                     moved = r.rose;
-                    parts::put_byte(answers, written, r.byte);
+                    steps::put_byte(answers, written, r.byte);
                 } else {
                     let r = reads::reading_at(b, timer, offset);
                     let after = r.latches;
@@ -83,7 +81,7 @@ pub fn run(board: Board, list: &[u8], answers: &mut [u8]) -> Outcome
                     b.clock.alarm.pending = r.pending;
                     b.clock.alarm.armed = r.armed;
                     moved = r.rose;
-                    parts::put_byte(answers, written, r.byte);
+                    steps::put_byte(answers, written, r.byte);
                 }
                 used += READ_CALL;
                 size = READ_RECORD;
@@ -116,7 +114,7 @@ pub fn run(board: Board, list: &[u8], answers: &mut [u8]) -> Outcome
                 size = WRITE_RECORD;
             }
             Step::Pass(counted, cycles) => {
-                parts::put_begun(answers, written, counted, cycles);
+                steps::put_begun(answers, written, counted, cycles);
                 let enable = b.timer_enable;
                 for i in 0..Board::CHANNELS {
                     let timer = b.timers[i];
@@ -126,7 +124,7 @@ pub fn run(board: Board, list: &[u8], answers: &mut [u8]) -> Outcome
                         let timer_after = after.timer;
                         b.timers[i] = timer_after;
                         let points = after.matches;
-                        parts::put_points(answers, written, counted, i, points);
+                        steps::put_points(answers, written, counted, i, points);
                     }
                 }
                 let later = b.clock.advance(Cycles(cycles));
@@ -134,19 +132,19 @@ pub fn run(board: Board, list: &[u8], answers: &mut [u8]) -> Outcome
                 let line = b.line();
                 let set = b.controller_wired(line);
                 b.controller = set;
-                parts::put_passed(answers, written, counted, line);
-                used += parts::pass_length(counted);
-                size = parts::pass_record(counted);
+                steps::put_passed(answers, written, counted, line);
+                used += steps::pass_length(counted);
+                size = steps::pass_record(counted);
             }
             _ => {
-                let c = parts::changes_of(b, step);
+                let c = steps::changes_of(b, step);
                 b.clock.host.seconds = c.host.seconds;
                 b.clock.host.nanoseconds = c.host.nanoseconds;
                 let after = c.controller;
                 b.controller = after;
-                parts::put_other(answers, written, step, c);
-                used += parts::call_length(step);
-                size = parts::record_length(step);
+                steps::put_other(answers, written, step, c);
+                used += steps::call_length(step);
+                size = steps::record_length(step);
             }
         }
         if moved {

@@ -16,10 +16,10 @@ use Rattle.registers.proofs.CodeWrites.{channel-range}
 use Rattle.format.specs.Codec.{callAt}
 use Rattle.format.proofs.Frames.{call-least}
 use Rattle.list.specs.Run.{runOf, over}
-use Rattle.list.proofs.Advances.{begins, next-phase, advances, passed-over, still-timed, counts-begin}
-use Rattle.list.proofs.Advances.{next-zero, counts-next, counts-passed, counts-same}
+use Rattle.steps.proofs.Advances.{begins, next-phase, advances, passed-over, still-timed, counts-begin}
+use Rattle.steps.proofs.Advances.{next-zero, counts-next, counts-passed, counts-same}
 use Rattle.list.proofs.Runs.{Ran, begun, ended, ends, rest-bytes, goes-on}
-use Rattle.list.proofs.Calls.{read-length, write-length, pass-length, pass-room, begun-room}
+use Rattle.steps.proofs.Calls.{read-length, write-length, pass-length, pass-room, begun-room}
 use Rattle.list.proofs.run.Statement.{statement}
 use Rattle.list.proofs.run.Tie as tie
 use Rattle.list.proofs.run.Proof.Arms.{Inv-loop2, μ-loop2, Inv-loop, μ-loop, listOf, usedOf, boardOf, restOf}

@@ -21,14 +21,14 @@ use Rattle.board.specs.declared.calls.Call.{Call}
 use Rattle.format.specs.Format.{valueBytes}
 use Rattle.format.specs.Codec.{callAt, callLength, recordLength, refusalAt}
 use Rattle.format.proofs.Frames.{part-rest}
-use Rattle.list.specs.declared.parts.Step.{Step}
-use Rattle.list.specs.declared.parts.Changes.{Changes}
-use Rattle.list.specs.CodeParts.{StepIs, Changed, otherCall}
-use Rattle.list.proofs.Advances.{Advancing, all-advanced, Counted, counts-end}
+use Rattle.steps.specs.declared.Step.{Step}
+use Rattle.steps.specs.declared.Changes.{Changes}
+use Rattle.steps.specs.CodeSteps.{StepIs, Changed, otherCall}
+use Rattle.steps.proofs.Advances.{Advancing, all-advanced, Counted, counts-end}
 use Rattle.list.proofs.Runs.{Running, stateOf, used-inside, written-inside}
-use Rattle.list.proofs.Calls.{Other, OtherDoes, other-does, plain-carried, read-carried, channel-written}
-use Rattle.list.proofs.Calls.{write-carried, pass-carried, other-size, other-carried, read-length}
-use Rattle.list.proofs.Calls.{write-length, pass-length, Served, set-after}
+use Rattle.steps.proofs.Calls.{Other, OtherDoes, other-does, plain-carried, read-carried, channel-written}
+use Rattle.steps.proofs.Calls.{write-carried, pass-carried, other-size, other-carried, read-length}
+use Rattle.steps.proofs.Calls.{write-length, pass-length, Served, set-after}
 use Rattle.list.proofs.run.Tie as tie
 
 abbrev pub Inv-loop2 : tie.InvT-loop2

@@ -1,0 +1,4 @@
+pub mod Records
+mod CallParts
+pub mod Advances
+pub mod Calls
