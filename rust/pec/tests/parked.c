@@ -9,7 +9,7 @@
 
 /* Channel 0: compare 3, control 12, timer enable 1. Then advances of 2 and 1 cycles, and the deadline before each. */
 static const uint8_t LIST[] = {3, 0, 3, 0x02, 0x93, 3, 3, 0, 3, 0x02, 0x83, 12, 3, 0, 3, 0x00, 0x07, 1,
-                               5, 0, 0, 4, 0, 8, 0, 0, 0, 0, 0, 0, 0, 2, /* the first part ends here */
+                               5, 0, 0, 4, 0, 8, 0, 0, 0, 0, 0, 0, 0, 2, /* the first piece ends here */
                                5, 0, 0, 4, 0, 8, 0, 0, 0, 0, 0, 0, 0, 1};
 enum { FIRST = 32, FILLING = 0xA5, ANSWERS = 256, TIMER_ENABLE_AT = 162 };
 

@@ -151,7 +151,7 @@ fn a_fresh_board_takes_one_of_three_rates() {
         let (board, refusal) = Board::fresh_at(rate);
         assert_eq!((board.fields(), refusal), (Fields::fresh_at(rate), None));
         assert!(board.sound());
-        // The same but for the rate.
+        // The same, except for the rate.
         let other = Fields {
             rate: F,
             ..board.fields()
