@@ -6,8 +6,8 @@ use std::iter::FusedIterator;
 
 use crate::{Answer, Refusal};
 
-/// The answers of a run, each with its call's tag, from the bytes that it wrote: those of the buffer up to the
-/// outcome's `answer_bytes`. Bytes that are not a whole answer are an error, and nothing comes after it.
+/// The answers in the bytes that a run wrote, each with its call's tag. These bytes are the buffer up to the outcome's
+/// `answer_bytes`. Bytes that are not a whole answer give an error, and the iterator ends after it.
 pub fn answers(buffer: &[u8]) -> Answers<'_> {
     Answers { buffer, at: 0 }
 }
@@ -55,7 +55,7 @@ pub struct DamagedAnswers {
 /// Why bytes are no answer.
 #[derive(Clone, Copy, Debug, PartialEq, Eq)]
 pub enum Fault {
-    /// What refuses a call of the same form: refusals 2 to 5.
+    /// The form is wrong, as refusals 2 to 5 say of a call.
     Form(Refusal),
     /// A flag is neither 0 nor 1.
     InvalidFlag,

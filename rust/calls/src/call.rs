@@ -3,7 +3,7 @@
 
 use crate::{Fault, Refusal, NANOSECONDS_PER_SECOND};
 
-/// The first address that a read or a write is refused for.
+/// Reads and writes are refused from this address on.
 const ADDRESS_LIMIT: u16 = 0x380;
 /// The highest source of the controller.
 const LAST_SOURCE: u8 = 15;
@@ -23,8 +23,9 @@ pub enum Call {
     Advance { cycles: u64 },
     /// Asks for the cycles until the next interrupt; answers [`Answer::Deadline`].
     Deadline,
-    /// Advances once to the deadline, where the line is low and there is one, and so raises the line; refused with
-    /// [`Refusal::DeadlineTooLarge`] where that deadline is above 2^64 - 1. Answers [`Answer::Skip`].
+    /// With the line low and a deadline, advances once by the deadline, which raises the line; refused with
+    /// [`Refusal::DeadlineTooLarge`] where the deadline is above 2^64 - 1. With the line high or without a deadline it
+    /// makes no advance. Answers [`Answer::Skip`].
     Skip,
     /// Sets the level, 0 or 1, of a source of the controller.
     Source { number: u8, level: u8 },
@@ -36,7 +37,7 @@ pub enum Call {
     Output,
 }
 
-/// The answer of an accepted call, or the same members all 0.
+/// The answer of an accepted call. A refused direct call answers with every member 0.
 #[derive(Clone, Copy, Debug, PartialEq, Eq)]
 pub enum Answer {
     /// Of a host time, a write, a source and a controller write.
@@ -44,20 +45,19 @@ pub enum Answer {
     /// Of a read and a controller read.
     Byte(u8),
     /// Of an advance: whether the line is high, and how many compare points each channel met, overdue ones too, channel
-    /// 0 first. A match counts 1; in mode 1 with a reload other than 0 it counts floor((counter - compare) / reload) + 1
-    /// with the old compare and the new counter, which can be 2^64. Without a match the count is 0.
+    /// 0 first. Without a match the count is 0. A match counts 1; in mode 1 with a reload other than 0 it counts
+    /// floor((counter - compare) / reload) + 1, with the old compare and the new counter, which can be 2^64.
     Advance { line: bool, matches: [u128; 4] },
-    /// Whether there is a deadline, D, and the smaller of D and 2^64 - 1; zeros if there is none.
+    /// Whether there is a deadline; the deadline, D; the smaller of D and 2^64 - 1. Without a deadline all are 0.
     Deadline { present: bool, exact: u128, capped: u64 },
-    /// The cycles that a skip passed, and whether the line is high. They are D, and it is high, where the line was low
-    /// and there was a D; with the line high before, or no D, they are 0, and the line is as it was.
+    /// The cycles that a skip passed, and whether the line is high. With the line low and a D before it, a skip passes
+    /// D cycles and the line is high. With the line high or without a D, it passes 0 and the line stays.
     Skip { passed: u64, line: bool },
     /// Whether a source is presented, and which.
     Output { valid: bool, number: u8 },
 }
 
-/// The form of a call: its tag, the widths in bytes of the members of its value and of its answer, and the lengths of
-/// both.
+/// The form of a call: its tag, the widths in bytes of its value's and its answer's members, and the lengths of both.
 #[derive(Clone, Copy)]
 struct Form {
     tag: u8,
@@ -104,7 +104,7 @@ const fn answer_widths(tag: u8) -> &'static [usize] {
 }
 
 /// The value of an expression over a tag's form, or none for an unknown tag. In the expression the form is a constant,
-/// so that a run has direct code for each call and looks no width up.
+/// so a run has direct code for each call and reads no width from the table.
 macro_rules! by_form {
     ($tag:expr, $form:ident => $then:expr) => {
         by_form!($tag, $form => $then; 0x01 0x02 0x03 0x04 0x05 0x06 0x07 0x08 0x09 0x0A)
@@ -141,11 +141,11 @@ pub const HEADER_LENGTH: usize = 3;
 /// The bytes of the widest member.
 const WIDEST: usize = size_of::<u128>();
 
-/// The most members of an answer, and the bytes of the longest: an advance's.
+/// The most members that an answer has, and the bytes of the longest record: both are an advance's.
 const ANSWER_MEMBERS: usize = answer_widths(0x04).len();
 const LONGEST: usize = HEADER_LENGTH + sum(answer_widths(0x04));
 
-/// The members with these widths, from the bytes of a value; 0 in the places of members that there are not.
+/// The members with these widths, from the bytes of a value. Places without a member hold 0.
 #[inline(always)]
 fn read<const MEMBERS: usize>(widths: &[usize], value: &[u8]) -> [u128; MEMBERS] {
     let mut members = [0; MEMBERS];
@@ -159,8 +159,8 @@ fn read<const MEMBERS: usize>(widths: &[usize], value: &[u8]) -> [u128; MEMBERS]
     members
 }
 
-/// Writes a record over bytes of its length: the tag, the value's length, which is short, and the members with these
-/// widths.
+/// Writes a record over bytes of its length: the tag, the value's length and the members with these widths. The length
+/// fits in one byte.
 #[inline(always)]
 fn write<const MEMBERS: usize>(tag: u8, widths: &[usize], members: [u128; MEMBERS], record: &mut [u8]) {
     debug_assert_eq!(record.len(), HEADER_LENGTH + sum(widths));
@@ -173,7 +173,7 @@ fn write<const MEMBERS: usize>(tag: u8, widths: &[usize], members: [u128; MEMBER
     }
 }
 
-/// The first record of some bytes: its tag, the length that it says, and what follows; or refusal 2.
+/// The first record of some bytes: its tag, the length that it gives, and the bytes after both; or refusal 2.
 #[inline(always)]
 fn header(bytes: &[u8]) -> Result<(u8, usize, &[u8]), Refusal> {
     let &[tag, high, low, ref rest @ ..] = bytes else {
@@ -182,7 +182,7 @@ fn header(bytes: &[u8]) -> Result<(u8, usize, &[u8]), Refusal> {
     Ok((tag, usize::from(u16::from_be_bytes([high, low])), rest))
 }
 
-/// The value at the front of `rest` with the length that its tag gives it; or refusal 4 or 5.
+/// The value at the start of `rest`, of the length that its tag requires; or refusal 4 or 5.
 #[inline(always)]
 fn value(rest: &[u8], said: usize, expected: usize) -> Result<&[u8], Refusal> {
     if said != expected {
@@ -201,9 +201,10 @@ pub fn list_of(calls: &[Call]) -> Vec<u8> {
 }
 
 impl Call {
-    /// The first call of a list, and its bytes; or the refusal, 2 to 5. An empty list, which a run does not refuse, has
-    /// no first call and gives 2.
-    // A program may have a loop over calls for each rate: without this none of them would have it in line.
+    /// The first call of a list, and the number of its bytes; or the refusal, 2 to 5. An empty list gives 2, though a
+    /// run does not refuse it.
+    // A program may have one loop over calls for each rate. Without this attribute none of them would inline the
+    // function.
     #[inline]
     pub fn decode(list: &[u8]) -> Result<(Self, usize), Refusal> {
         let (tag, said, rest) = header(list)?;
@@ -260,7 +261,7 @@ impl Call {
         }
     }
 
-    /// The members; 0 in the places of those that the call has not.
+    /// The members. Places without a member hold 0.
     fn members(&self) -> [u128; 2] {
         match *self {
             Self::HostTime { seconds, nanoseconds } => [seconds.into(), nanoseconds.into()],
@@ -274,14 +275,14 @@ impl Call {
         }
     }
 
-    /// The call as it stands in a list.
+    /// The call's bytes in a list.
     pub fn encode(&self) -> Vec<u8> {
         let mut list = Vec::new();
         self.encode_into(&mut list);
         list
     }
 
-    /// Puts the call at the end of a list.
+    /// Appends the call to a list.
     pub fn encode_into(&self, list: &mut Vec<u8>) {
         let start = list.len();
         let encoded = by_form!(self.tag(), FORM => {
@@ -291,8 +292,8 @@ impl Call {
         encoded.expect("the tag is known");
     }
 
-    /// The call's own refusal as far as its value alone decides it, 6 to 10, in document 01's order. A skip's own, 13,
-    /// depends on the board and is not found here; 1 is the board's too, 2 to 5 and 11 are the run's.
+    /// The call's own refusal where its value alone decides it: 6 to 10, in document 01's order. It does not find 1 and
+    /// a skip's 13, which depend on the board, nor 2 to 5 and 11, which depend on the list and the buffer.
     #[must_use]
     pub fn refusal(&self) -> Option<Refusal> {
         match *self {
@@ -311,7 +312,7 @@ impl Call {
         }
     }
 
-    /// The bytes of the call's answer in a buffer.
+    /// The number of bytes that the call's answer takes in a buffer.
     pub fn answer_bytes(&self) -> usize {
         HEADER_LENGTH + answer_length(self.tag()).expect("the tag is known")
     }
@@ -349,7 +350,7 @@ impl Answer {
         }
     }
 
-    /// The first answer of a buffer: its call's tag, the answer, and its bytes.
+    /// The first answer of a buffer: its call's tag, the answer, and the number of its bytes.
     pub fn decode(buffer: &[u8]) -> Result<(u8, Self, usize), Fault> {
         let (tag, said, rest) = header(buffer).map_err(Fault::Form)?;
         let read = by_form!(tag, FORM => {
@@ -358,7 +359,7 @@ impl Answer {
         });
         let (members, used) = read.ok_or(Fault::Form(Refusal::UnknownTag))?;
         let answer = Self::of(tag, members);
-        // Any number but 0 makes a flag true, and only 1 is its byte.
+        // Any number other than 0 was read as a true flag, but only 1 is a flag's byte.
         let mut own = [0; LONGEST];
         answer.store(tag, &mut own[..used]);
         if own[..used] != buffer[..used] {
@@ -367,7 +368,7 @@ impl Answer {
         Ok((tag, answer, used))
     }
 
-    /// The answer to a call of a known tag, as it stands in a buffer.
+    /// The bytes of the answer to a call of a known tag.
     pub fn encode(&self, tag: u8) -> Vec<u8> {
         let mut record = vec![0; HEADER_LENGTH + answer_length(tag).expect("the tag is known")];
         self.store(tag, &mut record);
@@ -375,7 +376,7 @@ impl Answer {
     }
 
     /// Writes the answer to a call of a known tag over bytes of the record's length. The answer's kind decides its
-    /// widths, so that where it is known there is direct code for it.
+    /// widths, so there is direct code where the kind is known.
     #[inline(always)]
     pub fn store(&self, tag: u8, record: &mut [u8]) {
         match *self {

@@ -37,7 +37,7 @@ pub const NANOSECONDS_PER_SECOND: u32 = 1_000_000_000;
 /// The rates of boards, in cycles a second: S-7's three. Document 01's F is the board's rate.
 pub const RATES: [u32; 3] = [1_000_000, 12_000_000, DEFAULT_RATE];
 
-/// The rate of a fresh board without a given rate, and of a board whose image has none, S-1's form.
+/// The rate of a fresh board without a given rate, and of a board whose image has none (S-1's form).
 pub const DEFAULT_RATE: u32 = 48_000_000;
 
 /// The result of a run besides the board and the answers.
@@ -60,8 +60,8 @@ impl Outcome {
         self.refusal.map_or(0, Refusal::number)
     }
 
-    /// The outcome of a list of which this part was run first, without a refusal, and then the rest into the rest of
-    /// the buffer.
+    /// The outcome of a list in two pieces: `self` is that of the first, which was not refused, and `rest` that of the
+    /// second, run into the remaining buffer.
     pub fn then(self, rest: Self) -> Self {
         Self {
             calls: self.calls + rest.calls,

@@ -3,11 +3,12 @@
 use std::error::Error;
 use std::fmt;
 
-/// Why a run stopped before the end of its list, why a direct call was not carried out, why a board was not made, not
-/// parked or an image not read or not moved, or why totals were not previewed. Numbers 1 to 11 are document 01's, 12 is
-/// that of the request for parked boards, S-1, 13 that of the request for skips that get there, S-2, 14 that of the
-/// request for previews, S-6, 15 that of the request for three clock rates, S-7, and 16 that of the request for parked
-/// boards with a rate, S-8; so are the words in quotes.
+/// Why something was refused: a run before the end of its list, a direct call, the making or parking of a board, the
+/// reading or moving of an image, or a preview.
+///
+/// Numbers 1 to 11 are document 01's. The others come from requests: 12 from S-1, parked boards; 13 from S-2, skips
+/// that get there; 14 from S-6, previews; 15 from S-7, three clock rates; 16 from S-8, parked boards with a rate. The
+/// words in quotes come from the same places.
 #[derive(Clone, Copy, Debug, PartialEq, Eq, PartialOrd, Ord, Hash)]
 #[repr(u8)]
 pub enum Refusal {
@@ -27,12 +28,12 @@ pub enum Refusal {
     NanosecondsOutOfRange = 7,
     /// Source: 'number > 15'.
     SourceOutOfRange = 8,
-    /// Source: 'number 3', which is set to the line.
+    /// Source: 'number 3', which the board sets to the line.
     ReservedSource = 9,
     /// Source: 'level above 1'.
     LevelOutOfRange = 10,
-    /// In a run: 'answer longer than the buffer's rest'. Where a board is parked or an image moved, and for previews:
-    /// 'a short buffer', with fewer bytes than the image has or than there are totals.
+    /// In a run: 'answer longer than the buffer's rest'. When a board is parked, an image moved or totals previewed: 'a
+    /// short buffer', one with fewer bytes than the image has or than there are totals.
     BufferTooSmall = 11,
     /// An image that is read, run over, previewed or moved: 'a field missing, cut, out of order, of wrong length, a
     /// flag above 1, or bytes over', in both forms; for a move, also 'one already in the target form'.
@@ -41,8 +42,8 @@ pub enum Refusal {
     DeadlineTooLarge = 13,
     /// Previews: 'the clock is enabled in realtime'.
     ClockInRealtime = 14,
-    /// A fresh board, to be run or to be parked: 'another rate' than [`RATES`](crate::RATES). A board that is there is
-    /// not refused with it when it is parked.
+    /// A fresh board, to be run or parked: 'another rate' than [`RATES`](crate::RATES). Parking an existing board does
+    /// not give this refusal.
     UnsupportedRate = 15,
     /// 'Another rate moved back or parked in the old form', which has no rate: its board is at
     /// [`DEFAULT_RATE`](crate::DEFAULT_RATE).
@@ -75,7 +76,7 @@ impl Refusal {
         self as u8
     }
 
-    /// The refusal of a number; none for 0, which is no refusal, and for numbers above 16.
+    /// The refusal with a number; none for 0, which is no refusal, and for numbers above 16.
     pub fn from_number(number: u8) -> Option<Self> {
         let place = usize::from(number).checked_sub(1)?;
         Self::ALL.get(place).copied()

@@ -1,4 +1,4 @@
-//! The bytes of every call and answer, and what is none.
+//! The bytes of every call and answer, and bytes that are neither.
 
 use calls::{
     answers, list_of, tags, Answer, Call, DamagedAnswers, Fault, Outcome, Refusal, HEADER_LENGTH, LINE_SOURCE,
@@ -18,7 +18,7 @@ fn examples() -> Vec<(Call, Vec<u8>, Answer, Vec<u8>)> {
     };
     let mut deadline_bytes = vec![5, 0, 25];
     deadline_bytes.extend(1..=25);
-    // The largest count, 2^64, and three that stand in their lower eight bytes.
+    // The largest count, 2^64, and three that fit in the lower eight bytes.
     let advance = Answer::Advance {
         line: true,
         matches: [

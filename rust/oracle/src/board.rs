@@ -15,29 +15,29 @@ use crate::matches;
 use crate::registers::CHANNELS;
 use crate::timing::{At1, At12, At48, Timing};
 
-/// A board at the rate of a build of timing.rs. One that is not sound stays as its fields: every call refuses it, and
-/// the Rust cannot hold all of them, such as a negative zero offset or a value in an empty latch.
+/// A board at the rate of a build of timing.rs. A board that is not sound is kept as its fields: every call refuses it,
+/// and the Rust cannot hold all such fields, for instance a negative zero offset or a value in an empty latch.
 pub enum BoardAt<T> {
     Sound(Devices<T>),
     Unsound(Box<Fields>),
 }
 
-/// A board of which no rate is said.
+/// A board without a given rate.
 pub type Board = BoardAt<At48>;
 
-/// The parts of a sound board.
+/// The devices and the host time of a sound board.
 pub struct Devices<T> {
     timing: T,
-    // In a cell because the levels are read by operations that alter it for a moment.
+    // In a cell because reading the levels alters the controller for a moment.
     controller: RefCell<IrqController>,
     host_seconds: u64,
     host_nanoseconds: u32,
 }
 
-/// A call that is not refused, and what its refusal was decided from.
+/// A call that is not refused, with what was worked out to accept it.
 pub(crate) struct Accepted {
     call: Call,
-    /// The cycles that a skip passes, 0 where it makes no advance; 0 of another call.
+    /// The cycles that a skip passes, 0 where it makes no advance; 0 for any other call.
     passed: u64,
 }
 
@@ -59,7 +59,7 @@ impl<T: Timing> BoardAt<T> {
         })
     }
 
-    /// The board with the given fields, which are of this rate where they are sound.
+    /// The board with the given fields, which must be of this rate where they are sound.
     pub fn from_fields(fields: &Fields) -> Self {
         if fields.sound() {
             assert_eq!(fields.rate, T::RATE, "a sound board is made at its own rate");
@@ -77,12 +77,12 @@ impl<T: Timing> BoardAt<T> {
         }
     }
 
-    /// Document 01's sound, found from the fields as they now are.
+    /// Whether the board is sound by document 01, from the fields as they are now.
     pub fn sound(&self) -> bool {
         self.fields().sound()
     }
 
-    /// A direct call. A refused one leaves the board as it was and answers with zeros.
+    /// A direct call. A refused one leaves the board unchanged and answers with zeros.
     pub fn call(&mut self, call: Call) -> Reply {
         let before = self.fields();
         let answer = match self {
@@ -152,14 +152,14 @@ impl<T: Timing> Devices<T> {
         Ok(Accepted { call, passed })
     }
 
-    /// The cycles that a skip passes: 0 with the line high or no D, else D, which is never 0; or 13, with D above
-    /// 2^64 - 1.
+    /// The cycles that a skip passes: 0 with the line high or without a D, else D, which is never 0. Refused with 13
+    /// where D is above 2^64 - 1.
     fn cycles_to_skip(&self) -> Result<u64, Refusal> {
         if self.timing.irq_asserted() {
             return Ok(0);
         }
         match self.timing.cycles_until_irq() {
-            // The Rust's figure is the smaller of D and 2^64 - 1. Below that it is D, and D itself need not be asked.
+            // The Rust's figure is the smaller of D and 2^64 - 1. Below that it is D, and D need not be worked out.
             Some(u64::MAX) if self.exact_deadline() > Some(u64::MAX.into()) => Err(Refusal::DeadlineTooLarge),
             cycles => Ok(cycles.unwrap_or(0)),
         }
@@ -216,7 +216,7 @@ impl<T: Timing> Devices<T> {
         }
     }
 
-    /// Document 01's D. It is not the Rust's, and seldom asked: in line, it would lengthen a run's other calls.
+    /// Document 01's D. The Rust has none, and it is seldom needed: inlined, it would slow a run's other calls.
     #[inline(never)]
     fn exact_deadline(&self) -> Option<u128> {
         let mut fields = Fields::fresh_at(T::RATE);
@@ -247,7 +247,7 @@ impl<T: Timing> Devices<T> {
     }
 }
 
-/// A board of any of the three rates, for what chooses the rate while it runs. What is measured does not go by it.
+/// A board of any of the three rates, for programs that choose the rate while they run. Measured runs do not use it.
 pub enum AnyBoard {
     At1(BoardAt<At1>),
     At12(BoardAt<At12>),
@@ -266,12 +266,12 @@ macro_rules! at_its_rate {
 }
 
 impl AnyBoard {
-    /// Document 01's fresh board, of which no rate is said.
+    /// Document 01's fresh board, without a given rate.
     pub fn fresh() -> Self {
         Self::At48(Board::fresh())
     }
 
-    /// A fresh board of a rate; with another rate than the three, 15 beside a fresh board of which no rate is said.
+    /// A fresh board at a rate. For a rate other than the three, refusal 15 and a fresh board without a given rate.
     pub fn fresh_at(rate: u32) -> (Self, Option<Refusal>) {
         match rate {
             At1::RATE => (Self::At1(BoardAt::fresh()), None),
@@ -281,7 +281,7 @@ impl AnyBoard {
         }
     }
 
-    /// The board with the given fields. One of another rate than the three is not sound.
+    /// The board with the given fields. One at a rate other than the three is not sound.
     pub fn from_fields(fields: &Fields) -> Self {
         match fields.rate {
             At1::RATE => Self::At1(BoardAt::from_fields(fields)),
@@ -295,7 +295,7 @@ impl AnyBoard {
         at_its_rate!(self, board => board.fields())
     }
 
-    /// Document 01's sound, found from the fields as they now are.
+    /// Whether the board is sound by document 01, from the fields as they are now.
     pub fn sound(&self) -> bool {
         self.fields().sound()
     }
@@ -310,7 +310,7 @@ impl AnyBoard {
         at_its_rate!(self, board => board.refusal(call))
     }
 
-    /// The line after an advance of a copy of the originals' state; of a board that is not sound there is none.
+    /// The line after an advance of a copy of the originals' state. Panics where the board is not sound.
     pub fn line_after(&self, cycles: u64) -> bool {
         at_its_rate!(self, board => match board {
             BoardAt::Sound(devices) => devices.line_after(cycles),

@@ -17,7 +17,7 @@ pub trait Device {
 pub struct Bus;
 
 impl Bus {
-    /// Of the state of any build of timing.rs.
+    /// For the state of any build of timing.rs.
     pub(crate) fn attach_pec_timing<State>(&mut self, _state: Rc<RefCell<State>>) {}
 
     pub fn add_device(&mut self, _base: u32, _name: &str, _device: Box<dyn Device>) {}

@@ -36,8 +36,8 @@ pub struct Pair {
 /// How much was compared.
 #[derive(Clone, Copy, Debug, Default, PartialEq, Eq)]
 pub struct Count {
-    /// Outcomes and buffers of a run, results of an operation, images that were moved or parked, the dispatcher's turns
-    /// on a controller, or the previews of some totals, found equal.
+    /// Equal outcomes and buffers of a run, results of an operation, images moved or parked, turns of the dispatcher on
+    /// one controller, or previews of some totals.
     pub comparisons: u64,
     /// The calls that the compared runs carried out.
     pub calls: u64,
@@ -50,8 +50,8 @@ impl Count {
     }
 }
 
-/// The comparisons of all members, which are shared out over the machine's processors: each takes the next one in turn.
-/// Where one finds a difference, all stop.
+/// The comparisons of all members, shared out over the machine's processors: each takes the next one. Where one finds a
+/// difference, all stop.
 pub fn shared<T, E: Send>(
     members: impl Iterator<Item = T> + Send,
     compare: impl Fn(T) -> Result<Count, E> + Sync,
@@ -106,14 +106,14 @@ pub struct Difference {
 }
 
 impl Pair {
-    /// The Rust at a rate, one of the three, and another board of it.
+    /// The Rust at a rate, one of the three, and another board at it.
     pub fn at(rate: u32, other: Runner) -> Self {
         let rust = list::runner(rate).expect("the rate is one of the three");
         Self { rate, rust, other }
     }
 
-    /// Compares the outcome and the whole buffer of a list over a fresh board, `second` being none, or of a second
-    /// list over the board that the first leaves. Gives the calls that the last list carried out.
+    /// Compares the outcome and the whole buffer: of a list over a fresh board where `second` is none, else of `second`
+    /// over the board that the first list leaves. Gives the calls that the last list carried out.
     pub fn compare(&self, first: &[u8], second: Option<&[u8]>, buffer: usize) -> Result<Count, Box<Difference>> {
         let (rust, other) = self.run(first, second, buffer);
         if rust == other {
@@ -139,7 +139,7 @@ impl Pair {
         rust != other
     }
 
-    /// The same difference with every call left out that it does not need.
+    /// The same difference without the calls that it does not need.
     fn shortened(&self, first: &[u8], second: Option<&[u8]>, buffer: usize) -> Difference {
         let first = shortest(first, |list| self.differ(list, second, buffer));
         let second = second.map(|second| shortest(second, |list| self.differ(&first, Some(list), buffer)));
@@ -155,8 +155,8 @@ impl Pair {
     }
 }
 
-/// The list with calls left out, as long as `fails` holds of it: at the end it fails, and no call of it can be left
-/// out. Where few calls are left, no shorter list of some of them fails.
+/// Leaves calls out of a list as long as `fails` holds of it: the list that remains fails, and no one call of it can be
+/// left out. Where few calls remain, no shorter choice of them fails.
 pub fn shortest(list: &[u8], fails: impl Fn(&[u8]) -> bool) -> Vec<u8> {
     let mut parts = calls_of(list);
     let mut size = parts.len();
@@ -173,7 +173,7 @@ pub fn shortest(list: &[u8], fails: impl Fn(&[u8]) -> bool) -> Vec<u8> {
                 start = end;
             }
         }
-        // A call that was needed may not be any more once a later one is gone.
+        // A call that was needed may be needless once a later one is gone.
         if !removed || size > 1 {
             size /= 2;
         }
@@ -191,10 +191,10 @@ pub fn shortest(list: &[u8], fails: impl Fn(&[u8]) -> bool) -> Vec<u8> {
     found.unwrap_or_else(|| parts.concat())
 }
 
-/// So many calls that every choice of them can be tried.
+/// As many calls as allow every choice of them to be tried.
 const FEW: usize = 14;
 
-/// The calls of a list as bytes; what is not a whole call is the last part.
+/// The calls of a list as bytes; bytes that are not a whole call are the last piece.
 fn calls_of(mut list: &[u8]) -> Vec<Vec<u8>> {
     let mut parts = Vec::new();
     while let Ok((_, used)) = Call::decode(list) {
@@ -210,9 +210,9 @@ fn calls_of(mut list: &[u8]) -> Vec<Vec<u8>> {
     parts
 }
 
-/// Lists that show what a board holds, each to be run over the board as it is left: the line; the deadline and the
-/// controller; the latches, by reading them out, and then every register byte; the registers backwards, so that a
-/// latch is filled before its words are read.
+/// Lists that show what a board holds, each run over the board as it is left: the line; the deadline and the
+/// controller; the latches, by reading them out, and then every register byte; the registers backwards, so that a latch
+/// is filled before its words are read.
 pub fn readouts() -> [Vec<u8>; 4] {
     let read = |address| Call::Read { address };
     let line = [Call::Advance { cycles: 0 }];

@@ -1,10 +1,9 @@
-//! The dispatcher above the controller: a second writing of the rule of the request for fair turns, S-3. The Rust has
-//! no dispatcher.
+//! The dispatcher above the controller: S-3's rule for fair turns, written a second time. The Rust has no dispatcher.
 
-/// The number that a fresh dispatcher remembers, and the highest of a source.
+/// The number that a fresh dispatcher remembers, which is the highest of a source.
 pub const FRESH: u8 = 15;
 
-/// What a turn leaves and says.
+/// What a turn leaves and gives.
 #[derive(Clone, Copy, Debug, PartialEq, Eq)]
 pub struct Turn {
     /// Pending, enable and levels after it.
@@ -15,8 +14,8 @@ pub struct Turn {
     pub remembered: u8,
 }
 
-/// One turn on pending, enable and levels, after a remembered number. The candidates are the sixteen sources from the
-/// one after that number on, going round, so that its own comes last.
+/// One turn on pending, enable and levels, after a remembered number. The candidates are the sixteen sources, starting
+/// after that number and going round, so its own comes last.
 pub fn turn([pending, enable, levels]: [u16; 3], last: u8) -> Turn {
     let last = if last > FRESH { FRESH } else { last };
     for later in 1..=16 {

@@ -1,5 +1,5 @@
-//! Every field of the board, the rate and then in document 01's order, and what document 01 says of them: sound, the
-//! line and the time. Written from that document, not from the Rust.
+//! Every field of the board, first the rate and then document 01's in their order, and what document 01 says of them:
+//! sound, the line and the time. Written from that document, not from the Rust.
 
 use calls::{DEFAULT_RATE, NANOSECONDS_PER_SECOND, RATES};
 
@@ -93,7 +93,7 @@ impl Fields {
         Self::fresh_at(DEFAULT_RATE)
     }
 
-    /// The same at a rate, of the three or not.
+    /// The same at a rate, one of the three or not.
     pub fn fresh_at(rate: u32) -> Self {
         Self {
             rate,

@@ -11,7 +11,7 @@ use crate::writes;
 const BUFFER: usize = 32_768;
 const SECOND: i128 = NANOSECONDS_PER_SECOND as i128;
 
-/// Numbers at which some rule changes for a board of a rate; neighbours are taken too.
+/// Numbers at which some rule changes for a board at a rate; their neighbours are used too.
 fn limits(rate: u32) -> [u64; 9] {
     [
         0,
@@ -33,12 +33,12 @@ pub struct Random {
 }
 
 impl Random {
-    /// For boards of which no rate is said.
+    /// For boards without a given rate.
     pub fn new(seed: u64) -> Self {
         Self::at(DEFAULT_RATE, seed)
     }
 
-    /// For boards of a rate, one of the three.
+    /// For boards at a rate, one of the three.
     pub fn at(rate: u32, seed: u64) -> Self {
         Self { state: seed, rate }
     }
@@ -191,7 +191,7 @@ impl Random {
         fields
     }
 
-    /// Any call, at times a refused one, on its own and without regard to a board.
+    /// Any call, at times a refused one, chosen without regard to a board.
     pub fn call(&mut self) -> Call {
         let address = match self.below(8) {
             0 => self.number() as u16,
@@ -243,12 +243,12 @@ pub struct Generated {
     pub buffer: usize,
 }
 
-/// The list of a seed, for a board of which no rate is said.
+/// The list of a seed, for a board without a given rate.
 pub fn list(seed: u64) -> Generated {
     list_at(DEFAULT_RATE, seed)
 }
 
-/// The list of a seed, for a board of a rate, one of the three.
+/// The list of a seed, for a board at a rate, one of the three.
 pub fn list_at(rate: u32, seed: u64) -> Generated {
     let mut generator = Generator {
         random: Random::at(rate, seed),
@@ -263,8 +263,8 @@ pub fn list_at(rate: u32, seed: u64) -> Generated {
     generator.finish()
 }
 
-/// Builds a list for a fresh board. Each call is carried out at once, so that later ones can be chosen
-/// near what the board then holds.
+/// Builds a list for a fresh board. Each call is carried out at once, so that later ones can be chosen near what the
+/// board then holds.
 struct Generator {
     random: Random,
     board: AnyBoard,
@@ -360,7 +360,7 @@ impl Generator {
         }
     }
 
-    /// Makes some channels periodic, from 0 or from where they stand, and passes over many of their points in one
+    /// Makes some channels periodic, from 0 or from their present counters, and passes many of their points in one
     /// advance.
     fn pass_periods(&mut self) {
         for _ in 0..1 + self.random.below(3) {
@@ -380,7 +380,7 @@ impl Generator {
         self.call(Call::Advance { cycles });
     }
 
-    /// Cycles after which a channel, if it is periodic and runs, has met so many points; else any number.
+    /// Cycles after which a channel, if it is periodic and runs, has met a number of points; else any number.
     fn cycles_over_periods(&mut self) -> u64 {
         let fields = self.board.fields();
         let periods = self.random.number();
@@ -398,7 +398,7 @@ impl Generator {
         about.saturating_add(self.random.below(3)).saturating_sub(1)
     }
 
-    /// Writes eight bytes in some order, the first once more at times.
+    /// Writes eight bytes in some order, at times the first one twice.
     fn write_shuffled(&mut self, low: u16, high: u16, value: u64) {
         let mut bytes: Vec<(u16, u8)> = (high..high + 4).chain(low..low + 4).zip(value.to_be_bytes()).collect();
         self.random.shuffle(&mut bytes);
@@ -458,7 +458,7 @@ impl Generator {
         });
     }
 
-    /// An advance by any number, or about the deadline, the end of the second, the poll or a channel's later point.
+    /// An advance by any number, or to about the deadline, the end of the second, the poll or a channel's later point.
     fn advance(&mut self) {
         let fields = self.board.fields();
         let deadline = deadline::exact(&fields).and_then(|cycles| u64::try_from(cycles).ok());
@@ -500,7 +500,7 @@ impl Generator {
         }
     }
 
-    /// A skip. A refused one ends the run, so that it is seldom left in the list.
+    /// A skip. A refused one ends the run, so it is seldom left in the list.
     fn skip(&mut self) {
         if self.board.refusal(Call::Skip).is_none() || self.random.once_in(8) {
             self.call(Call::Skip);
@@ -580,7 +580,7 @@ impl Generator {
         }
     }
 
-    /// A call with a refusal of its own, a skip where the board refuses it, and perhaps a call after it.
+    /// A call with its own refusal, or a skip where the board refuses it, and perhaps a call after it.
     fn refused_call(&mut self) {
         let seconds = self.random.number();
         let nanoseconds = self.random.pick(&[NANOSECONDS_PER_SECOND, u32::MAX]);

@@ -1,6 +1,5 @@
 //! Parked boards: the image of a board in either form, the reading of one, the moves from form to form, and what the
-//! library's functions on images do. Written from the sentences of the requests, S-1 and S-8, and from document 01's
-//! list of fields.
+//! library's functions on images do. Written from the requests S-1 and S-8 and from document 01's list of fields.
 
 use calls::{Outcome, Refusal, DEFAULT_RATE, RATES};
 
@@ -12,12 +11,12 @@ use crate::fields::{Channel, Fields, Latch};
 pub enum Form {
     /// S-1's, seven fields without a rate: its board is at 48,000,000.
     Old,
-    /// S-8's, which begins with a field of the rate, and goes on as the old one.
+    /// S-8's: a field with the rate, and then the fields of the old form.
     New,
 }
 
 impl Form {
-    /// Both.
+    /// Both forms.
     pub const ALL: [Self; 2] = [Self::Old, Self::New];
 
     /// The bytes of an image.
@@ -36,7 +35,7 @@ const CLOCK: u8 = 0x21;
 const LATCHES: u8 = 0x22;
 const CONTROLLER: u8 = 0x23;
 
-/// The lengths of the fields' members: the rate's four bytes, and the others added up from document 01's widths.
+/// The lengths of the fields' members: four bytes for the rate, the others summed from document 01's widths.
 const RATE_LENGTH: u16 = 4;
 const CHANNEL_LENGTH: u16 = 1 + 8 + 8 + 8 + 4 + 4 + 1 + 1;
 const CLOCK_LENGTH: u16 = 1 + (1 + 8 + 4) + (1 + 8 + 4) + (1 + 8 + 1 + 1) + (8 + 1) + 4 + (8 + 1) + (8 + 4);
@@ -50,7 +49,7 @@ pub const OLD_IMAGE_SIZE: usize =
 /// The bytes of an image of the new form.
 pub const IMAGE_SIZE: usize = 3 + RATE_LENGTH as usize + OLD_IMAGE_SIZE;
 
-/// The image of a board in a form, sound or not. In the old form it is the same whatever the rate.
+/// The image of a board in a form, sound or not. The old form is the same at every rate.
 pub fn image_of(form: Form, fields: &Fields) -> Vec<u8> {
     let mut image = Vec::with_capacity(form.size());
     if form == Form::New {
@@ -130,7 +129,7 @@ pub fn read_image(image: &[u8]) -> Result<(Form, Fields), Refusal> {
     }
 }
 
-/// The form of an image and the fields that it says, sound or not; none where it has neither form.
+/// The form of an image and its fields, sound or not; none where it has neither form.
 fn formed(image: &[u8]) -> Option<(Form, Fields)> {
     let new = new_form(Members(image)).map(|fields| (Form::New, fields));
     let old = old_form(Members(image)).map(|fields| (Form::Old, fields));
@@ -210,7 +209,7 @@ fn channel(image: &mut Members) -> Option<Channel> {
     Some(channel)
 }
 
-/// Bytes that are taken from their front, member by member; none where they are too few.
+/// Bytes that are taken from the start, member by member; none where they are too few.
 struct Members<'a>(&'a [u8]);
 
 impl<'a> Members<'a> {
@@ -252,7 +251,7 @@ impl<'a> Members<'a> {
         })
     }
 
-    /// The members of the field in front, which must have this tag and this length.
+    /// The members of the first field, which must have this tag and this length.
     fn field(&mut self, tag: u8, length: u16) -> Option<Members<'a>> {
         if self.byte()? != tag || self.two()? != length {
             return None;
@@ -262,19 +261,19 @@ impl<'a> Members<'a> {
         Some(Members(members))
     }
 
-    /// No bytes are over.
+    /// No bytes may be left.
     fn end(&self) -> Option<()> {
         self.0.is_empty().then_some(())
     }
 }
 
-/// Parks a fresh board of which no rate is said at the start of a buffer, in the new form.
+/// Parks a fresh board without a given rate at the start of a buffer, in the new form.
 pub fn park_fresh(buffer: &mut [u8]) -> Result<usize, Refusal> {
     park(Form::New, &Fields::fresh(), buffer)
 }
 
-/// Parks a fresh board of a rate at the start of a buffer, in the new form; or 15 of another rate than the three, which
-/// comes before all else.
+/// Parks a fresh board at a rate at the start of a buffer, in the new form. A rate other than the three is refused with
+/// 15, before all else.
 pub fn park_fresh_at(rate: u32, buffer: &mut [u8]) -> Result<usize, Refusal> {
     if !RATES.contains(&rate) {
         return Err(Refusal::UnsupportedRate);
@@ -282,8 +281,8 @@ pub fn park_fresh_at(rate: u32, buffer: &mut [u8]) -> Result<usize, Refusal> {
     park(Form::New, &Fields::fresh_at(rate), buffer)
 }
 
-/// Parks a board in a form at the start of a buffer and gives the bytes written; or 1, then 16 of another rate than
-/// 48,000,000 in the old form, then 11, a short buffer, which leave the buffer as it is.
+/// Parks a board in a form at the start of a buffer and gives the bytes written. Refused, it leaves the buffer: with 1;
+/// else with 16, a rate other than 48,000,000 in the old form; else with 11, a short buffer.
 pub fn park(form: Form, fields: &Fields, buffer: &mut [u8]) -> Result<usize, Refusal> {
     if !fields.sound() {
         return Err(Refusal::UnsoundBoard);
@@ -297,8 +296,8 @@ pub fn park(form: Form, fields: &Fields, buffer: &mut [u8]) -> Result<usize, Ref
     Ok(image.len())
 }
 
-/// Moves an image to a form, at the start of a buffer, and gives the bytes written; or 12, also of an image that has
-/// that form already; or else what parking its board in that form is refused with. Refused, it leaves the buffer.
+/// Moves an image to a form, at the start of a buffer, and gives the bytes written. Refused, it leaves the buffer: with
+/// 12, also where the image has that form already; else as parking its board in that form is.
 pub fn move_image(to: Form, image: &[u8], buffer: &mut [u8]) -> Result<usize, Refusal> {
     let (form, fields) = formed(image).ok_or(Refusal::MalformedImage)?;
     if form == to {
@@ -322,8 +321,8 @@ pub fn image_form(image: &[u8]) -> Result<Form, Refusal> {
     read_image(image).map(|(form, _)| form)
 }
 
-/// Runs a list over the board of an image and puts the image of the board that the run left in its place, in the form
-/// that it had; a refused image changes nothing.
+/// Runs a list over the board of an image and replaces the image by that of the board that the run leaves, in the same
+/// form. A refused image changes nothing.
 pub fn run_parked(image: &mut [u8], list: &[u8], answers: &mut [u8]) -> Outcome {
     let (form, fields) = match read_image(image) {
         Ok(read) => read,

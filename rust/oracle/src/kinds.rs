@@ -1,5 +1,5 @@
-//! The kinds of list that are measured, at a rate, and the groups of operations: `bench` takes their time,
-//! `instructions` counts their instructions.
+//! The kinds of list that are measured, at a rate, and the groups of operations: `bench` times them, `instructions`
+//! counts their instructions.
 
 #[cfg(feature = "proved")]
 pub mod parking;
@@ -16,7 +16,7 @@ use crate::writes::{alarm, byte, program, RUNNING};
 
 /// The calls of a measured list.
 pub const CALLS: usize = 4_000;
-/// The calls that one repeat of a benchmark carries out, about.
+/// About how many calls one repeat of a benchmark carries out.
 const WORK: usize = 4_000_000;
 /// Room for the answers of a list; the longest, an advance's, has 68 bytes.
 pub const BUFFER: usize = 72 * CALLS;
@@ -29,15 +29,15 @@ pub struct Kind {
     pub times: u64,
 }
 
-/// An operation, and what carries it out so many times.
+/// An operation, and the function that carries it out a number of times.
 pub struct Operation {
     pub name: &'static str,
     pub repeat: fn(u64),
 }
 
-/// Operations that are measured beside each other. The last is what the others are held against.
+/// Operations that are measured side by side. The others are compared with the last.
 pub struct Group {
-    /// What `bench` and `instructions` call it.
+    /// Its name in `bench` and `instructions`.
     pub name: &'static str,
     /// What is printed above its table.
     pub title: &'static str,
@@ -50,16 +50,15 @@ pub struct Group {
 #[cfg(feature = "proved")]
 pub const GROUPS: [Group; 2] = [parking::GROUP, previews::GROUP];
 
-/// The kind of a name for boards of a rate, or every kind where no name is given; nothing where there is none of that
-/// name.
+/// The kind with a name for boards at a rate, or every kind where no name is given; none where no kind has that name.
 pub fn named(rate: u32, wanted: Option<&str>) -> Vec<Kind> {
     let mut kinds = kinds(rate);
     kinds.retain(|kind| wanted.is_none_or(|wanted| wanted == kind.name));
     kinds
 }
 
-/// The group of a name, or every group where none is given; nothing where there is none of that name, or at another
-/// rate than that of the board which the operations are on.
+/// The group with a name, or every group where no name is given; none where no group has that name, or at a rate other
+/// than that of the operations' board.
 #[cfg(feature = "proved")]
 pub fn groups(rate: u32, wanted: Option<&str>) -> Vec<Group> {
     let mut groups = Vec::from(GROUPS);
@@ -67,7 +66,7 @@ pub fn groups(rate: u32, wanted: Option<&str>) -> Vec<Group> {
     groups
 }
 
-/// Four channels in modes 1 and 2 that match now and then, and a clock whose alarm is far off.
+/// Four channels in modes 1 and 2 that match at times, and a clock whose alarm is far off.
 fn running(prescaler: u32) -> Vec<Call> {
     let mut calls = Vec::new();
     for number in 0..CHANNELS {
@@ -125,8 +124,8 @@ fn kinds(rate: u32) -> Vec<Kind> {
         kind("skip", running(0), skips.clone()),
         kind("mixed", running(0), mixed),
     ];
-    // One channel of which every number is a compare point, by a cycle and by 2^40 in turn. In the two million pairs of
-    // a benchmark its counter stays below 2^61, so that it is not switched off.
+    // One channel for which every number is a compare point, advanced by a cycle and by 2^40 in turn. In the two
+    // million pairs of a benchmark its counter stays below 2^61, so it is not switched off.
     let mut every_number = program(0, RUNNING | 1, 0, 1, 1);
     every_number.push(byte(registers::ENABLE + 3, 1));
     let burst = [1, 1 << 40].map(|cycles| Call::Advance { cycles });

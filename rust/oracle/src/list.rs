@@ -9,8 +9,8 @@ use crate::timing::{At1, At12, At48, Timing};
 /// The tag of an advance.
 const ADVANCE: u8 = 0x04;
 
-/// Runs the list. The buffer then holds the answers from its first byte, then its old bytes. Each advance is run by
-/// itself, and its counts are found from the channels before and after it.
+/// Runs the list. The buffer then holds the answers from its first byte, and after them its old bytes. Each advance is
+/// run by itself, and its counts are found from the channels before and after it.
 pub fn run<T: Timing>(board: &mut BoardAt<T>, list: &[u8], answers: &mut [u8]) -> Outcome {
     let mut total = Outcome::default();
     loop {
@@ -30,8 +30,8 @@ pub fn run<T: Timing>(board: &mut BoardAt<T>, list: &[u8], answers: &mut [u8]) -
     }
 }
 
-/// The length of a list's first part: an advance, or the calls up to one. The calls are found by the lengths that they
-/// say; a run of the part ends at one whose length is wrong. What is no whole call belongs to the last part.
+/// The length of a list's first piece: an advance, or the calls up to one. Calls are found by the lengths that they
+/// give; a run of the piece ends at one whose length is wrong. Bytes that are no whole call belong to the last piece.
 fn part_length(list: &[u8]) -> usize {
     let mut end = 0;
     while let Some(&[tag, high, low, ..]) = list.get(end..) {
@@ -47,8 +47,8 @@ fn part_length(list: &[u8]) -> usize {
 }
 
 /// Runs the list with zeros in the place of an advance's counts. The Rust has no counts, so this is the run whose time
-/// and instructions are measured. It is the only loop over calls of a rate: beside a second one the compiler would not
-/// inline the Rust into either, and the Rust would be measured at half its speed.
+/// and instructions are measured. It is the only loop over the calls of a rate: beside a second one the compiler would
+/// not inline the Rust into either, and the Rust would be measured at half its speed.
 fn run_uncounted<T: Timing>(board: &mut BoardAt<T>, list: &[u8], answers: &mut [u8]) -> Outcome {
     let mut outcome = Outcome::default();
     let sound = board.sound();
@@ -81,16 +81,16 @@ fn run_uncounted<T: Timing>(board: &mut BoardAt<T>, list: &[u8], answers: &mut [
     outcome
 }
 
-/// What runs `first` over a fresh board, and then `list` so many times, each time over the board that the run before it
+/// Runs `first` over a fresh board and then `list` a number of times, each time over the board that the run before it
 /// left. The outcome is the last run's.
 pub type Runner = fn(&[u8], &[u8], u64, &mut [u8]) -> Outcome;
 
-/// The runner of a board of which no rate is said.
+/// The runner of a board without a given rate.
 pub fn run_repeated(first: &[u8], list: &[u8], times: u64, answers: &mut [u8]) -> Outcome {
     repeated::<At48>(first, list, times, answers)
 }
 
-/// The runner at a rate; none where it is none of the three.
+/// The runner at a rate; none for a rate other than the three.
 pub fn runner(rate: u32) -> Option<Runner> {
     of_rate(rate, [repeated::<At1>, repeated::<At12>, repeated::<At48>])
 }
@@ -107,7 +107,7 @@ pub fn uncounted_runner(rate: u32) -> Option<Runner> {
     )
 }
 
-/// The runner of a rate among those of the three.
+/// The runner at a rate, from those of the three.
 pub(crate) fn of_rate(rate: u32, runners: [Runner; 3]) -> Option<Runner> {
     RATES
         .into_iter()
@@ -138,7 +138,7 @@ fn repeat<T: Timing>(
     outcome
 }
 
-/// Runs a list over a fresh board of a rate; another rate than the three is refused with 15, before all else.
+/// Runs a list over a fresh board at a rate; a rate other than the three is refused with 15, before all else.
 pub fn run_at(rate: u32, list: &[u8], answers: &mut [u8]) -> Outcome {
     match AnyBoard::fresh_at(rate) {
         (_, Some(refusal)) => refused(Outcome::default(), refusal),
@@ -146,7 +146,7 @@ pub fn run_at(rate: u32, list: &[u8], answers: &mut [u8]) -> Outcome {
     }
 }
 
-/// The same with a first list, and then a second so many times.
+/// The same with a first list, and then a second a number of times.
 pub fn run_repeated_at(rate: u32, first: &[u8], list: &[u8], times: u64, answers: &mut [u8]) -> Outcome {
     match runner(rate) {
         None => refused(Outcome::default(), Refusal::UnsupportedRate),

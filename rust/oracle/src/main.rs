@@ -36,7 +36,7 @@ fn usage() -> ExitCode {
     ExitCode::FAILURE
 }
 
-/// Standard input, read no further than shows that it is too long.
+/// Standard input, read only as far as shows whether it is too long.
 fn read_list() -> io::Result<Vec<u8>> {
     let mut list = Vec::new();
     io::stdin().take(LIMIT as u64 + 1).read_to_end(&mut list)?;

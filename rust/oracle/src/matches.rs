@@ -1,6 +1,6 @@
-//! How many compare points the channels met in an advance, the counts of the request for matches per advance, S-4. The
-//! Rust has no counts. These are the oracle's own reading of what an advance of the Rust changed in a channel, so that
-//! equal counts of the proved board are not agreement with the Rust.
+//! How many compare points the channels met in an advance: S-4's counts of matches per advance. The Rust has no counts.
+//! These are the oracle's own reading of what an advance of the Rust changed in a channel, so equal counts of the
+//! proved board are not agreement with the Rust.
 
 use calls::Answer;
 
@@ -29,7 +29,7 @@ fn met_by(before: &Channel, after: &Channel) -> u128 {
     }
 }
 
-/// The answer of a call with the counts of an advance between these channels; that of another call as it is.
+/// The answer of an advance with the counts between these channels; any other answer unchanged.
 pub fn counted(answer: Answer, before: &[Channel; CHANNELS], after: &[Channel; CHANNELS]) -> Answer {
     match answer {
         Answer::Advance { line, .. } => Answer::Advance {
@@ -40,7 +40,7 @@ pub fn counted(answer: Answer, before: &[Channel; CHANNELS], after: &[Channel; C
     }
 }
 
-/// Puts zeros in the place of the counts in some answers: what a run that does not count gives.
+/// Replaces the counts in some answers by zeros, as a run that does not count gives them.
 pub fn zero_counts(answers: &mut [u8]) {
     let mut at = 0;
     while at < answers.len() {

@@ -1,5 +1,5 @@
-//! What the programs that measure share: the rate that is asked for, repeats in nanoseconds, instructions that
-//! callgrind counts, and whether two builds of the library give the same answers.
+//! What the measuring programs share: the rate asked for, repeats in nanoseconds, instructions counted by callgrind,
+//! and whether two builds of the library give the same answers.
 
 use std::env;
 use std::iter;
@@ -10,12 +10,12 @@ use calls::{DEFAULT_RATE, HEADER_LENGTH, NANOSECONDS_PER_SECOND, RATES};
 /// How often each measured piece of work is timed.
 pub const REPEATS: usize = 25;
 
-/// The repetitions of a list in the two runs whose instructions are compared. The first repetition is in both: it
+/// The repetitions of a list in the two runs whose instructions are compared. Both have the first repetition, which
 /// leaves a board as the later ones find it.
 const REPETITIONS: [u64; 2] = [1, 9];
 
-/// The rate that arguments begin with, as `--rate RATE`, or else that of a board of which none is said; and the other
-/// arguments. An error where it is none of the three.
+/// The rate that the arguments begin with, as `--rate RATE`, or else the rate of a board without a given one; and the
+/// other arguments. An error where it is none of the three.
 pub fn rate_asked<'a>(arguments: &'a [&'a str]) -> Result<(u32, &'a [&'a str]), String> {
     match arguments {
         ["--rate", rate, others @ ..] => match rate.parse() {
@@ -31,12 +31,12 @@ pub fn sorted(mut values: Vec<f64>) -> Vec<f64> {
     values
 }
 
-/// The median of the ratios of repeats that stand next to each other.
+/// The median of the ratios of neighbouring repeats.
 pub fn median_ratio(seconds: &[f64], to: &[f64]) -> f64 {
     sorted(seconds.iter().zip(to).map(|(one, other)| one / other).collect())[REPEATS / 2]
 }
 
-/// Median and spread of some repeats in nanoseconds, for each of the times that one repeat did its work.
+/// Median and spread of some repeats in nanoseconds, for one of the times that a repeat does its work.
 pub fn nanoseconds_each(seconds: &[f64], times: u64) -> String {
     let seconds = sorted(seconds.to_vec());
     let scale = f64::from(NANOSECONDS_PER_SECOND) / times as f64;
@@ -45,8 +45,8 @@ pub fn nanoseconds_each(seconds: &[f64], times: u64) -> String {
 }
 
 /// The instructions of each of a repetition's calls or operations, to the nearest whole number: what the further
-/// repetitions add. So what both runs do does not count: the start, the making of the lists and the preparing of the
-/// board. What runs is this program with these arguments and, behind them, the number of repetitions.
+/// repetitions add. The work of both runs does not count: the start, the making of the lists and the preparing of the
+/// board. The program that runs is this one, with these arguments and then the number of repetitions.
 pub fn instructions_each(arguments: &[&str], count: usize) -> Result<u64, String> {
     let [fewer, more] = REPETITIONS;
     let added = instructions(arguments, more)? - instructions(arguments, fewer)?;
@@ -75,7 +75,8 @@ fn instructions(arguments: &[&str], times: u64) -> Result<u64, String> {
         .ok_or_else(|| format!("valgrind gave no count on {what}:\n{said}"))
 }
 
-/// Whether two lists of answers have the same tags and the same bytes, as far as the shorter answer of each two goes.
+/// Whether two buffers of answers have the same tags and the same bytes, as far as the shorter answer of each pair
+/// goes.
 pub fn agree(one: &[u8], other: &[u8]) -> bool {
     records(one).count() == records(other).count()
         && records(one).zip(records(other)).all(|(one, other)| {

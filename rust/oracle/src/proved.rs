@@ -4,12 +4,12 @@ use calls::{Outcome, DEFAULT_RATE, RATES};
 
 use crate::list::{of_rate, Runner};
 
-/// The runner at a rate, which is said to the library; none where it is none of the three.
+/// The runner at a rate, which is passed to the library; none for a rate other than the three.
 pub fn runner_at(rate: u32) -> Option<Runner> {
     of_rate(rate, [at::<{ RATES[0] }>, at::<{ RATES[1] }>, at::<{ RATES[2] }>])
 }
 
-/// The same, but that the library is not told of the rate that a board has of which none is said.
+/// The same, but at the rate of a board without a given one the library is passed none.
 pub fn runner(rate: u32) -> Option<Runner> {
     if rate == DEFAULT_RATE {
         Some(pec::run_repeated)

@@ -1,5 +1,5 @@
-//! The recording that the program `replay` replays: call lists by theme, from fixed seeds, and what the Rust
-//! answered. README.md has the layout of its files.
+//! The recording that the program `replay` replays: call lists by theme, from fixed seeds, and the Rust's answers.
+//! README.md has the layout of its files.
 
 use std::collections::BTreeSet;
 
@@ -16,7 +16,7 @@ use crate::writes::{alarm, byte, channel_due, word};
 pub const FILE_LIMIT: usize = 65_535;
 pub const BUFFER_LIMIT: usize = 32_768;
 
-/// The longest answer buffer of a mixed list; a list made to pass its buffer stays short by it.
+/// The longest answer buffer of a mixed list. It keeps a list that is made to pass its buffer short.
 const MIXED_BUFFER: usize = 4_096;
 
 /// A list to run on the fresh board with a timer enable, and the length of the buffer for its answers.
@@ -39,7 +39,7 @@ pub struct Recording {
     pub records: Vec<Record>,
 }
 
-/// What records have in them.
+/// What records cover.
 #[derive(Default)]
 pub struct Coverage {
     pub records: usize,
@@ -89,7 +89,7 @@ impl Start {
 }
 
 impl Record {
-    /// The record as it stands in a file.
+    /// The record's bytes in a file.
     fn encode(&self) -> Vec<u8> {
         let two = |number: usize| {
             u16::try_from(number)
@@ -122,7 +122,7 @@ impl Recording {
 }
 
 impl Coverage {
-    /// What the recordings have together.
+    /// What the recordings cover together.
     pub fn of<'a>(recordings: impl IntoIterator<Item = &'a Recording>) -> Self {
         let mut coverage = Self::default();
         for record in recordings.into_iter().flat_map(|recording| &recording.records) {
@@ -145,7 +145,7 @@ impl Coverage {
     }
 }
 
-/// The list of a seed, on a board whose timer enable is often 0, as the list was made for.
+/// The list of a seed, on a board whose timer enable is often 0, the one that the list was made for.
 fn mixed(seed: u64) -> Start {
     let generated = generate::list(seed);
     let mut random = Random::new(seed);
@@ -157,7 +157,7 @@ fn mixed(seed: u64) -> Start {
     }
 }
 
-/// Bytes of the answers of calls that are all done.
+/// The bytes of the answers of calls that are all done.
 fn answer_bytes(calls: &[Call]) -> usize {
     calls.iter().map(Call::answer_bytes).sum()
 }
@@ -240,7 +240,7 @@ enum Order {
     Shuffled,
 }
 
-/// Every address read, on boards that are moved on between the reads: often after one that fills a latch, so that the
+/// Every address read, on boards that are advanced between the reads: often after one that fills a latch, so that the
 /// latched word differs from the live one.
 fn registers_read(random: &mut Random) -> Vec<Start> {
     let mut starts = Vec::new();
@@ -307,7 +307,7 @@ fn accepted(random: &mut Random) -> Call {
     }
 }
 
-/// Refusals 1 to 10 and 13, each after up to three calls, and with a call behind it at times.
+/// Refusals 1 to 10 and 13, each after up to three calls, and at times with a call after it.
 fn refusals(random: &mut Random) -> Vec<Start> {
     let mut starts = Vec::new();
     // 1: the board is not sound, whatever the list and the buffer.
@@ -339,7 +339,7 @@ fn refusals(random: &mut Random) -> Vec<Start> {
         if whole_call && random.once_in(2) {
             Call::Output.encode_into(&mut list);
         }
-        // An exact buffer too: the refusals here come before 11.
+        // The buffer is at times exact: the refusals here come before 11.
         let more = random.below(40) as usize;
         starts.push(Start {
             timer_enable: random.below(16) as u8,
@@ -350,7 +350,7 @@ fn refusals(random: &mut Random) -> Vec<Start> {
     starts
 }
 
-/// Bytes that are refused with 2 to 10, and whether a call may stand behind them.
+/// Bytes that are refused with 2 to 10, and whether a call may follow them.
 fn refused_ends(random: &mut Random) -> Vec<(Vec<u8>, bool)> {
     let mut ends = Vec::new();
     // 2: one or two bytes left.
@@ -358,14 +358,14 @@ fn refused_ends(random: &mut Random) -> Vec<(Vec<u8>, bool)> {
         ends.push((vec![tag], false));
         ends.push((vec![tag, random.word() as u8], false));
     }
-    // 3: every unknown tag, under any length.
+    // 3: every unknown tag, with any length.
     for tag in (0..=0xFF).filter(|tag| value_length(*tag).is_none()) {
         let length = random.pick(&[0, 2, 8, 0xFF]);
         ends.push((vec![tag, 0, length], true));
     }
     for tag in tags() {
         let right = value_length(tag).expect("the tag is known") as u16;
-        // 4: a length about the right one, its value there or not.
+        // 4: a length about the right one, with its value or without.
         for length in (0..=13)
             .chain([right + 0x100, 0xFFFF])
             .filter(|length| *length != right)
@@ -442,9 +442,9 @@ fn refused_skips() -> Vec<Vec<Call>> {
     boards
 }
 
-/// Refusal 11 at every place: lists with every tag, into buffers of every length up to one byte more than needed. And a
-/// skip of 2^64 - 1 cycles, and one of 2^64, which is refused with 13, into buffers from the start of its record on; and
-/// an advance with the largest counts, into buffers without room for its record, a byte short, and with room.
+/// Refusal 11 at every place: lists with every tag, into buffers of every length up to one byte more than needed. Also
+/// a skip of 2^64 - 1 cycles, and one of 2^64, which is refused with 13, into buffers from the start of its record on;
+/// and an advance with the largest counts, into buffers without room for its record, a byte short, and with room.
 fn short_buffers(random: &mut Random) -> Vec<Start> {
     let mut starts = Vec::new();
     for _ in 0..3 {

@@ -2,7 +2,7 @@
 //! comes from the module that the text is built in, so that one text is built for each rate. build.rs makes them; the
 //! tests check that they are refused where the text is missing or doubled.
 
-/// A piece of timing.rs, to the letter, and what stands in its place.
+/// A piece of timing.rs, to the letter, and its replacement.
 pub struct Replacement {
     pub what: &'static str,
     pub original: &'static str,
@@ -31,7 +31,7 @@ pub const REPLACEMENTS: [Replacement; 2] = [
     },
 ];
 
-/// The text of timing.rs with both replaced; an error where one does not stand there exactly once.
+/// The text of timing.rs with both replaced; an error where one is not there exactly once.
 pub fn replace(text: &str) -> Result<String, String> {
     let mut text = text.to_string();
     for Replacement {

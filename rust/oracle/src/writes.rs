@@ -23,9 +23,9 @@ pub fn two_words(low: u16, high: u16, value: u64) -> Vec<Call> {
     [word(high, (value >> 32) as u32), word(low, value as u32)].concat()
 }
 
-/// The control, but for the mode, of a channel that runs with its interrupt enabled.
+/// The control, without the mode, of a channel that runs with its interrupt enabled.
 pub const RUNNING: u8 = 12;
-/// The bit of a control written that zeroes the counter and arms.
+/// The control bit that, written, zeroes the counter and arms.
 const RESET: u8 = 16;
 
 /// Programs a channel, its control last.
@@ -50,11 +50,11 @@ pub fn alarm(seconds: u64) -> Vec<Call> {
 }
 
 /// Makes a channel the only one that runs, from 0 and with its interrupt enabled, due after exactly `deadline` cycles;
-/// none where its mode and prescaler cannot have that. It advances the board, by less than a tick.
+/// none where its mode and prescaler do not allow that. It advances the board by less than a tick.
 pub fn channel_due(number: usize, mode: u8, prescaler: u32, deadline: u128) -> Option<Vec<Call>> {
     let divisor = u128::from(prescaler) + 1;
     let ticks = deadline.div_ceil(divisor);
-    // A free-running channel takes a compare of 0 for 2^64 ticks.
+    // For a free-running channel a compare of 0 means 2^64 ticks.
     let longest = if mode == 2 { 1 << 64 } else { u64::MAX.into() };
     if !(1..=longest).contains(&ticks) {
         return None;
@@ -67,8 +67,8 @@ pub fn channel_due(number: usize, mode: u8, prescaler: u32, deadline: u128) -> O
     Some(calls)
 }
 
-/// Sets a channel of a fresh board to these fields. It makes the channel the only one that is selected, and advances it:
-/// a free-running match makes it pending and disarms it, and cycles before its first tick make its phase.
+/// Sets a channel of a fresh board to these fields. It makes the channel the only selected one and advances it: a
+/// free-running match makes it pending and disarms it, and cycles before its first tick make its phase.
 pub fn set_channel(number: usize, wanted: &Channel) -> Vec<Call> {
     let register = |register| of_channel(number, register);
     let two = |low, high, value| two_words(register(low), register(high), value);
@@ -97,8 +97,8 @@ pub fn set_channel(number: usize, wanted: &Channel) -> Vec<Call> {
     calls
 }
 
-/// Sets the alarm of a clock of a rate that stands at 0 and does not run from host time, due after exactly `deadline`
-/// cycles. It advances the board, by less than a second.
+/// Sets the alarm of a clock at a rate that stands at 0 and does not run from host time, due after exactly `deadline`
+/// cycles. It advances the board by less than a second.
 pub fn alarm_due(rate: u32, deadline: u128) -> Vec<Call> {
     let second = u128::from(rate);
     let seconds = deadline.div_ceil(second);

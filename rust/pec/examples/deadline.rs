@@ -3,8 +3,8 @@
 //!
 //! `cargo run --example deadline -- IMAGE` parks the board in the file IMAGE. It prints each day's deadline, the cycles
 //! that each skip passed and the matches of each advance. With `IMAGE FRIDAY` it does not run Friday's calls: it reads
-//! the board from the file FRIDAY, an image of either form that an earlier program parked, and prints which form it
-//! was. What it cannot do it tells, and ends with status 1.
+//! the board from the file FRIDAY, an image in either form that an earlier program parked, and prints its form. It
+//! reports what it cannot do, and ends with status 1.
 
 use std::env;
 use std::error::Error;
@@ -16,7 +16,7 @@ use std::process::ExitCode;
 
 use pec::{answers, image_form, list_of, Answer, Board, Call, Form};
 
-/// Addresses of registers' last bytes, of channel 0 where a channel has its own.
+/// Addresses of the registers' last bytes; a channel's own registers are channel 0's.
 const TIMER_ENABLE: u16 = 0x07;
 const TIMER_ACK: u16 = 0x0F;
 const CONTROL: u16 = 0x283;
@@ -29,7 +29,7 @@ fn write(address: u16, byte: u8) -> Call {
 }
 
 /// Friday's calls. Channel 0, periodic, a tick every 3 cycles, a match every 10 ticks; interrupt and channel enabled.
-/// It is left on the way to its second interrupt.
+/// They end before its second interrupt.
 fn friday() -> Vec<Call> {
     vec![
         write(PRESCALER, 2),
@@ -44,7 +44,8 @@ fn friday() -> Vec<Call> {
     ]
 }
 
-/// Monday's calls: what is left to the second interrupt, and the third; then one long advance over many periods.
+/// Monday's calls: the remaining cycles to the second interrupt, and the third; then one long advance over many
+/// periods.
 fn monday() -> Vec<Call> {
     vec![
         Call::Deadline,
@@ -56,7 +57,7 @@ fn monday() -> Vec<Call> {
     ]
 }
 
-/// Runs calls over a board, prints what they answered and puts the answers at the end of the record.
+/// Runs calls over a board, prints their answers and appends these to the record.
 fn run(board: &mut Board, calls: &[Call], record: &mut Vec<u8>) -> Result<(), Box<dyn Error>> {
     let start = record.len();
     record.resize(start + calls.iter().map(Call::answer_bytes).sum::<usize>(), 0);
@@ -80,8 +81,9 @@ fn run(board: &mut Board, calls: &[Call], record: &mut Vec<u8>) -> Result<(), Bo
     }
 }
 
-/// Writes the image, of the new form, to a file beside the named one, and puts it in that one's place once it is on the
-/// disk: a crash leaves the old image or the new one. Where it fails, the old one stays, and nothing is left beside it.
+/// Writes the image, in the new form, to a file beside the named one, and renames it once it is on the disk: a crash
+/// leaves the old image or the new one. Where writing or renaming fails, the old image stays, and nothing is left
+/// beside it.
 fn park(board: &Board, path: &Path) -> io::Result<()> {
     let mut beside = OsString::from(path);
     beside.push(".new");
@@ -89,7 +91,7 @@ fn park(board: &Board, path: &Path) -> io::Result<()> {
     let mut file = File::create(&beside)?;
     let written = file.write_all(board.image()).and_then(|()| file.sync_all());
     if let Err(error) = written.and_then(|()| fs::rename(&beside, path)) {
-        // What is told is why the image was not parked.
+        // The error to report is the first one: why the image was not parked.
         let _ = fs::remove_file(&beside);
         return Err(error);
     }
@@ -101,7 +103,7 @@ fn park(board: &Board, path: &Path) -> io::Result<()> {
     File::open(directory)?.sync_all()
 }
 
-/// The board that a file parks, and the form of its image.
+/// The board that is parked in a file, and the form of its image.
 fn resume(path: &Path) -> Result<(Board, Form), Box<dyn Error>> {
     let read = || -> Result<_, Box<dyn Error>> {
         let image = fs::read(path)?;
@@ -139,7 +141,7 @@ fn both_days(path: &Path, earlier: Option<&Path>) -> Result<(), Box<dyn Error>> 
     park(&board, path).map_err(|error| format!("{}: {error}", path.display()))?;
     on_monday(path, &mut record)?;
 
-    // The record is that of a simulation that nobody stopped.
+    // The record is the same as that of a simulation without a stop.
     let mut whole = vec![0; record.len()];
     let outcome = match earlier {
         None => pec::run(&list_of(&[friday(), monday()].concat()), &mut whole),

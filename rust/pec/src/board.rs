@@ -8,8 +8,8 @@ use crate::parked::{
 };
 use crate::{Outcome, Refusal};
 
-/// A board, held as its image of the new form: the bytes that park it, with its rate. An image is the only one of its
-/// board in its form, so boards are equal where their images are.
+/// A board, held as its image in the new form, which has the board's rate. A board has one image in that form, so
+/// boards are equal where their images are.
 ///
 /// ```
 /// use pec::{list_of, Board, Call, Refusal};
@@ -23,7 +23,7 @@ use crate::{Outcome, Refusal};
 /// assert_eq!(board.run(&two, &mut answers).refusal, None);
 /// assert_eq!(answers[..4], [4, 0, 65, 0]);
 ///
-/// // Parked, and taken up again: two cycles more raise the line.
+/// // Parked, and taken up again: two more cycles raise the line.
 /// let image = board.image().to_vec();
 /// let mut resumed = Board::from_image(&image)?;
 /// assert_eq!(resumed, board);
@@ -54,7 +54,8 @@ impl Board {
         Self { image }
     }
 
-    /// The same at a rate, one of [`RATES`](crate::RATES). Another is refused by [`Refusal::UnsupportedRate`].
+    /// A fresh board at a rate, one of [`RATES`](crate::RATES). Another rate is refused with
+    /// [`Refusal::UnsupportedRate`].
     ///
     /// ```
     /// use pec::{list_of, Board, Call, Refusal};
@@ -80,9 +81,10 @@ impl Board {
         Ok(Self { image })
     }
 
-    /// The board of an image of either form; that of an old one, which has no rate, is at
-    /// [`DEFAULT_RATE`](crate::DEFAULT_RATE). Bytes that are no image are refused, by [`Refusal::MalformedImage`] or
-    /// else by [`Refusal::UnsoundBoard`]. [`image_form`](crate::image_form) tells which form it was.
+    /// The board of an image in either form. The old form has no rate, and its board is at
+    /// [`DEFAULT_RATE`](crate::DEFAULT_RATE). Bytes that are no image are refused with [`Refusal::MalformedImage`], and
+    /// the image of an unsound board with [`Refusal::UnsoundBoard`]. [`image_form`](crate::image_form) gives the form
+    /// of an image.
     pub fn from_image(image: &[u8]) -> Result<Self, Refusal> {
         let mut held = [0; IMAGE_SIZE];
         match image_form(image)? {
@@ -95,13 +97,13 @@ impl Board {
         Ok(Self { image: held })
     }
 
-    /// The image, of the new form, to be kept and given to [`Board::from_image`] later.
+    /// The image in the new form, to be kept and given to [`Board::from_image`] later.
     pub fn image(&self) -> &[u8; IMAGE_SIZE] {
         &self.image
     }
 
-    /// The image of the old form, for a program that reads only that. It has no rate: a board at another than
-    /// [`DEFAULT_RATE`](crate::DEFAULT_RATE) is refused by [`Refusal::RateNeedsNewForm`].
+    /// The image in the old form, for a program that reads only that. It has no rate: a board at a rate other than
+    /// [`DEFAULT_RATE`](crate::DEFAULT_RATE) is refused with [`Refusal::RateNeedsNewForm`].
     ///
     /// ```
     /// use pec::{Board, Refusal};
@@ -120,7 +122,7 @@ impl Board {
 
     /// The rate, in cycles a second: one of [`RATES`](crate::RATES).
     pub fn rate(&self) -> u32 {
-        // Behind the tag and the length of the first field.
+        // The rate follows the tag and the length of the first field.
         let [_, _, _, a, b, c, d, ..] = self.image;
         u32::from_be_bytes([a, b, c, d])
     }
@@ -128,7 +130,7 @@ impl Board {
     /// Runs a list over the board. The buffer then holds the answers of the calls done, from its first byte, and after
     /// them its old bytes. A refusal stops the run, and the calls before it stand; the refused call changes nothing.
     ///
-    /// A skip with the line low and a deadline is refused, by [`Refusal::DeadlineTooLarge`], where that deadline is
+    /// A skip with the line low and a deadline is refused with [`Refusal::DeadlineTooLarge`] where that deadline is
     /// above 2^64 - 1 cycles; an accepted one ends with the line high. An advance brings a larger deadline nearer:
     ///
     /// ```
@@ -147,18 +149,18 @@ impl Board {
     /// assert_eq!(last, Some(Ok((0x06, Answer::Skip { passed: 1, line: true }))));
     /// ```
     ///
-    /// A list can be cut between two calls and run in two parts, the second into the rest of the buffer. Where the
-    /// first part is not refused, they leave the same board as one run, and give the same answers, one after the other.
+    /// A list can be cut between two calls and run in two pieces, the second into the remaining buffer. Where the first
+    /// piece is not refused, the two leave the same board as one run and give the same answers, one after the other.
     pub fn run(&mut self, list: &[u8], answers: &mut [u8]) -> Outcome {
         run_parked(&mut self.image, list, answers)
     }
 
-    /// Whether the line would be high after each of some totals of further cycles, in any order and with repeats: one
-    /// byte for each, 1 or 0, at the start of a buffer. Each is the line that one advance of that total would answer,
-    /// and the board stays as it is. The bytes after those of the totals stay.
+    /// Previews whether the line would be high after each of some totals of further cycles, in any order and with
+    /// repeats. Writes one byte for each total at the start of a buffer, 1 or 0: the line that one advance of that
+    /// total would answer. The board and the bytes after these stay.
     ///
-    /// A board whose clock is enabled in realtime is refused, by [`Refusal::ClockInRealtime`], and then a buffer that
-    /// is shorter than the totals, by [`Refusal::BufferTooSmall`]; a refused preview writes nothing.
+    /// A board whose clock is enabled in realtime is refused with [`Refusal::ClockInRealtime`], else a buffer with
+    /// fewer bytes than there are totals with [`Refusal::BufferTooSmall`]. A refused preview writes nothing.
     ///
     /// ```
     /// use pec::{list_of, Board, Call, Refusal};

@@ -18,7 +18,7 @@ unsafe extern "C" {
     safe fn pec_irqc_size(word: u64) -> u32;
 }
 
-/// Whether a source is presented, and which; 0 where none is.
+/// Whether a source is presented, and which; the number is 0 where none is.
 #[derive(Clone, Copy, Debug, PartialEq, Eq)]
 pub struct IrqOutput {
     pub valid: bool,
@@ -88,12 +88,12 @@ impl Controller {
         self.word = pec_irqc_set_source(self.word, number, level);
     }
 
-    /// Sets the level of each source of the mask, as `set_source` for each.
+    /// Sets the level of each source in the mask, as `set_source` does.
     pub fn set_source_levels(&mut self, mask: u16, levels: u16) {
         self.word = pec_irqc_set_source_levels(self.word, mask, levels);
     }
 
-    /// Clears the pending bits that the mask has.
+    /// Clears the pending bits that are set in the mask.
     pub fn clear_pending(&mut self, mask: u16) {
         self.word = pec_irqc_clear_pending(self.word, mask);
     }
@@ -122,7 +122,7 @@ impl Controller {
         self.word = pec_irqc_write(self.word, address, value);
     }
 
-    /// The bytes of addresses that the registers take.
+    /// The number of addresses that the registers take.
     pub fn size(&self) -> u32 {
         pec_irqc_size(self.word)
     }

@@ -10,11 +10,11 @@ unsafe extern "C" {
     fn pec_irqc_dispatch(word: u64, last: u8, after: *mut u64, remembered: *mut u8) -> u16;
 }
 
-/// A dispatcher above the controller: it remembers the number of the source last served, and a turn serves the next
-/// enabled pending source after it, going round from 15 to 0. The remembered one itself comes last.
+/// A dispatcher above the controller. It remembers the number of the source served last. A turn serves the next enabled
+/// pending source after that number, going round from 15 to 0; the remembered source itself comes last.
 ///
 /// A source that stays enabled and pending is served within 16 turns of a dispatcher, however the other sources behave
-/// between them. Lowest first remains the controller's own output, [`Controller::irq_output`]:
+/// between them. The controller's own output, [`Controller::irq_output`], remains lowest first:
 ///
 /// ```
 /// use pec::{Controller, Dispatcher, IrqOutput};
@@ -57,15 +57,15 @@ impl Dispatcher {
         Self { last }
     }
 
-    /// The number that is remembered: of the source last served or, before any is, the one that the dispatcher began
-    /// with. The first turn reads that one as 15 where it is above 15, also a turn that serves none.
+    /// The remembered number: that of the source served last or, before any is served, the one that the dispatcher
+    /// began with. The first turn reads a number above 15 as 15, and leaves 15 where it serves none.
     pub fn last(&self) -> u8 {
         self.last
     }
 
-    /// One turn: clears the pending bit of the next enabled pending source, and nothing else of the controller, and
-    /// gives its number, which is then the remembered one. Where no enabled source is pending, it gives none, the
-    /// controller stays, and the remembered number is the one that the turn was given, read as 15 where it is above 15:
+    /// One turn: clears the pending bit of the next enabled pending source, changes nothing else of the controller, and
+    /// gives the source's number, which is then the remembered one. Where no enabled source is pending, it gives none,
+    /// and the controller and the remembered number stay; a remembered number above 15 becomes 15:
     ///
     /// ```
     /// use pec::{Controller, Dispatcher};

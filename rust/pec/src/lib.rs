@@ -2,12 +2,15 @@
 //!
 //! The functions here call the static library `libpec.a`, which `rt staticlib pec` proves and writes from crates/pec.
 //! Each is safe: the library's contracts ask nothing of their callers, and it keeps nothing between calls. A call list
-//! and its answers are bytes that the caller lends; the types of the crate rust/calls, which stand here too, make and
-//! read them. [`run`] takes a fresh board, and [`run_at`] one of another rate; a [`Board`], of any of the rates, goes
-//! on from list to list, and its image keeps it while no program runs; [`Board::preview`] tells of many totals of
-//! cycles whether its line would be high after each. Images that were parked before images had a rate are read too, and
-//! [`move_forward`] and [`move_back`] move an image from one [`Form`] to the other. A [`Controller`] is the interrupt
-//! controller by itself, and a [`Dispatcher`] above it serves its sources in turn.
+//! and its answers are bytes that the caller lends. The types of the crate rust/calls, which this crate exports too,
+//! make and read them.
+//!
+//! - [`run`] runs a list over a fresh board, and [`run_at`] over one of another rate.
+//! - A [`Board`], at any of the rates, goes on from list to list. Its image keeps it while no program runs.
+//! - [`Board::preview`] says for many totals of cycles whether its line would be high after each.
+//! - [`move_forward`] and [`move_back`] move an image from one [`Form`] to the other. Images of the old form, which has
+//!   no rate, are read too.
+//! - A [`Controller`] is the interrupt controller by itself. A [`Dispatcher`] above it serves its sources in turn.
 //!
 //! ```
 //! use pec::{answers, list_of, Answer, Call, Refusal};
@@ -42,8 +45,8 @@ pub use parked::{
     IMAGE_SIZE, OLD_IMAGE_SIZE,
 };
 
-// A slice goes as its pointer and its length. The library asks for pointers that are not null, also with length 0, and
-// Rust's slices have such, the empty ones too.
+// A slice is passed as its pointer and its length. No pointer may be null, not even one with length 0. The pointer of a
+// Rust slice never is, even of an empty one.
 unsafe extern "C" {
     fn pec_run(
         list: *const u8,
@@ -100,13 +103,13 @@ unsafe extern "C" {
     ) -> usize;
 }
 
-/// The refusal of a number that the library gives, 0 for none.
+/// The refusal with the number that the library returns, 0 for none.
 fn refusal_of(number: u8) -> Option<Refusal> {
     (number != 0).then(|| Refusal::from_number(number).expect("the library's refusals are 1 to 16"))
 }
 
-/// The bytes that a call of the library wrote into a buffer, or its refusal, with which it writes none. It gives the
-/// refusal's number, 0 for none.
+/// The number of bytes that a call of the library wrote into a buffer, or its refusal, with which it writes none.
+/// `write` returns the refusal's number, 0 for none.
 fn written_of(write: impl FnOnce(&mut usize) -> u8) -> Result<usize, Refusal> {
     let mut written = usize::MAX;
     match refusal_of(write(&mut written)) {
@@ -118,8 +121,8 @@ fn written_of(write: impl FnOnce(&mut usize) -> u8) -> Result<usize, Refusal> {
     }
 }
 
-/// The outcome of a call of the library that writes calls, list bytes and answer bytes and gives the refusal's number,
-/// 0 for none.
+/// The outcome of a call of the library. `run` writes the counts of calls, list bytes and answer bytes, and returns the
+/// refusal's number, 0 for none.
 fn outcome_of(run: impl FnOnce(&mut usize, &mut usize, &mut usize) -> u8) -> Outcome {
     let mut outcome = Outcome::default();
     let number = run(&mut outcome.calls, &mut outcome.list_bytes, &mut outcome.answer_bytes);
@@ -127,8 +130,8 @@ fn outcome_of(run: impl FnOnce(&mut usize, &mut usize, &mut usize) -> u8) -> Out
     outcome
 }
 
-/// Runs a list over a fresh board, of a rate where one is given. `behind` is a list that is run first, and how many
-/// times the list itself is run then; without it the list is run once. Each of the four is a function of the library.
+/// Runs a list over a fresh board, at a rate where one is given. `behind` is a list that is run first, and how many
+/// times `list` is run after it; without it `list` is run once. Each of the four cases is a function of the library.
 fn run_fresh(rate: Option<u32>, behind: Option<(&[u8], u64)>, list: &[u8], answers: &mut [u8]) -> Outcome {
     let (first, times) = behind.unwrap_or_default();
     let (head, before) = (first.as_ptr(), first.len());
@@ -154,19 +157,19 @@ pub fn run(list: &[u8], answers: &mut [u8]) -> Outcome {
     run_fresh(None, None, list, answers)
 }
 
-/// Runs `first` over a fresh board, and then `list` so many times, each time over the board that the run before it
-/// left, whether that was refused or not. Each run writes its answers from the buffer's first byte; the outcome is
-/// the last run's.
+/// Runs `first` over a fresh board and then `list` `times` times, each time over the board that the run before it left,
+/// whether that was refused or not. Each run writes its answers from the buffer's first byte; the outcome is the last
+/// run's.
 ///
 /// With `times` 1 and a list that reads, this shows all that a run left of its board.
 pub fn run_repeated(first: &[u8], list: &[u8], times: u64, answers: &mut [u8]) -> Outcome {
     run_fresh(None, Some((first, times)), list, answers)
 }
 
-/// Runs a list over a fresh board of a rate, one of [`RATES`]: so many cycles are a second of its clock, and a
-/// thousandth of them lie between two polls of an alarm on host time. [`run`] is the same at [`DEFAULT_RATE`].
+/// Runs a list over a fresh board at a rate, one of [`RATES`]. A second of its clock is that many cycles, and two polls
+/// of an alarm on host time are a thousandth of that apart. [`run`] is the same at [`DEFAULT_RATE`].
 ///
-/// Another rate is refused by [`Refusal::UnsupportedRate`], ahead of all else: nothing is done, and the buffer stays.
+/// Another rate is refused with [`Refusal::UnsupportedRate`], before all else: nothing is done, and the buffer stays.
 ///
 /// ```
 /// use pec::{list_of, run_at, Call, Outcome, Refusal, RATES};
@@ -185,7 +188,7 @@ pub fn run_at(rate: u32, list: &[u8], answers: &mut [u8]) -> Outcome {
     run_fresh(Some(rate), None, list, answers)
 }
 
-/// What [`run_repeated`] does, over a fresh board of a rate; another rate is refused as by [`run_at`].
+/// As [`run_repeated`], over a fresh board at a rate; another rate is refused as by [`run_at`].
 pub fn run_repeated_at(rate: u32, first: &[u8], list: &[u8], times: u64, answers: &mut [u8]) -> Outcome {
     run_fresh(Some(rate), Some((first, times)), list, answers)
 }
@@ -201,7 +204,7 @@ pub fn run_repeated_at(rate: u32, first: &[u8], list: &[u8], times: u64, answers
 /// assert_eq!(pec::listing(&buffer[..outcome.answer_bytes], &outcome), "06 000000000000000000\nend 1 9 3\n");
 /// ```
 pub fn listing(answers: &[u8], outcome: &Outcome) -> String {
-    // By the library's contract a listing is no longer.
+    // By the library's contract no listing is longer than this.
     let mut text = vec![0; 2 * answers.len() + 67];
     let (calls, used) = (outcome.calls, outcome.list_bytes);
     let refusal = outcome.refusal_number();
@@ -221,7 +224,7 @@ pub fn listing(answers: &[u8], outcome: &Outcome) -> String {
     String::from_utf8(text).expect("a listing is ASCII")
 }
 
-// The example of README.md, compiled and run with the tests of the documentation.
+// The example of README.md, compiled and run with the documentation tests.
 #[cfg(doctest)]
 #[doc = include_str!("../README.md")]
 struct Readme;

@@ -3,10 +3,10 @@
 
 use crate::{outcome_of, refusal_of, written_of, Outcome, Refusal};
 
-/// The bytes of an image of the new form: the field of the rate, and then those of the old form.
+/// The bytes of an image in the new form: the field of the rate, and then the fields of the old form.
 pub const IMAGE_SIZE: usize = 7 + OLD_IMAGE_SIZE;
 
-/// The bytes of an image of the old form.
+/// The bytes of an image in the old form.
 pub const OLD_IMAGE_SIZE: usize = 269;
 
 /// The form of an image.
@@ -14,13 +14,14 @@ pub const OLD_IMAGE_SIZE: usize = 269;
 pub enum Form {
     /// Without a rate: the board is at [`DEFAULT_RATE`](crate::DEFAULT_RATE). It has [`OLD_IMAGE_SIZE`] bytes.
     Old,
-    /// With the board's rate, of any of [`RATES`](crate::RATES). It has [`IMAGE_SIZE`] bytes, and all that writes an
-    /// image by itself writes this form.
+    /// With the board's rate, any of [`RATES`](crate::RATES). It has [`IMAGE_SIZE`] bytes. Images are written in this
+    /// form, except by [`move_back`], by [`Board::old_image`](crate::Board::old_image), and by [`run_parked`] over an
+    /// old image.
     New,
 }
 
-// A slice goes as its pointer and its length. The library asks for pointers that are not null, also with length 0, and
-// Rust's slices have such, the empty ones too.
+// A slice is passed as its pointer and its length. No pointer may be null, not even one with length 0. The pointer of a
+// Rust slice never is, even of an empty one.
 unsafe extern "C" {
     fn pec_fresh(image: *mut u8, image_length: usize, written: *mut usize) -> u8;
     fn pec_fresh_at(rate: u32, image: *mut u8, image_length: usize, written: *mut usize) -> u8;
@@ -60,8 +61,8 @@ unsafe extern "C" {
     ) -> u8;
 }
 
-/// Parks a fresh board at [`DEFAULT_RATE`](crate::DEFAULT_RATE): writes its image, of the new form, at the start of a
-/// buffer, and leaves the bytes after it. Gives the bytes written, [`IMAGE_SIZE`]. A shorter buffer is refused by
+/// Parks a fresh board at [`DEFAULT_RATE`](crate::DEFAULT_RATE): writes its image, in the new form, at the start of a
+/// buffer, and leaves the bytes after it. Gives the bytes written, [`IMAGE_SIZE`]. A shorter buffer is refused with
 /// [`Refusal::BufferTooSmall`] and left as it is.
 pub fn park_fresh(buffer: &mut [u8]) -> Result<usize, Refusal> {
     let (start, room) = (buffer.as_mut_ptr(), buffer.len());
@@ -70,8 +71,8 @@ pub fn park_fresh(buffer: &mut [u8]) -> Result<usize, Refusal> {
     written_of(|written| unsafe { pec_fresh(start, room, written) })
 }
 
-/// What [`park_fresh`] does, of a board of a rate. A rate other than [`RATES`](crate::RATES) is refused by
-/// [`Refusal::UnsupportedRate`], ahead of a short buffer, and leaves the buffer.
+/// As [`park_fresh`], for a board at a rate. A rate other than [`RATES`](crate::RATES) is refused with
+/// [`Refusal::UnsupportedRate`], before a short buffer is, and leaves the buffer.
 ///
 /// ```
 /// use pec::{park_fresh_at, Board, Refusal, IMAGE_SIZE};
@@ -91,13 +92,13 @@ pub fn park_fresh_at(rate: u32, buffer: &mut [u8]) -> Result<usize, Refusal> {
 /// Moves an image of the old form to the new one, with the rate [`DEFAULT_RATE`](crate::DEFAULT_RATE): writes it at the
 /// start of a buffer, and leaves the bytes after it. Gives the bytes written, [`IMAGE_SIZE`]. The image itself stays.
 ///
-/// Refused, it leaves the buffer: by [`Refusal::MalformedImage`], also where the image has the new form already; else
-/// by [`Refusal::UnsoundBoard`]; else by [`Refusal::BufferTooSmall`].
+/// A refused move leaves the buffer. It is refused with [`Refusal::MalformedImage`], also where the image has the new
+/// form already; else with [`Refusal::UnsoundBoard`]; else with [`Refusal::BufferTooSmall`].
 ///
 /// ```
 /// use pec::{image_form, move_back, move_forward, Board, Form, Refusal, IMAGE_SIZE};
 ///
-/// // An image as it was parked before images had a rate.
+/// // An image in the old form.
 /// let old = Board::fresh().old_image()?;
 /// assert_eq!(image_form(&old), Ok(Form::Old));
 /// let mut new = [0; IMAGE_SIZE];
@@ -119,12 +120,12 @@ pub fn move_forward(image: &[u8], moved: &mut [u8]) -> Result<usize, Refusal> {
     written_of(|written| unsafe { pec_move_forward(image.as_ptr(), image.len(), start, room, written) })
 }
 
-/// Moves an image of the new form to the old one, for what reads only that. Writes it as [`move_forward`] does, and
-/// gives the bytes written, [`OLD_IMAGE_SIZE`].
+/// Moves an image of the new form to the old one, for a program that reads only that. Writes it as [`move_forward`]
+/// does, and gives the bytes written, [`OLD_IMAGE_SIZE`].
 ///
-/// Refused, it leaves the buffer: by [`Refusal::MalformedImage`], also where the image has the old form already; else
-/// by [`Refusal::UnsoundBoard`]; else by [`Refusal::RateNeedsNewForm`], where the board is at another rate than
-/// [`DEFAULT_RATE`](crate::DEFAULT_RATE); else by [`Refusal::BufferTooSmall`].
+/// A refused move leaves the buffer. It is refused with [`Refusal::MalformedImage`], also where the image has the old
+/// form already; else with [`Refusal::UnsoundBoard`]; else with [`Refusal::RateNeedsNewForm`], where the board is at a
+/// rate other than [`DEFAULT_RATE`](crate::DEFAULT_RATE); else with [`Refusal::BufferTooSmall`].
 ///
 /// ```
 /// use pec::{move_back, Board, Refusal, OLD_IMAGE_SIZE};
@@ -141,7 +142,7 @@ pub fn move_back(image: &[u8], moved: &mut [u8]) -> Result<usize, Refusal> {
     written_of(|written| unsafe { pec_move_back(image.as_ptr(), image.len(), start, room, written) })
 }
 
-/// The form of the image that some bytes are, or why they are none, as [`image_refusal`] says.
+/// The form of an image, or the refusal that [`image_refusal`] gives.
 ///
 /// ```
 /// use pec::{image_form, Board, Form, Refusal};
@@ -155,24 +156,24 @@ pub fn move_back(image: &[u8], moved: &mut [u8]) -> Result<usize, Refusal> {
 pub fn image_form(image: &[u8]) -> Result<Form, Refusal> {
     match image_refusal(image) {
         Some(refusal) => Err(refusal),
-        // By the library's contract the length of an accepted image tells its form.
+        // By the library's contract the length of an accepted image shows its form.
         None if image.len() == OLD_IMAGE_SIZE => Ok(Form::Old),
         None => Ok(Form::New),
     }
 }
 
-/// Why some bytes are not the image of a board, of either form, or none where they are: [`Refusal::MalformedImage`],
-/// or, of an image that is well formed, [`Refusal::UnsoundBoard`]. A rate other than [`RATES`](crate::RATES) is not
-/// sound.
+/// The refusal of reading some bytes as an image in either form; none where they are accepted. Malformed bytes are
+/// refused with [`Refusal::MalformedImage`], and the well-formed image of a board that is not sound with
+/// [`Refusal::UnsoundBoard`]. A board at a rate other than [`RATES`](crate::RATES) is not sound.
 #[must_use]
 pub fn image_refusal(image: &[u8]) -> Option<Refusal> {
     // SAFETY: the pointer and the length are those of a slice, which is only read.
     refusal_of(unsafe { pec_image_refusal(image.as_ptr(), image.len()) })
 }
 
-/// Runs a list over the board of an image of either form, and writes the board that the run left into the same bytes,
-/// in the form that it had. Where [`image_refusal`] refuses the image, that is the outcome's refusal, nothing is done
-/// and nothing is changed.
+/// Runs a list over the board of an image in either form, and writes the board that the run leaves into the same bytes,
+/// in the form that the image has. Where [`image_refusal`] refuses the image, the outcome has that refusal, nothing is
+/// done and nothing is changed.
 pub fn run_parked(image: &mut [u8], list: &[u8], answers: &mut [u8]) -> Outcome {
     let (start, length) = (image.as_mut_ptr(), image.len());
     let (from, room) = (answers.as_mut_ptr(), answers.len());
@@ -193,12 +194,13 @@ pub fn run_parked(image: &mut [u8], list: &[u8], answers: &mut [u8]) -> Outcome 
     })
 }
 
-/// Whether the line of the board of an image, of either form, would be high after each of some totals of further
-/// cycles: one byte for each, 1 or 0, in the order of the totals, at the start of a buffer. The bytes after them stay.
+/// Previews whether the line of the board of an image, in either form, would be high after each of some totals of
+/// further cycles. Writes one byte for each, 1 or 0, in the order of the totals, at the start of a buffer. The bytes
+/// after them stay.
 ///
-/// Refused, it writes nothing: where [`image_refusal`] refuses the image, by that; else by
-/// [`Refusal::ClockInRealtime`], where the clock is enabled in realtime; else by [`Refusal::BufferTooSmall`], where
-/// there are more totals than bytes.
+/// A refused preview writes nothing. It is refused where [`image_refusal`] refuses the image, with that refusal; else
+/// with [`Refusal::ClockInRealtime`], where the clock is enabled in realtime; else with [`Refusal::BufferTooSmall`],
+/// where there are more totals than bytes.
 pub fn preview_parked(image: &[u8], totals: &[u64], high: &mut [u8]) -> Result<(), Refusal> {
     let (from, room) = (high.as_mut_ptr(), high.len());
     // SAFETY: the pointers and lengths are those of slices that live through the call; two are only read, and the third

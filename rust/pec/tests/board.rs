@@ -1,4 +1,4 @@
-//! The functions of the crate pass slices, results, repeats and images as they say.
+//! The functions of the crate pass slices, results, repeats and images as documented.
 
 use std::time::{Duration, Instant};
 
@@ -9,7 +9,8 @@ use pec::{
 
 const OUTPUT: [u8; 3] = [0x0A, 0, 0];
 
-/// The record of an advance: tag, length, the line and four counts of 16 bytes, of which channel 0's here is short.
+/// The record of an advance: tag, length, the line and four counts of 16 bytes. Here only channel 0's is other than 0,
+/// and it fits in one byte.
 fn advance_record(line: u8, count: u8) -> [u8; 68] {
     let mut record = [0; 68];
     record[..4].copy_from_slice(&[4, 0, 65, line]);
@@ -50,9 +51,9 @@ fn repeats_go_on_from_the_board_that_is_left() {
         assert_eq!(answers[..68], advance_record(line, count), "{times}");
         assert_eq!(answers[68..], [2, 0, 1, counter], "{times}");
     }
-    // None at all: the results are the first list's.
+    // With 0 times the results are the first list's.
     assert_eq!(run_repeated(&configure, &step, 0, &mut answers).calls, 3);
-    // A first list that is refused leaves its board all the same.
+    // A first list that is refused still leaves its board.
     let cut = [&configure[..], &[9]].concat();
     assert_eq!(run_repeated(&cut, &step, 3, &mut answers).refusal, None);
     assert_eq!(answers[..68], advance_record(1, 1));
@@ -60,8 +61,8 @@ fn repeats_go_on_from_the_board_that_is_left() {
 
 #[test]
 fn an_advance_tells_the_points_that_each_channel_met() {
-    // From 0: periodic at 10, 14 and so on, and at every number; one-shot at 5; and periodic at 1, 3 and so on. A
-    // channel has 0x40 addresses, and its compare, reload and control end at 0x293, 0x29B and 0x283.
+    // From 0: periodic with points 10, 14 and so on; periodic with every number; one-shot at 5; periodic with 1, 3 and
+    // so on. A channel has 0x40 addresses, and its compare, reload and control end at 0x293, 0x29B and 0x283.
     let mut start = Vec::new();
     for (channel, compare, reload, control) in [(0, 10, 4, 5), (1, 0, 1, 5), (2, 5, 0, 4), (3, 1, 2, 5)] {
         for (address, byte) in [(0x293, compare), (0x29B, reload), (0x283, control)] {
@@ -86,13 +87,13 @@ fn an_advance_tells_the_points_that_each_channel_met() {
     let by = |cycles| Call::Advance { cycles };
     assert_eq!(advance(&[by(0)]), [0, 0, 0, 0]);
     assert_eq!(advance(&[by(19)]), [3, 20, 1, 10]);
-    // The points that were met are not met again: 22; 20 to 22; none; 21.
+    // Points are not met twice. The next ones are 22; 20 to 22; none; 21.
     assert_eq!(advance(&[by(19), by(3)]), [1, 3, 0, 1]);
     // Up to 2^64 - 1: 10 to 2^64 - 2 in steps of 4; every number from 0 on; every odd one.
     assert_eq!(advance(&[by(u64::MAX)]), [(1 << 62) - 2, 1 << 64, 1, 1 << 63]);
 }
 
-/// Where the timer enable stands in an image: the rate's 7 bytes, four channels of 38 bytes, and a tag and a length.
+/// The place of the timer enable in an image: after the rate's 7 bytes, four channels of 38 bytes, a tag and a length.
 const TIMER_ENABLE: usize = 7 + 4 * 38 + 3;
 
 #[test]
@@ -108,7 +109,7 @@ fn a_board_goes_on_where_a_run_left_it() {
     // Three answers of 3 bytes and three of 68.
     assert_eq!((outcome.calls, outcome.answer_bytes), (6, 213));
     assert_eq!(whole[145..213], advance_record(1, 1));
-    // One call at a time, by way of the image.
+    // One call at a time, each on a board read from the image.
     let mut board = Board::default();
     assert_eq!(board, Board::fresh());
     let mut answers = [7; 256];
@@ -146,7 +147,7 @@ fn a_skip_that_is_too_large_is_refused_and_changes_nothing() {
         answer_bytes: 9,
         refusal: Some(Refusal::DeadlineTooLarge),
     };
-    // The calls before the skip stand, and the one behind it is not done; 13 comes before 11.
+    // The calls before the skip stand, and the one after it is not done; 13 comes before 11.
     let list = list_of(&[&start[..], &[Call::Skip, Call::Output]].concat());
     for length in [9, 20, 21, 40] {
         let mut board = Board::fresh();
@@ -157,7 +158,7 @@ fn a_skip_that_is_too_large_is_refused_and_changes_nothing() {
         assert_eq!(answers[9..], [7; 31]);
         assert_eq!(run(&list, &mut answers[..length]), too_large);
     }
-    // By itself, it leaves every byte of the image and of the buffer.
+    // Alone, it leaves every byte of the image and of the buffer.
     let refused = Outcome {
         refusal: Some(Refusal::DeadlineTooLarge),
         ..Outcome::default()
@@ -173,7 +174,8 @@ fn a_skip_that_is_too_large_is_refused_and_changes_nothing() {
     unsound[TIMER_ENABLE] = 17;
     let outcome = run_parked(&mut unsound, &skip, &mut []);
     assert_eq!(outcome.refusal, Some(Refusal::UnsoundBoard));
-    // One cycle nearer, the skip passes 2^64 - 1 cycles and raises the line; without room for its answer it is 11.
+    // One cycle nearer, the skip passes 2^64 - 1 cycles and raises the line; without room for its answer it is refused
+    // with 11.
     let mut board = started.clone();
     let mut answers = [7; 68];
     assert_eq!(
@@ -211,7 +213,7 @@ fn a_preview_is_what_an_advance_of_a_copy_answers() {
         assert_eq!(board.run(&list_of(&[Call::Advance { cycles }]), answers).refusal, None);
     };
     advance(&mut high_line, 30, &mut answers);
-    // In any order, with repeats, and into a buffer with a byte more.
+    // In any order, with repeats, and into a buffer with one byte more.
     let totals = [30, 29, 0, 31, u64::MAX, 29, 30, 1];
     for (board, expected) in [
         (due_after_30(), [1, 0, 0, 1, 1, 0, 1, 0]),
@@ -230,7 +232,7 @@ fn a_preview_is_what_an_advance_of_a_copy_answers() {
     }
 }
 
-/// The least time that something takes, of some repeats.
+/// The shortest time of some repeats.
 fn least(repeats: u32, mut done: impl FnMut()) -> Duration {
     let times = (0..repeats).map(|_| {
         let start = Instant::now();
@@ -242,9 +244,9 @@ fn least(repeats: u32, mut done: impl FnMut()) -> Duration {
 
 #[test]
 fn one_deadline_serves_the_whole_slice() {
-    // The bytes do not show how often the deadline is found, but the time does. A total by itself is a reading of the
-    // image and a deadline, and one of a slice is a comparison: together they take some 135th of the time. With a
-    // deadline for each total of the slice they would take a seventh.
+    // The bytes do not show how often the deadline is worked out, but the time does. A preview of one total reads the
+    // image and works out the deadline; each further total of a slice costs one comparison. So the slice takes about
+    // 1/135 of the time of its totals one by one. With a deadline for each total it would take a seventh.
     let board = due_after_30();
     let totals: Vec<u64> = (0..4_096).map(|total| total % 60).collect();
     let (mut high, mut apart) = (vec![7; totals.len()], vec![7; totals.len()]);

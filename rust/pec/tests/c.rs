@@ -21,7 +21,7 @@ fn archive() -> PathBuf {
 const C: (&str, [&str; 3]) = ("cc", ["-std=c11", "-x", "c"]);
 const CPP: (&str, [&str; 3]) = ("c++", ["-std=c++17", "-x", "c++"]);
 
-/// Compiles a program of this folder as C or as C++ and gives what it prints for an input.
+/// Compiles a program of this folder as C or C++ and gives what it prints for an input.
 fn printed(name: &str, (compiler, language): (&str, [&str; 3]), input: &[u8]) -> String {
     let here = Path::new(env!("CARGO_MANIFEST_DIR"));
     let program = Path::new(env!("CARGO_TARGET_TMPDIR")).join(format!("{name}-{compiler}"));
@@ -70,14 +70,14 @@ fn boards_of_each_rate_are_run_from_c_and_from_cpp() {
     let due = "1000000: due after 2000000, line after a second and two: 0 1\n\
                12000000: due after 24000000, line after a second and two: 0 1\n\
                48000000: due after 96000000, line after a second and two: 0 1\n";
-    // The refusal, the three counts, which were 99, and the buffer; with room and without.
+    // The refusal, the three counts, which were 99 before, and the buffer; with room and without.
     let refused: String = [0, 999_999, 24_000_000, 48_000_001, u32::MAX]
         .into_iter()
         .flat_map(|rate| {
             [80, 0].map(|room| format!("{rate} into {room}: run 15 0 0 0 stays repeated 15 0 0 0 stays\n"))
         })
         .collect();
-    // The same lists at a rate of the three: a deadline is done, and the cut call behind it refused; or 11.
+    // The same lists at one of the three rates: a deadline is done, and the cut call after it is refused; or 11.
     let accepted = "48000000 into 80: run 2 1 3 28 written repeated 2 1 3 28 written\n\
                     48000000 into 0: run 11 0 0 0 stays repeated 11 0 0 0 stays\n";
     for language in [C, CPP] {
@@ -100,7 +100,7 @@ fn counts_of_matches_are_read_from_c_and_from_cpp() {
 #[test]
 fn a_board_is_parked_and_taken_up_from_c_and_from_cpp() {
     // Refusal, calls, list bytes and answer bytes. Three writes (6 bytes each, answers of 3), two deadlines (3 bytes,
-    // answers of 28) and two advances (11 bytes, answers of 68); the parking stands after the first advance.
+    // answers of 28) and two advances (11 bytes, answers of 68); the board is parked after the first advance.
     let runs = "whole: 0 7 46 201\nfirst: 0 5 32 105\nsecond: 0 2 14 96\n";
     // The two writes before the skip stand. An advance's answer has 68 bytes, a skip's 12.
     let far = "too far: 13 2 12 6\ntoo far, not parked: 13 2 12 6\n".repeat(2);
@@ -116,17 +116,17 @@ fn a_board_is_parked_and_taken_up_from_c_and_from_cpp() {
 
 #[test]
 fn images_are_moved_from_form_to_form_from_c_and_from_cpp() {
-    // Refusal and bytes written, which were 99: with more room than needed, with just enough, with a byte less and with
-    // none; a rate that no board has is refused ahead of a short buffer.
+    // Refusal and bytes written, which were 99 before: with more room than needed, with just enough, with a byte less
+    // and with none. A rate that no board has is refused before a short buffer is.
     let fresh: String = [1_000_000, 12_000_000, 48_000_000]
         .map(|rate| format!("{rate}: 0 276 0 276 11 0 11 0\n"))
         .concat();
     let others: String = [0, 24_000_000, u32::MAX]
         .map(|rate| format!("{rate}: 15 0 15 0 15 0 15 0\n"))
         .concat();
-    // Nine writes and an advance are done. The alarm is due 7 cycles earlier than after 96,000,000.
+    // Nine writes and an advance are done. The alarm is due after 7 cycles less than 96,000,000.
     let same = "calls: 10 10\npreviews: 0 1 0 1\n";
-    // Into a buffer with more room, with that of the old form alone, and with none.
+    // Into a buffer with more room than needed, with room for the old form alone, and with none.
     let malformed = "12 0 12 0 12 0";
     let unsound = "1 0 1 0 1 0";
     let moves = format!(
@@ -137,7 +137,7 @@ fn images_are_moved_from_form_to_form_from_c_and_from_cpp() {
          new, cut: forward {malformed} back {malformed}\n\
          old, cut: forward {malformed} back {malformed}\n"
     );
-    // A board of another rate has no old image: 16, after 12 and 1 and ahead of 11.
+    // A board at another rate has no old image: 16, after 12 and 1 and before 11.
     let another = format!(
         "calls: 10, rate 12000000\n\
          12 MHz: forward {malformed} back 16 0 16 0 16 0\n\
@@ -156,12 +156,12 @@ fn images_are_moved_from_form_to_form_from_c_and_from_cpp() {
 
 #[test]
 fn totals_are_previewed_from_c_and_from_cpp() {
-    // Refusal, and the eight bytes of the buffer, of which seven are lent. The deadline is 30; the totals are 30, 29,
-    // 0, 31, 2^64 - 1 and 30. Without totals all bytes stay, and so they do where there is one byte less than totals.
+    // Refusal, and the eight bytes of the buffer, seven of which are lent. The deadline is 30; the totals are 30, 29,
+    // 0, 31, 2^64 - 1 and 30. All bytes stay without totals, and where there is one byte less than totals.
     let low = "due after 30: 0 1 0 0 1 1 1 7 7\nno totals: 0 7 7 7 7 7 7 7 7\nshort: 11 7 7 7 7 7 7 7 7\n";
     // After an advance of 30 cycles the line is high; a fresh board has no deadline.
     let constant = "high: 0 1 1 1 1 1 1 7 7\nfresh: 0 0 0 0 0 0 0 7 7\n";
-    // Each refusal ahead of those before it.
+    // 14 comes before 11, 1 before 14 and 12 before 1.
     let refused = "in realtime: 14 7 7 7 7 7 7 7 7\nin realtime, short: 14 7 7 7 7 7 7 7 7\n\
                    unsound, short: 1 7 7 7 7 7 7 7 7\ncut, short: 12 7 7 7 7 7 7 7 7\n";
     for language in [C, CPP] {
@@ -172,18 +172,18 @@ fn totals_are_previewed_from_c_and_from_cpp() {
 #[test]
 fn sources_are_served_in_turn_from_c_and_from_cpp() {
     // The controller after a turn is pending, enable and levels, four digits each. Enable 8221 is sources 15, 9, 5 and
-    // 0. Source 3 is pending throughout and never enabled; 9 and 15 are pending at first, and 0 before each of the
-    // first four turns. After 15 comes 0; after 0 comes 9, since 5 is enabled but not pending; after 9, 15; and then 0.
+    // 0. Source 3 is always pending and never enabled; 9 and 15 are pending at first, and 0 before each of the first
+    // four turns. After 15 comes 0; after 0 comes 9, since 5 is enabled but not pending; after 9, 15; and then 0.
     let again = "source 0 again: lowest 100, served 100, after 820882218209, remembered 0\n\
                  source 0 again: lowest 100, served 109, after 800982218209, remembered 9\n\
                  source 0 again: lowest 100, served 10f, after 000982218209, remembered 15\n\
                  source 0 again: lowest 100, served 100, after 000882218209, remembered 0\n";
-    // Only source 3 is left: the controller and the remembered number stay, 200 being read as 15.
+    // Only source 3 is left: the controller and the remembered number stay, and 200 is read as 15.
     let none = "none: lowest 0, served 0, after 000882218209, remembered 0\n\
                 none after 5: lowest 0, served 0, after 000882218209, remembered 5\n\
                 none after 200: lowest 0, served 0, after 000882218209, remembered 15\n";
     // Source 5 has risen and 0 has fallen: 5 is alone and comes last. Then 0, 5 and 15 have risen again: 15 is the
-    // first after 5, and 16 is read as 15, which 0 follows.
+    // first after 5; and 16 is read as 15, which 0 follows.
     let after = "5 itself: lowest 105, served 105, after 000882218228, remembered 5\n\
                  0, 5 and 15 after 5: lowest 100, served 10f, after 002982218229, remembered 15\n\
                  0 and 5 after 16: lowest 100, served 100, after 002882218229, remembered 0\n";
@@ -241,8 +241,7 @@ fn the_library_uses_no_heap() {
     assert!(names.iter().all(|name| known.contains(name)), "{names:?}");
 }
 
-/// The division instructions of the archive by its disassembly, each behind its function and the instruction ahead of
-/// it.
+/// The division instructions in the archive's disassembly, each after its function and the instruction before it.
 fn divisions() -> Vec<[String; 3]> {
     let output = Command::new("objdump")
         .args(["-d", "--no-show-raw-insn"])
@@ -270,18 +269,19 @@ fn divisions() -> Vec<[String; 3]> {
 
 #[test]
 fn the_clock_divides_by_constants() {
-    // Those by a prescaler or a reload. A division by a constant is a multiplication, so that the rates add none.
+    // These divide by a prescaler or a reload. A division by a constant becomes a multiplication, so the rates add
+    // none.
     assert_eq!(divisions().len(), 16);
 }
 
 #[test]
 fn prescaler_0_is_taken_first_and_every_division_is_of_one_word() {
     let divisions = divisions();
-    // With the case of prescaler 0 taken out of the step, the compiler does not unroll the loop over the channels, and
-    // there are 4. A division of two words by hand would add some.
+    // Without the separate case for prescaler 0, the compiler does not unroll the loop over the channels, and there are
+    // 4. A hand-written division of two words would add some.
     assert_eq!(divisions.len(), 16);
     for [function, ahead, division] in divisions {
-        // The dividend is rdx and rax: the high word is 0.
+        // The dividend is rdx and rax: the high word, rdx, is 0.
         assert_eq!(
             (&function[..], &ahead[..]),
             ("list::run", "xor %edx,%edx"),

@@ -1,4 +1,4 @@
-/* Gives the sources of a controller their turns, by a fresh dispatcher and after remembered numbers of any size, and
+/* Serves the sources of a controller in turn, by a fresh dispatcher and after remembered numbers of any size, and
    prints each turn. Ends with 1 where something that must agree does not. The text is C and C++: the test compiles it
    as both. */
 #include "pec.h"

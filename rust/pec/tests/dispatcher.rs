@@ -9,8 +9,8 @@ fn words(controller: &Controller) -> [u16; 3] {
     [controller.pending(), controller.enable_mask(), controller.levels()]
 }
 
-/// A turn after a remembered number, every source being enabled: what it serves, and the pending bits and the number
-/// that it leaves. The other words stay.
+/// A turn after a remembered number, with every source enabled: the source it serves, and the pending bits and the
+/// number that it leaves. The other words stay.
 fn turn(last: u8, pending: u16) -> (Option<u8>, u16, u8) {
     let mut dispatcher = Dispatcher::from_last(last);
     let mut controller = Controller::from_words(pending, 0xFFFF, LEVELS);
@@ -60,7 +60,7 @@ fn a_number_above_15_is_read_as_15() {
 
 #[test]
 fn none_leaves_the_controller_and_the_number() {
-    // Every source pending and none enabled, the other way round, and each source pending or enabled but not both.
+    // Every source pending and none enabled; none pending and every one enabled; each pending or enabled, but not both.
     for [pending, enable] in [[0xFFFF, 0], [0, 0xFFFF], [0x5A3C, 0xA5C3]] {
         for last in 0..=255 {
             let mut dispatcher = Dispatcher::from_last(last);
@@ -98,7 +98,7 @@ fn a_turn_clears_one_pending_bit_and_nothing_else() {
 #[test]
 fn sixteen_turns_serve_every_source_once() {
     for first in 0..16 {
-        // After remembered k, the others come before k, which is served at the sixteenth turn.
+        // After remembered k, all others come before k, which is served at the sixteenth turn.
         let mut dispatcher = Dispatcher::from_last(first);
         let mut controller = Controller::from_words(0, 0xFFFF, 0);
         for later in 1..=16 {

@@ -17,7 +17,7 @@ fn example(arguments: &[&str]) -> Output {
         .expect("cargo runs")
 }
 
-/// A folder of a test's own, empty.
+/// An empty folder for one test.
 fn folder(name: &str) -> PathBuf {
     let folder = PathBuf::from(env!("CARGO_TARGET_TMPDIR")).join(name);
     if folder.exists() {
@@ -31,7 +31,7 @@ fn folder(name: &str) -> PathBuf {
 fn the_example_prints_both_days_and_leaves_fridays_board() {
     let folder = folder("example");
     let image = folder.join("board");
-    // An older image, and what a crash left of a parking, are replaced.
+    // An older image, and what a crash left while parking, are replaced.
     fs::write(&image, b"old").expect("the file can be written");
     fs::write(folder.join("board.new"), [7; 1_000]).expect("the file can be written");
     let output = example(&[image.to_str().expect("the path is text")]);
@@ -59,7 +59,7 @@ fn the_example_takes_up_an_image_of_either_form() {
     let board = folder.join("board");
     let path = |path: &Path| path.to_str().expect("the path is text").to_string();
     let friday = Path::new(env!("CARGO_MANIFEST_DIR")).join("tests/images/friday.image");
-    // What the library of S-1 parked on Friday; and then the image that the example made of it, which has the rate.
+    // Friday's image, parked by the library of S-1; and then the image that the example made of it, which has the rate.
     let parked = folder.join("parked");
     for (earlier, form) in [(&friday, "old"), (&parked, "new")] {
         let output = example(&[&path(&board), &path(earlier)]);

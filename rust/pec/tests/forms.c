@@ -1,7 +1,7 @@
-/* Parks fresh boards of each rate and of rates that no board has, and moves images from form to form: boards of each
-   rate, images that are damaged and unsound, and buffers that are short. Runs and previews an old image beside the new
-   one. Prints each refusal and the bytes written behind it, and ends with 1 where something that must stay or agree
-   does not. The text is C and C++: the test compiles it as both. */
+/* Parks fresh boards at each rate and at rates that no board has. Moves images from form to form: boards at each rate,
+   damaged and unsound images, and short buffers. Runs and previews an old image beside the new one. Prints each refusal
+   and then the bytes written, and ends with 1 where something that must stay or agree does not. The text is C and C++:
+   the test compiles it as both. */
 #include "pec.h"
 
 #include <stdio.h>
@@ -27,7 +27,7 @@ static void must(bool holds, const char *what)
     }
 }
 
-/* Whether the bytes of a buffer from a place on are as they were. */
+/* Whether the bytes of a buffer from a place on still hold the filling. */
 static bool stays(const uint8_t *buffer, size_t from)
 {
     for (size_t i = from; i < BUFFER; i++) {
@@ -47,7 +47,7 @@ static uint32_t rate_of(const uint8_t *image)
     return rate;
 }
 
-/* A fresh board of a rate in a buffer with more room than it needs, with just room, with less, and with none. */
+/* A fresh board at a rate, into a buffer with more room than it needs, with just enough, with less, and with none. */
 static void fresh_at(uint32_t rate)
 {
     static const size_t ROOM[] = {BUFFER, PEC_IMAGE_SIZE, PEC_IMAGE_SIZE - 1, 0};
@@ -92,7 +92,7 @@ static void moves(const char *name, const uint8_t *image, size_t length)
     printf("\n");
 }
 
-/* A list over an image; gives the calls that were done. */
+/* Runs the list over an image; gives the calls done. */
 static size_t run(uint8_t *image, size_t length, uint8_t *answers)
 {
     size_t calls, used, written;
@@ -101,7 +101,7 @@ static size_t run(uint8_t *image, size_t length, uint8_t *answers)
     return calls;
 }
 
-/* The same list over a board in each form: the same answers, the same previews, and images that are moved into each
+/* The same list over a board in each form: the same answers, the same previews, and images that move into each
    other. */
 static void both_forms(void)
 {
@@ -137,7 +137,7 @@ static void both_forms(void)
     moves("old, cut", old, sizeof old - 1);
 }
 
-/* A board of another rate, sound and not; and one at a rate that no board has. */
+/* A board at another rate, sound and not; and one at a rate that no board has. */
 static void another_rate(void)
 {
     uint8_t image[PEC_IMAGE_SIZE], answers[ANSWERS];

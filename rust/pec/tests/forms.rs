@@ -9,7 +9,7 @@ use pec::{
 const RATE: usize = 3;
 const TIMER_ENABLE: usize = 7 + 4 * 38 + 3;
 
-/// The alarm at 2 seconds, enabled, and some cycles. The deadline is then 2 seconds of cycles less 7.
+/// The alarm at 2 seconds, enabled, and an advance of 7 cycles. The deadline is then 2 seconds of cycles less 7.
 fn list() -> Vec<u8> {
     let alarm = (0x098..0x09C).chain(0x094..0x098).zip(2_u64.to_be_bytes());
     let mut calls: Vec<Call> = alarm.map(|(address, byte)| Call::Write { address, byte }).collect();
@@ -71,7 +71,7 @@ fn a_fresh_board_of_a_rate_is_parked_at_the_start_of_a_buffer() {
             (&fresh.image()[..], &[7; 2][..])
         );
     }
-    // Another rate comes ahead of a short buffer.
+    // Another rate is refused before a short buffer is.
     for length in [0, IMAGE_SIZE] {
         let mut buffer = [7; IMAGE_SIZE];
         let parked = park_fresh_at(24_000_000, &mut buffer[..length]);
@@ -101,7 +101,7 @@ fn there_and_back_gives_the_same_bytes() {
         (&buffer[..OLD_IMAGE_SIZE], &buffer[OLD_IMAGE_SIZE..]),
         (&old[..], &[7; 2][..])
     );
-    // A board that is read from an old image is the same board.
+    // A board read from an old image is the same board.
     let resumed = Board::from_image(&old).expect("an old image is read");
     assert_eq!((resumed.rate(), &resumed), (DEFAULT_RATE, &board));
 }
@@ -121,7 +121,7 @@ fn moves_are_refused_in_order_and_leave_the_buffer() {
     let no_rate = replaced(new, RATE + 3, 1);
     let full = IMAGE_SIZE;
     for (image, length, forward, back) in [
-        // Already in the target form, sound or not, comes first.
+        // Already in the target form, sound or not: this comes first.
         (&new[..], full, Some(Refusal::MalformedImage), None),
         (&new, OLD_IMAGE_SIZE, Some(Refusal::MalformedImage), None),
         (&old, full, None, Some(Refusal::MalformedImage)),
@@ -151,7 +151,7 @@ fn moves_are_refused_in_order_and_leave_the_buffer() {
             Some(Refusal::MalformedImage),
         ),
         (&[], 0, Some(Refusal::MalformedImage), Some(Refusal::MalformedImage)),
-        // 12 ahead of 16, 1 ahead of 16, 16 ahead of 11.
+        // 12 comes before 16, 1 before 16, 16 before 11.
         (
             &malformed_slow,
             full,
@@ -249,7 +249,7 @@ fn a_rate_that_no_board_has_is_not_sound() {
             (run_parked(&mut image, &list(), &mut [0; 128]), image),
             (refused, before)
         );
-        // Its form comes first.
+        // A wrong form comes before the rate.
         assert_eq!(image_refusal(&image[..IMAGE_SIZE - 1]), Some(Refusal::MalformedImage));
     }
 }

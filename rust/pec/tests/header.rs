@@ -1,5 +1,5 @@
-//! The header's numbers are those of the crate: names, numbers and meanings of the refusals, rates and sizes of images.
-//! And the header has the library's functions, whose contracts ask nothing of a caller.
+//! The header has the crate's numbers: names, numbers and meanings of the refusals, rates and sizes of images. It also
+//! has every function of the library, whose contracts ask nothing of a caller.
 
 use pec::{Refusal, DEFAULT_RATE, IMAGE_SIZE, OLD_IMAGE_SIZE, RATES};
 
@@ -10,7 +10,7 @@ const SOURCES: [&str; 2] = [
     include_str!("../../../crates/pec/src/irqc.rt"),
 ];
 
-/// What the header defines with a name that begins so: the rest of the name, the value, and the comment behind it.
+/// What the header defines under names with a prefix: the name after the prefix, the value, and the comment after it.
 fn defined(prefix: &str) -> Vec<(String, String, String)> {
     let lines = HEADER.lines().filter_map(|line| line.strip_prefix("#define "));
     let defined = lines.filter_map(|line| line.strip_prefix(prefix)).map(|line| {
@@ -93,8 +93,8 @@ fn the_header_has_every_exported_function() {
 
 #[test]
 fn the_exported_functions_ask_nothing_of_a_caller() {
-    // What the crate says of its safety rests on it: every board, image, list, buffer, total and rate is accepted or
-    // refused by number.
+    // The crate's safety depends on this: every board, image, list, buffer, total and rate is accepted or refused by
+    // number.
     for source in SOURCES {
         assert!(source.contains("ensures {") && !source.contains("requires {"));
     }

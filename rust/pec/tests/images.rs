@@ -1,5 +1,5 @@
-//! The images that the library of S-1 wrote, `tests/images`: they are as they were, are read, answer the deadlines that
-//! were recorded then, and are moved to the new form and back.
+//! The images in `tests/images`, which the library of S-1 wrote in the old form: they are unchanged, are read, answer
+//! the recorded deadlines, and are moved to the new form and back.
 
 use std::fs;
 use std::path::{Path, PathBuf};
@@ -53,9 +53,9 @@ fn the_images_are_as_the_library_of_s_1_wrote_them() {
         .expect("sha256sum runs");
     let text = String::from_utf8(output.stdout).expect("sha256sum prints text");
     assert!(output.status.success(), "{text}");
-    // A line that is missing would leave its file unchecked.
+    // A missing line would leave its file unchecked.
     assert_eq!(text.lines().filter(|line| line.ends_with(".image: OK")).count(), count);
-    // The list of digests is the one of then, too.
+    // The list of digests is unchanged too.
     let output = Command::new("sha256sum")
         .arg("SHA256SUMS")
         .current_dir(folder())
@@ -79,7 +79,7 @@ fn each_is_read_as_the_old_form_and_answers_its_deadline() {
         let outcome = run_parked(&mut asked, &list_of(&[Call::Deadline]), &mut buffer);
         assert_eq!((outcome.calls, outcome.refusal), (1, None), "{name}");
         assert_eq!(answers(&buffer).next(), Some(Ok((0x05, deadline))), "{name}");
-        // To ask changes nothing.
+        // The question changes nothing.
         assert_eq!(asked, image, "{name}");
     }
 }

@@ -1,5 +1,5 @@
-/* Runs document 01's worked list, twice by way of the repeated run, and prints its listing; then setting H on the
-   controller. The text is C and C++: the test compiles it as both. */
+/* Runs document 01's worked list, twice by a repeated run, and prints its listing; then setting H on the controller.
+   The text is C and C++: the test compiles it as both. */
 #include "pec.h"
 
 #include <stdio.h>
@@ -15,7 +15,7 @@ static void show(const uint8_t *answers, size_t written, size_t calls, uint8_t r
         return;
     }
     fwrite(text, 1, length, stdout);
-    /* a buffer that is too short gets the listing's beginning */
+    /* a text that is too short gets the listing's beginning */
     printf("%zu ", pec_listing(answers, written, calls, refusal, used, first, sizeof first));
     fwrite(first, 1, sizeof first, stdout);
     printf("\n");

@@ -1,6 +1,6 @@
-/* Parks a fresh board, runs a list over it in two parts, and holds the answers, the counts and the image against the
-   list in one run; then a skip that is refused over a parked board, and images and buffers that are refused. Prints
-   each result, and ends with 1 where something that must stay or agree does not. The text is C and C++: the test
+/* Parks a fresh board, runs a list over it in two pieces, and compares the answers, the counts and the image with those
+   of the list in one run. Then a skip that is refused over a parked board, and images and buffers that are refused.
+   Prints each result, and ends with 1 where something that must stay or agree does not. The text is C and C++: the test
    compiles it as both. */
 #include "pec.h"
 
@@ -9,7 +9,7 @@
 
 /* Channel 0: compare 3, control 12, timer enable 1. Then advances of 2 and 1 cycles, and the deadline before each. */
 static const uint8_t LIST[] = {3, 0, 3, 0x02, 0x93, 3, 3, 0, 3, 0x02, 0x83, 12, 3, 0, 3, 0x00, 0x07, 1,
-                               5, 0, 0, 4, 0, 8, 0, 0, 0, 0, 0, 0, 0, 2, /* the first part ends here */
+                               5, 0, 0, 4, 0, 8, 0, 0, 0, 0, 0, 0, 0, 2, /* the first piece ends here */
                                5, 0, 0, 4, 0, 8, 0, 0, 0, 0, 0, 0, 0, 1};
 enum { FIRST = 32, FILLING = 0xA5, ANSWERS = 256, TIMER_ENABLE_AT = 162 };
 
@@ -54,8 +54,8 @@ static const uint8_t FAR[] = {3, 0, 3, 0x02, 0x83, 0x1E, 3, 0, 3, 0x00, 0x07, 1,
 static const uint8_t NEARER[] = {4, 0, 8, 0, 0, 0, 0, 0, 0, 0, 1, 6, 0, 0};
 enum { STARTED = 12 };
 
-/* A skip whose deadline is too large, over a parked board, into buffers with room for its answer and without; and one
-   that is a cycle nearer. */
+/* A skip over a parked board whose deadline is too large, into buffers with room for its answer and without; and one
+   after an advance of one cycle. */
 static void skip_too_far(void)
 {
     uint8_t answers[ANSWERS], far[PEC_IMAGE_SIZE], started[PEC_IMAGE_SIZE];
@@ -80,7 +80,7 @@ static void skip_too_far(void)
     printf("nearer: %u %zu %zu %zu, line %u\n", refusal, calls, used, written, answers[written - 1]);
 }
 
-/* The refusals of an image: of the question, and of a run over it, which must change nothing. */
+/* The refusals of an image: by `pec_image_refusal`, and of a run over it, which must change nothing. */
 static void show_refused(const char *name, size_t length, unsigned refusal)
 {
     uint8_t answers[ANSWERS], before[ANSWERS];

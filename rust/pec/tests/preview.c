@@ -1,6 +1,6 @@
 /* Previews many totals of parked boards: about a deadline, with the line high, without a deadline, and refused. Prints
-   each refusal and the buffer behind it, and ends with 1 where an image changes. The text is C and C++: the test
-   compiles it as both. */
+   each refusal and then the buffer, and ends with 1 where an image changes. The text is C and C++: the test compiles it
+   as both. */
 #include "pec.h"
 
 #include <stdio.h>

@@ -1,5 +1,5 @@
-/* Runs lists over boards of each rate and prints what they show of it, and over rates that no board has: each refusal,
-   the counts behind it, and whether the buffer stayed. The text is C and C++: the test compiles it as both. */
+/* Runs lists over boards at each rate and prints what they show of it; and at rates that no board has: each refusal,
+   then the counts, and whether the buffer stayed. The text is C and C++: the test compiles it as both. */
 #include "pec.h"
 
 #include <stdio.h>

@@ -98,7 +98,7 @@ fn a_board_of_which_no_rate_is_said_has_the_default_rate() {
 
 #[test]
 fn a_repeated_list_goes_on_at_the_rate() {
-    // Each time half a second: the lowest byte of the seconds, at address 0x08B, goes up every second time.
+    // Half a second each time: the lowest byte of the seconds, at address 0x08B, goes up every second time.
     for rate in RATES {
         let half = Call::Advance {
             cycles: u64::from(rate) / 2,
@@ -133,7 +133,7 @@ fn another_rate_is_refused_before_all_else() {
         48_000_001,
         u32::MAX,
     ] {
-        // A list that is empty, cut, of an unknown tag, and accepted; with room and without.
+        // An empty list, a cut one, one with an unknown tag, and an accepted one; with room and without.
         for list in [&[][..], &[5, 0], &[0xFF, 0, 0], &output] {
             for room in [0, 8] {
                 let mut buffer = [7; 8];

@@ -1,7 +1,6 @@
-/* Prints the bytes of stack that a thread uses, first alone, then with a run of the list on standard input, then with a
-   run of it at a rate of its own, then with a run of it over a parked board, then with previews of a parked board, and
-   then with moves of its image back and forward: the stack is filled before, and what no longer holds the filling was
-   used. */
+/* Prints the bytes of stack that a thread uses: alone, with runs of the list on standard input, with runs of it at a
+   given rate, with a run of it over a parked board, with previews of a parked board, and with moves of its image back
+   and forward. The stack is filled before; bytes that have lost the filling were used. */
 #define _POSIX_C_SOURCE 200809L
 #include "pec.h"
 

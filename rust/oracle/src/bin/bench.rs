@@ -3,12 +3,12 @@
 //! The Rust does not count the matches of an advance, so it is timed without the oracle's counts: the driver writes
 //! zeros in their place. The answers that the proved board was timed on are compared with an untimed run that counts.
 //!
-//! `bench` prints, for each kind of list, nanoseconds a call of both, median and spread of 25 repeats; the median of
-//! the ratios of the repeats that stand next to each other; and the seconds of a ten-year record. Above its table it
-//! prints how the Rust is built. Then it prints nanoseconds of the work on parked boards, which is the proved board's
-//! alone, and their ratios to an advance inside a long list; and of previews, with their ratios to an advance of a copy
-//! of the Rust's board. `bench NAME` prints one kind alone, `bench parking` the parked boards, `bench previews` the
-//! previews. `bench --rate RATE [NAME]` prints the lists at another rate; the other work is on a board at 48,000,000.
+//! `bench` prints, for each kind of list, the nanoseconds a call of both, median and spread of 25 repeats; the median
+//! of the ratios of neighbouring repeats; and the seconds of a ten-year record. Above its table it prints how the Rust
+//! is built. Then it prints the nanoseconds of work on parked boards, which only the proved board has, and their ratios
+//! to an advance inside a long list; and those of previews, with their ratios to an advance of a copy of the Rust's
+//! board. `bench NAME` prints one kind alone, `bench parking` the parked boards, `bench previews` the previews.
+//! `bench --rate RATE [NAME]` prints the lists at another rate; the other work is on a board at 48,000,000.
 
 use std::process::ExitCode;
 use std::time::Instant;
@@ -18,7 +18,7 @@ use oracle::kinds::{self, previews, Group, Kind, BUFFER, CALLS};
 use oracle::measure::{median_ratio, nanoseconds_each, rate_asked, sorted, REPEATS};
 use oracle::{list, matches, proved};
 
-/// The times that one repeat carries out an operation of a group.
+/// How often one repeat carries out an operation of a group.
 const TIMES: u64 = 100 * CALLS as u64;
 
 fn main() -> ExitCode {
@@ -59,7 +59,7 @@ fn failed(reason: &str) -> ExitCode {
     ExitCode::FAILURE
 }
 
-/// The operations of a group, in turns as the lists are.
+/// Measures the operations of a group, in turn as with the lists.
 fn measure_group(group: &Group) {
     let operations = group.operations;
     let mut seconds: Vec<Vec<f64>> = operations.iter().map(|_| Vec::new()).collect();
@@ -101,8 +101,8 @@ fn measure(rate: u32, kind: &Kind) {
     let calls = kind.list.len() as u64 * kind.times;
     let mut seconds: [Vec<f64>; 2] = [Vec::new(), Vec::new()];
     let mut buffers = [vec![0; BUFFER], vec![0; BUFFER]];
-    // The two take turns, so that a slow spell of the machine meets both, and their ratio is that of two repeats next
-    // to each other.
+    // The two take turns, so that a slow moment of the machine affects both, and each ratio is that of neighbouring
+    // repeats.
     for _ in 0..REPEATS {
         for ((runner, seconds), buffer) in runners.into_iter().zip(&mut seconds).zip(&mut buffers) {
             let start = Instant::now();

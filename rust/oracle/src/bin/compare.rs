@@ -5,14 +5,16 @@
 //! every byte, the clock about its limits, rates that no board has, damaged lists, short buffers, skips to large
 //! deadlines, advances with counts of matches at limits, prescalers at their limits, damaged images, moves of images
 //! from form to form, fresh boards that are parked, previews to large deadlines, of clocks and of damaged images, the
-//! controller by itself, and the dispatcher. The lists of the seeds, the registers, the clock, and parked boards and
-//! previews by seed, by damaged images and by moves are compared at each of the three rates, and all else at that of a
-//! board of which none is said. Images are of the new form, and at 48,000,000 of the old form too. Prints the
-//! comparisons of each part, and ends with how many agreed, or prints the shortest list that shows a difference.
+//! controller by itself, and the dispatcher.
 //!
-//! The Rust has neither the counts in an advance's answer nor the dispatcher nor images: there the proved board is
-//! compared with the oracle's own reading of S-4, of S-3, and of S-1 and S-8. It has no previews either: each byte of
-//! one is compared with an advance of the Rust, of a board of its own.
+//! The lists of the seeds, the registers, the clock, and parked boards and previews by seed, by damaged images and by
+//! moves are compared at each of the three rates, and all else at that of a board without a given rate. Images are in
+//! the new form, and at 48,000,000 in the old form too. Prints how many comparisons each kind made and ends with how
+//! many agreed, or prints the shortest list that shows a difference.
+//!
+//! The Rust has neither the counts in an advance's answer nor the dispatcher nor images. There the proved board is
+//! compared with the oracle's own reading of S-4, of S-3, and of S-1 and S-8. The Rust has no previews either: each
+//! byte of a preview is compared with an advance of the Rust on a board of its own.
 
 use std::process::ExitCode;
 use std::sync::atomic::{AtomicU64, Ordering::Relaxed};
@@ -199,7 +201,7 @@ fn compare(all: bool, first: u64, last: u64) -> Result<Count, String> {
     Ok(total)
 }
 
-/// A part's name with the form of its images, where that is the old one.
+/// The name of a comparison, with the form of its images where that is the old one.
 fn of_form(name: &str, form: Form, way: &str) -> String {
     let form = match form {
         Form::Old => "of the old form",
@@ -213,7 +215,7 @@ fn of_form(name: &str, form: Form, way: &str) -> String {
         .join(" ")
 }
 
-/// A part's name with its rate.
+/// The name of a comparison, with its rate.
 fn at(name: &str, rate: u32) -> String {
     format!("{name} at {} cycles a second", thousands(rate))
 }

@@ -2,12 +2,12 @@
 //! count the matches of an advance, so its run is the one without the oracle's counts: the driver writes zeros in their
 //! place.
 //!
-//! `instructions` prints, for each kind of list, the instructions a call of both, and then those of the work on parked
-//! boards, which is the proved board's alone, and of previews. `instructions NAME` prints one kind alone,
+//! `instructions` prints, for each kind of list, the instructions a call of both, and then those of work on parked
+//! boards, which only the proved board has, and of previews. `instructions NAME` prints one kind alone,
 //! `instructions parking` the parked boards, `instructions previews` the previews. `instructions --rate RATE [NAME]`
 //! prints the lists at another rate; the other work is on a board at 48,000,000. It counts by running itself under
-//! callgrind: `instructions --rate RATE NAME BOARD TIMES` repeats the list of that name so many times, and
-//! `instructions NAME TIMES` 4,000 times the operation of that name.
+//! callgrind: `instructions --rate RATE NAME BOARD TIMES` repeats the list of that name TIMES times, and
+//! `instructions NAME TIMES` the operation of that name 4,000 times as often.
 
 use std::env;
 use std::process::ExitCode;
@@ -71,12 +71,12 @@ fn table(rate: u32, wanted: Option<&str>) -> Result<(), String> {
     Ok(())
 }
 
-/// The number of repetitions that is given.
+/// The given number of repetitions.
 fn repetitions(times: &str) -> Result<u64, String> {
     times.parse().map_err(|_| "the repetitions are a number".into())
 }
 
-/// Carries out an operation as often as a list that is repeated so many times has calls: what is counted.
+/// Carries out an operation as often as a list repeated that many times has calls. This is what is counted.
 fn repeat_operation(name: &str, times: &str) -> Result<(), String> {
     let mut operations = GROUPS.iter().flat_map(|group| group.operations);
     let operation = operations.find(|operation| operation.name == name);
@@ -85,7 +85,7 @@ fn repeat_operation(name: &str, times: &str) -> Result<(), String> {
     Ok(())
 }
 
-/// Repeats a list so many times on a board of a rate: what is counted.
+/// Repeats a list that many times on a board at a rate. This is what is counted.
 fn repeat_list(rate: u32, name: &str, board: &str, times: &str) -> Result<(), String> {
     let times = repetitions(times)?;
     let (board, runner) = BOARDS

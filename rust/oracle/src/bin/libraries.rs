@@ -1,12 +1,12 @@
-//! Measures builds of the proved library side by side on the lists of `bench`: this one and earlier ones.
+//! Measures builds of the proved library side by side on the lists of `bench`: the present one and earlier ones.
 //!
 //! `libraries FILE...`, each a shared library that has `pec_run_repeated`, prints for each kind of list and each
 //! library the nanoseconds a call, median and spread of 25 repeats taken in turns, the median of their ratios to the
 //! repeats of the first library, and the instructions a call. It counts these by running itself under callgrind:
-//! `libraries repeat NAME FILE TIMES` repeats the list of that name so many times.
+//! `libraries repeat NAME FILE TIMES` repeats the list of that name TIMES times.
 //!
-//! The libraries must agree in every answer, as far as the shorter one goes: an earlier one may give fewer members.
-//! Some take no rate, so that all are measured on boards of which none is said.
+//! The libraries must agree in every answer, as far as the shorter answer goes: an earlier library may give fewer
+//! members. Some take no rate, so all are measured on boards without a given rate.
 
 use std::env;
 use std::ffi::{c_char, c_int, c_void, CStr, CString};
@@ -25,7 +25,7 @@ unsafe extern "C" {
     fn dlerror() -> *const c_char;
 }
 
-/// Every symbol is found when the library is loaded, so that a run does not look for any.
+/// Every symbol is resolved when the library is loaded, so that a run resolves none.
 const RTLD_NOW: c_int = 2;
 
 /// `pec_run_repeated` of rust/pec/include/pec.h.
@@ -52,7 +52,7 @@ impl Library {
     fn load(file: &str) -> Result<Self, String> {
         let path = CString::new(file).map_err(|_| format!("{file:?} is no file's name"))?;
         // SAFETY: the strings end with 0; a library is not unloaded; the code of libpec.a runs nothing when it is
-        // loaded; and the function has the type that pec.h gives it, which it has had from the first.
+        // loaded; and the function has the type that pec.h gives it, in every build of the library.
         let found = unsafe {
             let library = dlopen(path.as_ptr(), RTLD_NOW);
             let symbol = if library.is_null() {
@@ -71,8 +71,8 @@ impl Library {
         })
     }
 
-    /// A kind's two lists, as bytes: the first over a fresh board, and then the other so many times. Gives the bytes of
-    /// the last answers.
+    /// Runs a kind's two lists, as bytes: the first over a fresh board, and then the other `times` times. Gives the
+    /// bytes of the last answers.
     fn repeat(
         &self,
         kind: &Kind,
@@ -134,7 +134,7 @@ fn table(files: &[&str]) -> Result<(), String> {
     Ok(())
 }
 
-/// What prepares the board, and the list that is measured.
+/// The list that prepares the board, and the list that is measured.
 fn lists(kind: &Kind) -> [Vec<u8>; 2] {
     [&kind.first, &kind.list].map(|calls| list_of(calls))
 }
@@ -143,7 +143,7 @@ fn measure(kind: &Kind, libraries: &[Library]) -> Result<(), String> {
     let lists = lists(kind);
     let mut seconds: Vec<Vec<f64>> = libraries.iter().map(|_| Vec::new()).collect();
     let mut answers: Vec<Vec<u8>> = libraries.iter().map(|_| vec![0; BUFFER]).collect();
-    // They take turns, so that a slow spell of the machine meets all.
+    // They take turns, so that a slow moment of the machine affects all.
     for _ in 0..REPEATS {
         for ((library, seconds), answers) in libraries.iter().zip(&mut seconds).zip(&mut answers) {
             answers.resize(BUFFER, 0);
@@ -170,7 +170,7 @@ fn measure(kind: &Kind, libraries: &[Library]) -> Result<(), String> {
     Ok(())
 }
 
-/// Repeats a list so many times: what is counted.
+/// Repeats a list that many times. This is what is counted.
 fn repeat(name: &str, file: &str, times: &str) -> Result<(), String> {
     let times: u64 = times.parse().map_err(|_| "the repetitions are a number")?;
     let kinds = kinds::named(DEFAULT_RATE, Some(name));

@@ -1,4 +1,4 @@
-//! `record DIR` writes the files of the recording into a directory and prints what each has in it.
+//! `record DIR` writes the files of the recording into a directory and prints what each covers.
 
 use std::path::Path;
 use std::process::ExitCode;

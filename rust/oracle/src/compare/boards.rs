@@ -6,14 +6,14 @@ use crate::fields::{Channel, Fields};
 use crate::registers::{self, CHANNELS};
 use crate::writes::{byte, set_channel};
 
-/// A fresh board but for its channels and its timer enable.
+/// A board that is fresh except for its channels and its timer enable.
 pub struct Start {
     pub channels: [Channel; CHANNELS],
     pub timer_enable: u8,
 }
 
 impl Start {
-    /// The calls that make the board of a fresh one. They advance it, so that its clock is not that of `fields`.
+    /// The calls that make the board from a fresh one. They advance it, so its clock differs from that of `fields`.
     pub fn calls(&self) -> Vec<Call> {
         let mut calls = Vec::new();
         for (number, channel) in self.channels.iter().enumerate() {

@@ -13,7 +13,7 @@ use crate::list;
 use crate::registers;
 use crate::writes::{alarm, alarm_due, byte, two_words};
 
-/// A board to advance: the calls that make it of a fresh one of a rate, and the advances that are made on it.
+/// A board to advance: the calls that make it from a fresh one at a rate, and the advances on it.
 pub struct Start {
     pub calls: Vec<Call>,
     pub advances: BTreeSet<u64>,
@@ -30,7 +30,7 @@ fn advance(cycles: u32) -> Call {
     Call::Advance { cycles: cycles.into() }
 }
 
-/// Cycles to each point, one less and one more, as far as they are 64-bit numbers.
+/// Cycles to each point, one less and one more, where they are 64-bit numbers.
 fn about(points: impl IntoIterator<Item = u128>) -> BTreeSet<u64> {
     let cycles = points
         .into_iter()
@@ -38,8 +38,8 @@ fn about(points: impl IntoIterator<Item = u128>) -> BTreeSet<u64> {
     cycles.filter_map(|cycles| u64::try_from(cycles).ok()).collect()
 }
 
-/// Points that a rate gives: none, a poll, a second, two and the most. Of each rate, so that a board that goes by
-/// another than its own is seen.
+/// Points that a rate gives: none, a poll, a second, two and the most. They are those of every rate, to show a board
+/// that uses a rate other than its own.
 fn points() -> impl Iterator<Item = u128> {
     let of_rate = |rate| {
         let poll = Fields::fresh_at(rate).poll_limit();
@@ -58,8 +58,8 @@ pub fn subseconds(rate: u32) -> BTreeSet<u32> {
     subseconds
 }
 
-/// Clocks that count, from the first second and up to the last, with alarms from the next second on: settings F and G,
-/// with every subsecond, and alarms whose deadline is within a second of 2^64.
+/// Clocks that count, from the first second up to the last, with alarms from the next second on: settings F and G with
+/// every subsecond, and alarms whose deadline is within a second of 2^64.
 pub fn counting(rate: u32) -> Vec<Start> {
     let mut starts = Vec::new();
     for seconds in [0, 5, u64::MAX - 2, u64::MAX] {
@@ -86,7 +86,7 @@ pub fn counting(rate: u32) -> Vec<Start> {
     starts
 }
 
-/// Alarms whose deadline is 2^64 - 2 to 2^64 + 1: a skip gets to the first two, and is refused with 13 for the others.
+/// Alarms whose deadline is 2^64 - 2 to 2^64 + 1: a skip reaches the first two, and is refused with 13 for the others.
 pub fn far(rate: u32) -> Vec<Start> {
     let top = 1_u128 << 64;
     let due = [top - 2, top - 1, top, top + 1];
@@ -97,7 +97,7 @@ pub fn far(rate: u32) -> Vec<Start> {
     .into()
 }
 
-/// Alarms on host time, due and not, after a poll's beginning, a cycle, and all but a cycle of it.
+/// Alarms on host time, due and not, at a poll's beginning, after one cycle of it, and after all but one.
 pub fn polled(rate: u32) -> Vec<Start> {
     let limit = Fields::fresh_at(rate).poll_limit();
     let mut starts = Vec::new();
@@ -123,7 +123,7 @@ pub fn polled(rate: u32) -> Vec<Start> {
 }
 
 /// From every control to every control: the clock is switched off, on, to host time and from it, at subseconds and host
-/// times that are whole numbers of the other's unit, and not.
+/// times that are whole numbers of the other's unit, and that are not.
 pub fn switched(rate: u32) -> Vec<Start> {
     let nanoseconds = [
         0,
@@ -141,7 +141,7 @@ pub fn switched(rate: u32) -> Vec<Start> {
     let mut starts = Vec::new();
     for before in 0..8 {
         for after in 0..8 {
-            // Each subsecond with some host time.
+            // Each subsecond with one of the host times.
             for (place, subsecond) in subseconds.iter().enumerate() {
                 let mut calls = alarm(HOST_ALARM);
                 calls.push(advance(*subsecond));
@@ -161,8 +161,8 @@ pub fn switched(rate: u32) -> Vec<Start> {
     starts
 }
 
-/// What is called behind an advance: the time as nanoseconds and as seconds, the alarm, the deadline, and what comes
-/// with a cycle more.
+/// The calls after an advance: they show the time as nanoseconds and as seconds, the alarm, the deadline, and what one
+/// more cycle brings.
 fn shown() -> Vec<Call> {
     let word = |word: u16| (word..word + 4).map(|address| Call::Read { address });
     let mut calls = vec![Call::Deadline];
@@ -176,7 +176,8 @@ fn shown() -> Vec<Call> {
     calls
 }
 
-/// Each board with each of its advances and what is shown after it; and what the board holds before, with a skip.
+/// Compares each board with each of its advances and what is shown after it; and what the board holds before, with a
+/// skip.
 pub fn lists(pair: &Pair) -> Compared {
     let mut count = Count::default();
     let rate = pair.rate;
@@ -198,7 +199,7 @@ pub fn lists(pair: &Pair) -> Compared {
 /// Runs a list over a fresh board of a rate, into an answer buffer.
 pub type RunAt = fn(u32, &[u8], &mut [u8]) -> Outcome;
 
-/// Runs a list over a fresh board of a rate, and then a second so many times over the board that is left.
+/// Runs a list over a fresh board at a rate, and then a second list a number of times over the board that is left.
 pub type RunRepeatedAt = fn(u32, &[u8], &[u8], u64, &mut [u8]) -> Outcome;
 
 /// The operations that take a rate, of a board under comparison.
@@ -214,7 +215,8 @@ pub const RULES: AtRates = AtRates {
     run_repeated: list::run_repeated_at,
 };
 
-/// Rates that no board has: about the three, and those that differ from one of them in one bit.
+/// Rates that no board has: some limits, the neighbours of the three, and those that differ from one of the three in
+/// one bit.
 pub fn other_rates() -> BTreeSet<u32> {
     let mut rates: BTreeSet<u32> = [0, 1, 1_000, 12_000, 48_000, 24_000_000, 1_000_000_000, u32::MAX].into();
     for rate in RATES {
@@ -227,8 +229,8 @@ pub fn other_rates() -> BTreeSet<u32> {
 /// The seeds whose lists are run at every rate.
 const SEEDS: u64 = 20;
 
-/// Every rate, of the three or not, is said to both functions: with lists that are empty, cut, damaged and refused in
-/// other ways, and into buffers with room and without any, so that 15 is seen to come first and to leave the buffer.
+/// Gives both functions every rate, of the three or not, with lists that are empty, cut, damaged or refused otherwise,
+/// and into buffers with room and without any. This shows that 15 comes first and leaves the buffer.
 pub fn rates(other: &AtRates) -> Result<Count, String> {
     let mut lists = vec![(vec![], 3), (vec![0xFF], 3), (list_of(&[Call::Output]), 4)];
     for seed in 0..SEEDS {
@@ -246,10 +248,10 @@ pub fn rates(other: &AtRates) -> Result<Count, String> {
     Ok(count)
 }
 
-/// A way to run a list at a rate on the board that is given, into an answer buffer.
+/// Runs a list at a rate on the given board, into an answer buffer.
 type Way<'a> = &'a dyn Fn(&AtRates, &mut [u8]) -> Outcome;
 
-/// A list at a rate: in a run; as the first of a run that is repeated no times; and twice over the board that a read
+/// A list at a rate: in a run; as the first list of a repeated run with 0 times; and twice over the board that a read
 /// leaves.
 fn compare_at(rate: u32, other: &AtRates, list: &[u8], buffer: usize) -> Result<Count, String> {
     let read = Call::Read {

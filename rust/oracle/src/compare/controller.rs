@@ -6,7 +6,7 @@ use crate::controller;
 use crate::generate::Random;
 use crate::irqc::IrqController;
 
-/// Words at limits, and two with every other bit.
+/// Words at limits, and two with alternating bits.
 const WORDS: [u16; 8] = [0, 1, 8, 0x00FF, 0x5555, 0x8000, 0xAAAA, 0xFFFF];
 /// Random states beside the limit ones.
 const STATES: usize = 2_000;
@@ -62,7 +62,7 @@ pub fn compare() -> Result<Count, String> {
     Ok(count)
 }
 
-/// Pending, enable and levels: every choice of limits, and random ones.
+/// Pending, enable and levels: every combination of limits, and random ones.
 fn states(random: &mut Random) -> Vec<[u16; 3]> {
     let mut states = Vec::new();
     for pending in WORDS {
@@ -94,7 +94,7 @@ fn operations(random: &mut Random) -> Vec<Operation> {
     operations
 }
 
-/// Carries out an operation on a controller of either kind: their methods have the same names. Gives its result.
+/// Carries out an operation on a controller of either kind, whose methods have the same names, and gives its result.
 macro_rules! result_of {
     ($irqc:ident, $operation:expr, $debug_read:expr) => {
         match $operation {

@@ -5,11 +5,11 @@ use super::Count;
 use crate::dispatcher::{self, Turn};
 use crate::generate::Random;
 
-/// Random pairs of pending and enable beside those of bytes.
+/// Random pairs of pending and enable, beside the pairs of bytes.
 const RANDOM: usize = 20_000;
 
-/// Compares a turn with the rule, on each controller after every number that can be given as the remembered one. The
-/// turns on one controller are one comparison.
+/// Compares a turn with the rule, on each controller after every number that can be remembered. The turns on one
+/// controller count as one comparison.
 pub fn compare(mut turn: impl FnMut([u16; 3], u8) -> Turn) -> Result<Count, String> {
     let mut count = Count::default();
     for words in controllers() {

@@ -1,6 +1,6 @@
-//! Counts of matches on boards whose channels stand at limits of the rule: four at once, each with a setting of its
-//! own, and advances to their points and about them, up to the longest. The Rust has no counts: what is compared with
-//! is the oracle's own reading of S-4 (`crate::matches`).
+//! Counts of matches on boards whose channels stand at limits of the rule: four at once, each with its own setting, and
+//! advances to their points and about them, up to the longest. The Rust has no counts: they are compared with the
+//! oracle's own reading of S-4 (`crate::matches`).
 
 use calls::{list_of, Call};
 
@@ -16,7 +16,7 @@ const NUMBERS: [u64; 5] = [0, 1, 1 << 63, u64::MAX - 1, u64::MAX];
 const RELOADS: [u64; 5] = [0, 1, 3, 1 << 63, u64::MAX];
 /// Prescalers with phases.
 const PRESCALERS: [(u32, u32); 4] = [(0, 0), (1, 1), (u32::MAX, 0), (u32::MAX, u32::MAX)];
-/// How often every setting is taken, each time beside others and with other flags.
+/// How often every setting is used, each time beside others and with other flags.
 const ROUNDS: usize = 8;
 
 /// The boards.
@@ -59,7 +59,7 @@ fn orders() -> Vec<Start> {
     starts
 }
 
-/// Every mode, counter, compare, reload and prescaler, most of them enabled.
+/// Every mode, counter, compare, reload and prescaler; most of the channels are enabled.
 fn settings(random: &mut Random) -> Vec<Channel> {
     let mut settings = Vec::new();
     for mode in 0..4 {
@@ -85,8 +85,8 @@ fn settings(random: &mut Random) -> Vec<Channel> {
     settings
 }
 
-/// Cycles to a channel's first tick, to its compare, to the point after it and round to its compare, and a cycle less
-/// and more; and some that do not depend on the channels.
+/// Cycles to a channel's first tick, to its compare, to the point after it and round to its compare, each with a cycle
+/// less and a cycle more; and some that do not depend on the channels.
 pub fn advances(channels: &[Channel; CHANNELS]) -> Vec<u64> {
     let mut cycles = vec![0, 1, 2, 1 << 32, 1 << 40, 1 << 63, u64::MAX - 1, u64::MAX];
     for channel in channels {
@@ -111,7 +111,7 @@ pub fn advances(channels: &[Channel; CHANNELS]) -> Vec<u64> {
     cycles
 }
 
-/// Each board with each of its advances, and a cycle after it.
+/// Compares each board with each of its advances, and a cycle after it.
 pub fn lists(pair: &Pair) -> Compared {
     let mut count = Count::default();
     for start in starts() {

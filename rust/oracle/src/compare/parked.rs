@@ -1,5 +1,5 @@
 //! Parked boards against the rules of `image`, in both forms and at each rate: lists over images, in one run, in two
-//! and call by call; images that are damaged; moves from form to form; and buffers that a fresh board is parked in.
+//! and call by call; damaged images; moves from form to form; and buffers in which a fresh board is parked.
 
 use calls::{list_of, Call, Outcome, Refusal, DEFAULT_RATE, RATES};
 
@@ -10,15 +10,15 @@ use crate::generate::{self, Random};
 use crate::image::{self, image_form, image_of, Form, IMAGE_SIZE};
 use crate::registers::{self, channel, of_channel, CHANNELS};
 
-/// What writes an image into a buffer, of the board of another image, and gives the bytes written.
+/// Writes an image of another image's board into a buffer, and gives the bytes written.
 pub type Mover = fn(&[u8], &mut [u8]) -> Result<usize, Refusal>;
 
 /// The operations on images of a board under comparison.
 #[derive(Clone, Copy)]
 pub struct Parking {
-    /// Parks a fresh board of which no rate is said in a buffer and gives the bytes written.
+    /// Parks a fresh board without a given rate in a buffer and gives the bytes written.
     pub fresh: fn(&mut [u8]) -> Result<usize, Refusal>,
-    /// The same of a rate.
+    /// The same at a rate.
     pub fresh_at: fn(u32, &mut [u8]) -> Result<usize, Refusal>,
     /// The form of an image, or the refusal of reading it.
     pub form: fn(&[u8]) -> Result<Form, Refusal>,
@@ -31,7 +31,7 @@ pub struct Parking {
 }
 
 impl Parking {
-    /// What moves an image to a form.
+    /// The function that moves an image to a form.
     fn mover(&self, to: Form) -> Mover {
         match to {
             Form::Old => self.back,
@@ -61,7 +61,7 @@ pub fn forms() -> impl Iterator<Item = (Form, u32)> {
 /// Room for the answer of any call, and more: an advance's has 68 bytes.
 const CALL_BUFFER: usize = 128;
 
-/// Room for the answers of the list that images are tried with, which have 125 bytes, and more.
+/// Room for the answers of the list that is run over images, which have 125 bytes, and more.
 const LIST_BUFFER: usize = 192;
 
 /// What a run gives: the outcome, the whole answer buffer, and the image after it.
@@ -73,7 +73,7 @@ struct Shown {
 }
 
 impl Shown {
-    /// Lists one after another, up to a refusal, over the board of an image, each into the rest of one buffer. Their
+    /// Runs lists one after another, up to a refusal, over the board of an image, each into the remaining buffer. Their
     /// counts are added up.
     fn of(parking: &Parking, image: &[u8], lists: &[&[u8]], buffer: usize) -> Self {
         let mut shown = Self {
@@ -92,7 +92,7 @@ impl Shown {
         shown
     }
 
-    /// A list over a board of the Rust, which is not parked, and the image of it in a form.
+    /// Runs a list over a board of the Rust, which is not parked, and gives its image in a form.
     fn of_rust(board: &mut AnyBoard, form: Form, list: &[u8], buffer: usize) -> Self {
         let mut answers = OLD[..buffer].to_vec();
         let outcome = board.run(list, &mut answers);
@@ -125,8 +125,8 @@ impl Shown {
     }
 }
 
-/// The list of a seed over a fresh board of a rate that is parked in a form, a random list over a random sound board,
-/// and moves of that one's images.
+/// The list of a seed over a fresh board at a rate, parked in a form; a random list over a random sound board; and
+/// moves of that board's images.
 pub fn seed(parking: &Parking, form: Form, rate: u32, seed: u64) -> Result<Count, String> {
     let generated = generate::list_at(rate, seed);
     let fresh = Fields::fresh_at(rate);
@@ -147,7 +147,7 @@ pub fn seed(parking: &Parking, form: Form, rate: u32, seed: u64) -> Result<Count
     Ok(count)
 }
 
-/// A list over a board that is parked in a form; where that is not as the rules say, the shortest list that shows it.
+/// A list over a board that is parked in a form; where the rules say otherwise, the shortest list that shows it.
 pub fn list_from(parking: &Parking, form: Form, start: &Fields, list: &[u8], buffer: usize) -> Result<Count, String> {
     let compared = |list: &[u8]| in_every_way(parking, form, start, list, buffer);
     compared(list).map_err(|_| {
@@ -161,8 +161,8 @@ pub fn list_from(parking: &Parking, form: Form, start: &Fields, list: &[u8], buf
     })
 }
 
-/// A list over a parked board in one run; in two, with the board parked between them, at each place between the calls
-/// that are done; and call by call. The rules are those of the Rust's board, which goes on without being parked.
+/// A list over a parked board: in one run; in two, with the board parked between them, at each place between the calls
+/// that are done; and call by call. It is compared with the Rust's board, which goes on without being parked.
 fn in_every_way(parking: &Parking, form: Form, start: &Fields, list: &[u8], buffer: usize) -> Result<Count, String> {
     let image = image_of(form, start);
     let rust = Shown::of_rust(&mut AnyBoard::from_fields(start), form, list, buffer);
@@ -194,8 +194,8 @@ fn in_every_way(parking: &Parking, form: Form, start: &Fields, list: &[u8], buff
     Ok(count)
 }
 
-/// The images in a form of boards of a rate, damaged: each byte replaced by every other value; cut at every place; with
-/// a byte over; with fields left out, doubled and in another order; with the field of a rate at every place; and with
+/// Images in a form of boards at a rate, damaged: each byte replaced by every other value; cut at every place; with an
+/// extra byte; with fields left out, doubled and in another order; with the field of a rate at every place; and with
 /// other rates. They are shared out over the machine's processors.
 pub fn damaged(parking: &Parking, form: Form, rate: u32) -> Result<Count, String> {
     let list = short_list();
@@ -203,7 +203,7 @@ pub fn damaged(parking: &Parking, form: Form, rate: u32) -> Result<Count, String
         .into_iter()
         .map(|(name, fields)| (name, image_of(form, &fields)))
         .collect();
-    // What is quickly seen comes first.
+    // Faults that are found quickly come first.
     let others = boards.iter().map(|board| (board, None));
     let replaced = boards
         .iter()
@@ -222,7 +222,7 @@ pub fn damaged(parking: &Parking, form: Form, rate: u32) -> Result<Count, String
     })
 }
 
-/// An image with the byte at a place replaced by every other.
+/// An image with the byte at a place replaced by every other byte.
 fn replaced_at(image: &[u8], place: usize) -> Vec<(String, Vec<u8>)> {
     let bytes = (0..=255).filter(|byte| *byte != image[place]);
     bytes
@@ -234,7 +234,7 @@ fn replaced_at(image: &[u8], place: usize) -> Vec<(String, Vec<u8>)> {
         .collect()
 }
 
-/// An image as it is and damaged in all other ways.
+/// An image unchanged, and damaged in every other manner.
 fn other_images(image: &[u8]) -> Vec<(String, Vec<u8>)> {
     let mut images = vec![("as it is".to_string(), image.to_vec())];
     let mut add = |damage: String, image: Vec<u8>| images.push((damage, image));
@@ -257,7 +257,7 @@ fn other_images(image: &[u8]) -> Vec<(String, Vec<u8>)> {
             swapped.swap(one, other);
             add(format!("fields {other} and {one} swapped"), swapped.concat());
         }
-        // A member byte more or less, which the length says.
+        // A member byte more or less, with the length to match.
         let longer = [&[field[0], 0, field[2] + 1][..], &field[3..], &[0]].concat();
         let shorter = [&[field[0], 0, field[2] - 1][..], &field[3..field.len() - 1]].concat();
         for (name, changed) in [("longer", longer), ("shorter", shorter)] {
@@ -266,8 +266,8 @@ fn other_images(image: &[u8]) -> Vec<(String, Vec<u8>)> {
             add(format!("field {one} a byte {name}"), other.concat());
         }
     }
-    // A rate before each field and behind the last: that before the first makes a new form of an old one. The rate that
-    // an image has already, behind each other field.
+    // A rate before each field and after the last: before the first, it makes a new form of an old one. And the rate
+    // that an image has already, after each other field.
     let others: Vec<&[u8]> = fields.iter().copied().filter(|field| field[0] != RATE_TAG).collect();
     for rate in RATES {
         let field = rate_field(rate);
@@ -294,12 +294,12 @@ fn other_images(image: &[u8]) -> Vec<(String, Vec<u8>)> {
 /// The tag of the field of a rate.
 const RATE_TAG: u8 = 0x24;
 
-/// The field of a rate, of the three or not.
+/// The field of a rate, one of the three or not.
 fn rate_field(rate: u32) -> Vec<u8> {
     [&[RATE_TAG, 0, 4][..], &rate.to_be_bytes()].concat()
 }
 
-/// The rates that are put into images: the three, which not every board is sound at, and others, which are refused with
+/// The rates that are put into images: the three, at which not every board is sound, and others, which are refused with
 /// 1.
 pub fn rates_in_images() -> impl Iterator<Item = u32> {
     clock::other_rates().into_iter().chain(RATES)
@@ -316,8 +316,8 @@ fn fields_of(mut image: &[u8]) -> Vec<&[u8]> {
     fields
 }
 
-/// The boards of a rate whose images are damaged and moved, by name: what prepared and generated lists leave, with
-/// latches held, an alarm armed and pending bits, and two that are not sound, so that 12 is seen before 1.
+/// The boards at a rate whose images are damaged and moved, by name: what prepared and generated lists leave, with
+/// latches held, an alarm armed and pending bits; and two that are not sound, to show that 12 comes before 1.
 pub fn images(rate: u32) -> Vec<(String, Fields)> {
     let after = |list: &[u8], buffer: usize| {
         let mut board = AnyBoard::from_fields(&Fields::fresh_at(rate));
@@ -355,7 +355,7 @@ pub fn images(rate: u32) -> Vec<(String, Fields)> {
     images
 }
 
-/// A short list that shows much of a board: the deadline; a byte of each latch or, where that is empty, of its live
+/// A short list that shows much of a board: the deadline; a byte of each latch or, where it is empty, of its live
 /// register; an advance; and the output.
 fn short_list() -> Vec<u8> {
     let mut words: Vec<u16> = (0..CHANNELS)
@@ -368,9 +368,9 @@ fn short_list() -> Vec<u8> {
     list_of(&calls)
 }
 
-/// An image, damaged or not: its form or its refusal; that an empty list leaves it as it is, accepted or refused; a
-/// list over it, which a refused image does not start; and its moves to both forms, into a buffer longer than they
-/// need.
+/// An image, damaged or not: its form or its refusal; that an empty list leaves it unchanged, accepted or refused; a
+/// list over it, which does not start where the image is refused; and its moves to both forms, into a buffer longer
+/// than they need.
 fn image_case(parking: &Parking, image: &[u8], list: &[u8]) -> Result<Count, String> {
     let expected = image_form(image);
     let form = (parking.form)(image);
@@ -410,7 +410,7 @@ fn move_case(parking: &Parking, to: Form, image: &[u8], length: usize) -> Result
     })
 }
 
-/// A sound board's image moved to the other form and back: the same bytes. A board that has no image in the old form
+/// A sound board's image, moved to the other form and back, is the same bytes. A board without an image in the old form
 /// is left out.
 fn there_and_back(parking: &Parking, form: Form, fields: &Fields) -> Result<Count, String> {
     if fields.rate != DEFAULT_RATE {
@@ -439,7 +439,7 @@ fn there_and_back(parking: &Parking, form: Form, fields: &Fields) -> Result<Coun
     })
 }
 
-/// One comparison of what writes into a buffer: the bytes written or the refusal, and the whole buffer.
+/// Compares one writing into a buffer: the bytes written or the refusal, and the whole buffer.
 fn same(
     parking: &Parking,
     length: usize,
@@ -464,8 +464,8 @@ fn same(
     })
 }
 
-/// The images of boards of a rate, sound and not, in both forms, moved to both, into buffers of every length up to two
-/// bytes more than the longer form; and there and back. One board beside them has a rate that no board has.
+/// The images of boards at a rate, sound and not, in both forms, moved to both, into buffers of every length up to two
+/// bytes more than the longer form; and there and back. One further board is at a rate that no board has.
 pub fn moves(parking: &Parking, rate: u32) -> Result<Count, String> {
     let mut count = Count::default();
     let mut boards: Vec<Fields> = images(rate).into_iter().map(|(_, fields)| fields).collect();
@@ -489,8 +489,8 @@ pub fn moves(parking: &Parking, rate: u32) -> Result<Count, String> {
     Ok(count)
 }
 
-/// A fresh board, of which no rate is said, of each rate and of rates that no board has, parked in buffers of every
-/// length up to two bytes more than its image.
+/// Fresh boards without a given rate, at each rate and at rates that no board has, parked in buffers of every length up
+/// to two bytes more than the image.
 pub fn fresh(parking: &Parking) -> Result<Count, String> {
     let mut count = Count::default();
     for length in 0..=IMAGE_SIZE + 2 {

@@ -7,7 +7,7 @@ use crate::generate;
 use crate::registers::{self, channel, of_channel, CHANNELS};
 use crate::writes::{alarm, byte, two_words, word};
 
-/// The answer buffer of a run that is to have room.
+/// The answer buffer of a run with room for all answers.
 pub const BUFFER: usize = 32_768;
 
 /// The answer buffer of the pass over the registers: room for the lists of `prepared` and for `state_readout`.
@@ -29,13 +29,13 @@ pub fn seed(pair: &Pair, seed: u64) -> Compared {
     Ok(count)
 }
 
-/// The calls of the list of a seed that a run carries out, to count them.
+/// How many calls of a seed's list a run carries out.
 pub fn seed_calls(pair: &Pair, seed: u64) -> u64 {
     let generated = generate::list_at(pair.rate, seed);
     (pair.rust)(&generated.list, &[], 0, &mut vec![0; generated.buffer]).calls as u64
 }
 
-/// Every register address with every byte written, and read, over several boards: what each board holds afterwards.
+/// Every register address with every byte written, and read, over several boards, and what each board holds afterwards.
 /// The addresses are shared out over the machine's processors.
 pub fn registers(pair: &Pair) -> Compared {
     let (boards, state) = (prepared(pair.rate), state_readout());
@@ -56,7 +56,7 @@ pub fn registers(pair: &Pair) -> Compared {
 }
 
 /// Lists that leave boards with little set, with every field set, about to commit, with an alarm due on host time and
-/// with latches held. Their calls are for boards of a rate.
+/// with latches held. Their calls are for boards at a rate.
 pub fn prepared(rate: u32) -> Vec<Vec<u8>> {
     let mut about_to_commit = vec![byte(registers::CLOCK_CONTROL + 3, 7)];
     about_to_commit.push(Call::HostTime {
@@ -115,7 +115,7 @@ pub fn prepared(rate: u32) -> Vec<Vec<u8>> {
         .collect()
 }
 
-/// Shows the state in fewer calls than `readouts`: every register that is there, deadline, controller and line.
+/// Shows the state in fewer calls than `readouts`: every register that exists, deadline, controller and line.
 pub fn state_readout() -> Vec<u8> {
     let mut calls = vec![Call::Deadline, Call::Output];
     calls.extend((0..6).map(|address| Call::ControllerRead { address }));

@@ -1,5 +1,5 @@
 //! Advances at the edges of the prescaler step, phase + cycles divided by prescaler + 1: up to the first tick and about
-//! it, and to sums about 2^64. Four channels at once, each with a setting of its own.
+//! it, and to sums about 2^64. Four channels at once, each with its own setting.
 
 use std::collections::BTreeSet;
 
@@ -34,15 +34,15 @@ const NUMBERS: [(u64, u64, u64); 7] = [
     // At the compare and past it: one-shot and periodic match at the first tick, free-running goes round.
     (5, 5, 1),
     (7, 5, 2),
-    // As far below the compare as can be: the counter after any advance is the number of its ticks.
+    // As far below the compare as possible: the counter after any advance is the number of its ticks.
     (0, u64::MAX, 1),
     // One tick from the top, and at it: one-shot and periodic stop there, free-running goes round to 0.
     (u64::MAX - 1, u64::MAX, 1),
     (u64::MAX, 0, 0),
 ];
 
-/// The boards. Every mode, prescaler and numbers are those of every channel in turn; the channel after it has the next
-/// mode, the next prescaler and the next numbers.
+/// The boards. Each channel in turn has every mode, every prescaler and every row of numbers; the channel after it has
+/// the next mode, the next prescaler and the next numbers.
 pub fn starts() -> Vec<Start> {
     let mut starts = Vec::new();
     for mode in 0..4 {
@@ -58,7 +58,7 @@ pub fn starts() -> Vec<Start> {
     starts
 }
 
-/// A channel that runs with its interrupt enabled, by its places in the tables, which begin again after their ends.
+/// A channel that runs with its interrupt enabled, by its places in the tables, which start again after their ends.
 fn setting(mode: usize, prescaler: usize, numbers: usize) -> Channel {
     let (prescaler, phase) = PRESCALERS[prescaler % PRESCALERS.len()];
     let (counter, compare, reload) = NUMBERS[numbers % NUMBERS.len()];
@@ -69,7 +69,7 @@ fn setting(mode: usize, prescaler: usize, numbers: usize) -> Channel {
         reload,
         prescaler,
         phase,
-        // Few are.
+        // Few channels are pending.
         pending: prescaler == 1 && phase == 0 && counter > compare,
         armed: true,
     }
@@ -80,19 +80,19 @@ pub fn advances(channels: &[Channel; CHANNELS]) -> BTreeSet<u64> {
     channels.iter().flat_map(edges).collect()
 }
 
-/// None, one, the most; and those with which phase + cycles is a cycle before the first tick, at it and after it, and
-/// 2^64 - 1 and 2^64.
+/// No cycles, one, and the most; and those with which phase + cycles is a cycle before the first tick, at it and after
+/// it, and 2^64 - 1 and 2^64.
 fn edges(channel: &Channel) -> impl Iterator<Item = u64> {
     let divisor = u128::from(channel.prescaler) + 1;
     let phase = u128::from(channel.phase);
     let sums = [divisor - 1, divisor, divisor + 1, (1 << 64) - 1, 1 << 64];
-    // After phase 0 no advance has a sum of 2^64.
+    // From phase 0 no advance reaches a sum of 2^64.
     let cycles = sums.into_iter().filter_map(move |sum| u64::try_from(sum - phase).ok());
     cycles.chain([0, 1, u64::MAX])
 }
 
-/// Each board, made by calls, with each of its advances, and a cycle after it. No register shows a phase: the deadlines
-/// do, and the second advance.
+/// Each board, made by calls, with each of its advances, and a cycle after it. No register shows a phase; the deadlines
+/// and the second advance do.
 pub fn lists(pair: &Pair) -> Compared {
     let mut count = Count::default();
     for start in starts() {

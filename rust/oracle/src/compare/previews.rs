@@ -1,5 +1,5 @@
 //! Previews of many totals against the originals: on boards by seed, on boards whose deadlines are about 2^64, and on
-//! images that are damaged; of both forms and at each rate; into buffers with room, without and with more.
+//! damaged images; in both forms and at each rate; into buffers with room, without and with more.
 
 use calls::{list_of, Refusal};
 
@@ -12,7 +12,7 @@ use crate::image::{image_of, Form};
 use crate::list;
 use crate::preview::preview_parked;
 
-/// What previews the totals of the board of an image, into a buffer.
+/// Previews the totals of the board of an image, into a buffer.
 pub type Previewer<'a> = dyn Fn(&[u8], &[u64], &mut [u8]) -> Result<(), Refusal> + Sync + 'a;
 
 /// Random sound boards of a seed in a form at a rate, beside the one that its list leaves.
@@ -33,7 +33,7 @@ pub fn boards(rate: u32, seed: u64) -> Vec<Fields> {
     boards
 }
 
-/// The totals of a board: 0, 1 and 2^64 - 1; its deadline, a cycle less and a cycle more, as far as they are 64-bit
+/// The totals of a board: 0, 1 and 2^64 - 1; its deadline, a cycle less and a cycle more, where they are 64-bit
 /// numbers; random ones, and some of all these a second time; in any order.
 pub fn totals(fields: &Fields, random: &mut Random) -> Vec<u64> {
     let mut totals = vec![0, 1, u64::MAX];
@@ -53,8 +53,8 @@ pub fn totals(fields: &Fields, random: &mut Random) -> Vec<u64> {
     totals
 }
 
-/// The boards of a seed, parked in a form, each with its totals into buffers with just room, with more and with less,
-/// and with no totals.
+/// The boards of a seed, parked in a form, each with its totals into buffers with just enough room, with more and with
+/// less; and with no totals.
 pub fn seed(preview: &Previewer, form: Form, rate: u32, seed: u64) -> Result<Count, String> {
     let mut count = Count::default();
     let mut random = Random::at(rate, !seed);
@@ -93,8 +93,8 @@ pub fn limits(preview: &Previewer) -> Result<Count, String> {
     Ok(count)
 }
 
-/// Boards of a rate whose clock counts, parked in a form, with totals about the ends of seconds, the polls and the
-/// alarm's deadline, and boards with an alarm that is due about 2^64.
+/// Boards at a rate whose clock counts, parked in a form, with totals about the ends of seconds, the polls and the
+/// alarm's deadline; and boards with an alarm due about 2^64.
 pub fn clocks(preview: &Previewer, form: Form, rate: u32) -> Result<Count, String> {
     let mut count = Count::default();
     for start in clock::counting(rate).into_iter().chain(clock::far(rate)) {
@@ -107,8 +107,8 @@ pub fn clocks(preview: &Previewer, form: Form, rate: u32) -> Result<Count, Strin
     Ok(count)
 }
 
-/// Images in a form of boards of a rate, as they are, with each byte replaced by another, cut at every place, and with
-/// a byte over: into buffers with room and without, so that what is wrong with an image is seen to come first.
+/// Images in a form of boards at a rate, unchanged, with each byte replaced by another, cut at every place, and with an
+/// extra byte; into buffers with room and without, to show that a refusal of the image comes first.
 pub fn images(preview: &Previewer, form: Form, rate: u32) -> Result<Count, String> {
     let mut count = Count::default();
     let mut add = |image: &[u8]| -> Result<(), String> {

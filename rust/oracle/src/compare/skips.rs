@@ -1,5 +1,5 @@
-//! Skips where the deadline is 2^64 - 1 cycles, a little less, more, or as large as it can be: below 2^64 they get
-//! there, else they are refused with 13.
+//! Skips where the deadline is 2^64 - 1 cycles, a little less, more, or the largest: up to 2^64 - 1 they reach it,
+//! above that they are refused with 13.
 
 use calls::{list_of, Call, DEFAULT_RATE, NANOSECONDS_PER_SECOND};
 
@@ -17,11 +17,11 @@ const ABOUT_THE_LIMIT: [u128; 4] = [(1 << 64) - 2, (1 << 64) - 1, 1 << 64, (1 <<
 /// The largest deadline of a channel.
 const LARGEST: u128 = 1 << 96;
 
-/// Prescalers from none to the largest. 2^64 - 1 is a multiple of 2 + 1 and 2^64 + 1 of 274,176 + 1: there the phase
-/// is 0, and with the others it is not.
+/// Prescalers from none to the largest. 2^64 - 1 is a multiple of 2 + 1, and 2^64 + 1 of 274,176 + 1: there the phase
+/// is 0. With the others it is not.
 const PRESCALERS: [u32; 7] = [0, 1, 2, 9, 274_176, u32::MAX - 1, u32::MAX];
 
-/// A board to skip on: the calls that make it of a fresh one, its D, and whether its line is high.
+/// A board to skip on: the calls that make it from a fresh one, its D, and whether its line is high.
 pub struct Start {
     pub calls: Vec<Call>,
     pub deadline: Option<u128>,
@@ -37,7 +37,7 @@ fn low(calls: Vec<Call>, deadline: u128) -> Start {
     }
 }
 
-/// Lets every channel run that is enabled.
+/// Lets every enabled channel run.
 fn all_run() -> Call {
     byte(registers::ENABLE + 3, 15)
 }
@@ -76,7 +76,7 @@ fn one_channel() -> Vec<Start> {
     starts
 }
 
-/// A channel that is due, beside another that is pending and so holds the line high.
+/// A channel that is due, beside another that is pending and holds the line high.
 fn beside_a_high_line() -> Vec<Start> {
     // One-shot with compare 0: the first cycle makes it pending.
     let mut pending = program(3, RUNNING, 0, 0, 0);
@@ -90,7 +90,7 @@ fn beside_a_high_line() -> Vec<Start> {
     .collect()
 }
 
-/// A free-running channel with the largest prescaler, which has any deadline up to the largest.
+/// A free-running channel with the largest prescaler, which allows any deadline up to the largest.
 fn free_running(number: usize, deadline: u128) -> Vec<Call> {
     channel_due(number, 2, u32::MAX, deadline).expect("the deadline is one of a free-running channel's")
 }
@@ -119,7 +119,7 @@ fn alarms() -> Vec<Start> {
     for deadline in ABOUT_THE_LIMIT {
         starts.push(low(alarm_due(DEFAULT_RATE, deadline), deadline));
         for other in [deadline - 1, deadline, deadline + 1] {
-            // Only a channel whose phase is 0 leaves the clock as it is.
+            // Only a channel whose phase is 0 leaves the clock unchanged.
             if let Some(channel) = channel_due(1, 2, 0, other) {
                 starts.push(low(
                     [alarm_due(DEFAULT_RATE, deadline), channel].concat(),
@@ -140,8 +140,8 @@ fn alarms() -> Vec<Start> {
     starts
 }
 
-/// What is called on each board: a skip at once; after a cycle; and after 2^64 - 1. The calls behind a refused skip are
-/// not carried out.
+/// The calls on each board: a skip at once; after a cycle; and after 2^64 - 1. The calls after a refused skip are not
+/// carried out.
 fn endings() -> [Vec<Call>; 3] {
     let behind = [Call::Output, Call::Advance { cycles: 7 }, Call::Skip];
     let at_once = vec![Call::Skip];
@@ -150,8 +150,7 @@ fn endings() -> [Vec<Call>; 3] {
     [at_once, after_a_cycle, at_the_end].map(|calls| [&calls[..], &behind].concat())
 }
 
-/// A list of the pass, the length of a buffer that its answers fill, and the bytes of answers before the first skip of
-/// its ending.
+/// A list, the length of a buffer that its answers fill, and the bytes of answers before the first skip of its ending.
 struct Case {
     list: Vec<u8>,
     room: usize,

@@ -1,5 +1,5 @@
-//! The work on parked boards that is measured, and beside it the same call inside a long list. All of it is the proved
-//! board's: the Rust has no images.
+//! The measured work on parked boards, and beside it the same call inside a long list. All of it is the proved board's:
+//! the Rust has no images.
 
 use std::hint::black_box;
 

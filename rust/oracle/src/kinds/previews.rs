@@ -1,5 +1,5 @@
-//! The previews that are measured, 1,000 totals on one look, and beside them an advance of a copy of the board for each
-//! total: of the proved board by its image, and of the Rust by its state.
+//! The measured previews, 1,000 totals from one look, and beside them an advance of a copy of the board for each total:
+//! of the proved board by its image, and of the Rust by its state.
 
 use std::hint::black_box;
 
@@ -46,7 +46,7 @@ fn totals() -> Vec<u64> {
     (0..TOTALS).map(|_| random.below(5_000)).collect()
 }
 
-/// The Rust's board, of the image of the proved one.
+/// The Rust's board, made from the image of the proved one.
 fn rust_board(image: &[u8]) -> Devices<At48> {
     let (_, fields) = read_image(image).expect("a board's own image is accepted");
     match Board::from_fields(&fields) {
@@ -77,7 +77,7 @@ pub fn agree() -> bool {
     previewed.is_ok() && copies && high.contains(&0) && high.contains(&1)
 }
 
-/// Previews so many totals, 1,000 on each look.
+/// Previews a number of totals, 1,000 from each look.
 fn preview_totals(times: u64) {
     let (image, totals) = (*board().image(), totals());
     let mut high = [0; TOTALS];
@@ -87,7 +87,7 @@ fn preview_totals(times: u64) {
     }
 }
 
-/// Looks at a board without a total: what is to be known of the board is found all the same.
+/// Previews no totals: reading the image and finding the deadline are all the work.
 fn look(times: u64) {
     let image = *board().image();
     for _ in 0..times {

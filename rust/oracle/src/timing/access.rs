@@ -1,5 +1,5 @@
-//! The timing device and its state as one part of the board, with every field set and read. This text is a child of
-//! each build of timing.rs.
+//! The timing device and its state as one component of the board, with every field set and read. This text is a child
+//! of each build of timing.rs.
 
 use super::*;
 use crate::fields::{Channel, Fields, Latch};
@@ -135,7 +135,7 @@ impl Timing for TimingDevice {
     }
 }
 
-/// A copy of a state: the Rust has none of its own.
+/// A copy of a state: the Rust has no copy of its own.
 fn copy_of(state: &PeCTimingState) -> PeCTimingState {
     PeCTimingState {
         timers: state.timers,

@@ -16,7 +16,7 @@ fn every_control_from_every_control() {
     RATES.into_iter().for_each(every_control_at);
 }
 
-/// The same of clocks of a rate.
+/// The same for clocks at a rate.
 fn every_control_at(rate: u32) {
     let offsets = [
         0,
@@ -119,7 +119,7 @@ fn a_change_into_realtime_ends_with_the_alarm_check_too() {
     }
 }
 
-/// Writes all bytes in the order of `places`, and says after how many a commit was made, by the mask.
+/// Writes all bytes in the order of `places` and gives after how many a commit was made, which the mask shows.
 fn commits_after(fields: &Fields, addresses: [u16; 8], places: &[usize]) -> Option<usize> {
     let mut board = Board::from_fields(fields);
     for (count, &place) in places.iter().enumerate() {
@@ -150,7 +150,7 @@ fn the_eighth_distinct_byte_commits() {
             clock_control,
             ..Fields::fresh()
         };
-        // A commit is seen by the mask becoming 0 again, and without set enable it never leaves 0.
+        // A commit shows as a mask that becomes 0 again; without set enable the mask never leaves 0.
         let set_enable = clock_control & 2 != 0;
         for (addresses, taken) in [(SECONDS, set_enable), (ALARM, true)] {
             if !taken {
@@ -177,7 +177,7 @@ fn seconds_need_set_enable_for_each_byte() {
         write(&mut board, address, 9);
     }
     assert_eq!(board.fields(), Fields::fresh(), "without set enable nothing is kept");
-    // Seven bytes with set enable, one without: that one does not count. Then it comes with set enable.
+    // Seven bytes with set enable and one without, which does not count. Then it is written with set enable.
     write(&mut board, CONTROL, 3);
     for &address in &SECONDS[..7] {
         write(&mut board, address, 9);
@@ -259,7 +259,7 @@ fn committed_alarm_arms_clears_pending_and_is_checked() {
         );
         assert_eq!((after.alarm, after.alarm_mask), (5, 0));
         assert_eq!((after.alarm_pending, after.alarm_armed), (reached, !reached));
-        // The line falls or stays; in neither case does it rise, so nothing is latched.
+        // The line falls or stays high. It does not rise, so nothing is latched.
         assert_eq!((after.line(), after.controller_pending), (reached, 0));
     }
 }
@@ -287,7 +287,7 @@ fn poll_is_made_at_a_thousandth_of_another_rate() {
     poll_is_made_at(12_000_000, 12_000, 3_616);
 }
 
-/// The same at a rate whose poll limit leaves this rest of 2^64.
+/// The same at a rate; `rest` is the remainder of 2^64 by the poll limit.
 fn poll_is_made_at(rate: u32, limit: u32, rest: u32) {
     let fields = due_on_host_time(rate);
     let mut board = Board::from_fields(&fields);
@@ -301,7 +301,7 @@ fn poll_is_made_at(rate: u32, limit: u32, rest: u32) {
     let mut board = Board::from_fields(&fields);
     assert!(advance(&mut board, 0), "an advance of 0 makes the check at once");
 
-    // Before the alarm the poll is the remainder, and a host time makes no check.
+    // Before the alarm the poll is the remainder. A host time makes no check.
     let mut board = Board::from_fields(&Fields {
         host_seconds: 8,
         host_nanoseconds: 999_999_999,
@@ -332,7 +332,7 @@ fn clock_latches_keep_both_words() {
             .map(|address| read(&mut board, address))
             .collect();
         assert_eq!(words, [0, 0, 0, 1, 0xFF, 0xFF, 0xFF]);
-        // Each word was freed by its own byte 3, so both are live again.
+        // Each word is freed by its own byte 3, so both are live again.
         assert_eq!((read(&mut board, 0x8F), read(&mut board, 0x8B)), (2, 0));
     }
 }

@@ -1,5 +1,5 @@
-//! The comparison finds planted faults and shortens what shows them; the lists of its passes are not refused, nor are
-//! those that are measured.
+//! The comparison finds planted faults and shortens what shows them. The lists of its passes are not refused, and
+//! neither are the measured lists.
 
 use calls::{list_of, Call, Outcome};
 use oracle::board::AnyBoard;
@@ -14,7 +14,7 @@ use crate::support::{pair, RATES};
 const ADVANCE: u8 = 4;
 const SKIP: u8 = 6;
 
-/// The Rust but for the last answer byte of a run that ends in a skip, which it flips.
+/// The Rust, except that the last answer byte of a run that ends in a skip is flipped.
 fn flipped(first: &[u8], list: &[u8], times: u64, answers: &mut [u8]) -> Outcome {
     let outcome = run_repeated(first, list, times, answers);
     let last = if times == 0 { first } else { list };
@@ -24,13 +24,13 @@ fn flipped(first: &[u8], list: &[u8], times: u64, answers: &mut [u8]) -> Outcome
     outcome
 }
 
-/// The Rust but for a refusal 11 that comes one byte early.
+/// The Rust, except that refusal 11 comes one byte early.
 fn early(first: &[u8], list: &[u8], times: u64, answers: &mut [u8]) -> Outcome {
     let length = answers.len();
     run_repeated(first, list, times, &mut answers[..length.saturating_sub(1)])
 }
 
-/// The Rust but for a byte that it writes past the answers.
+/// The Rust, except that it writes a byte past the answers.
 fn past_the_end(first: &[u8], list: &[u8], times: u64, answers: &mut [u8]) -> Outcome {
     let outcome = run_repeated(first, list, times, answers);
     if let Some(byte) = answers.get_mut(outcome.answer_bytes) {
@@ -39,7 +39,7 @@ fn past_the_end(first: &[u8], list: &[u8], times: u64, answers: &mut [u8]) -> Ou
     outcome
 }
 
-/// The Rust but for a control byte of channel 0 that it loses.
+/// The Rust, except that it loses a control byte of channel 0.
 fn lost_write(first: &[u8], list: &[u8], times: u64, answers: &mut [u8]) -> Outcome {
     let address = registers::of_channel(0, registers::channel::CONTROL) + 3;
     let [high, low] = address.to_be_bytes();
@@ -100,7 +100,7 @@ fn the_shortest_list_keeps_only_what_fails() {
     let has = |list: &[u8], cycles: u64| list.chunks(11).any(|call| call[3..] == cycles.to_be_bytes());
     let two = shortest(&list, |list| has(list, 7) && has(list, 41));
     assert_eq!(two, list_of(&[calls[7], calls[41]]));
-    // What is no whole call is a part by itself.
+    // Bytes that are no whole call are a piece by themselves.
     let damaged = [&list[..], &[ADVANCE, 0]].concat();
     assert_eq!(shortest(&damaged, |list| list.ends_with(&[ADVANCE, 0])), [ADVANCE, 0]);
     // An odd number of calls fails: no single call of three can be left out, but two can.

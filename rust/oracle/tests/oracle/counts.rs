@@ -1,5 +1,5 @@
 //! The comparison of counts of matches: its boards have the settings that they are made for, their advances reach every
-//! sort of count, and it finds planted faults.
+//! kind of count, and it finds planted faults.
 
 use std::collections::BTreeSet;
 
@@ -26,7 +26,7 @@ fn the_boards_have_their_settings() {
 
 #[test]
 fn the_advances_reach_every_sort_of_count() {
-    // 0, 1, up to 2^32, up to 2^64 - 1, and 2^64, of each channel; and advances in which the four counts all differ.
+    // 0, 1, up to 2^32, up to 2^64 - 1, and 2^64, for each channel; and advances whose four counts all differ.
     let mut seen = [[0; 5]; 4];
     let mut different = 0;
     for start in starts() {
@@ -44,7 +44,7 @@ fn the_advances_reach_every_sort_of_count() {
     assert!(different > 200, "{different}");
 }
 
-/// The counts that a faulty advance gives, from the fields before and after it and the right counts.
+/// The counts that a faulty advance gives, from the fields before and after it and the correct counts.
 type Fault = fn(&Fields, &Fields, [u128; 4]) -> [u128; 4];
 
 /// The counts with those of some channels replaced.
@@ -52,7 +52,7 @@ fn replaced(counts: [u128; 4], change: impl Fn(usize, u128) -> u128) -> [u128; 4
     std::array::from_fn(|number| change(number, counts[number]))
 }
 
-/// The counts of channels in a mode replaced; the function has the channel before and after the advance.
+/// The counts of channels in a mode replaced; the function is given the channel before and after the advance.
 fn of_mode(
     mode: u8,
     before: &Fields,
@@ -131,7 +131,7 @@ const FAULTS: [(&str, Fault); 18] = [
         },
     ),
     ("points past 2^64 - 1", |before, after, counts| {
-        // As if the counter did not stop: a point more where it has reached the top.
+        // As if the counter did not stop: one point more where it has reached the top.
         of_mode(1, before, after, counts, |old, new, count| {
             count + u128::from(count > 0 && old.reload == 1 && new.counter == u64::MAX)
         })
@@ -164,7 +164,7 @@ const FAULTS: [(&str, Fault); 18] = [
     }),
 ];
 
-/// The Rust but for the fault, of a number, of its counts.
+/// The Rust, except for its counts, which have fault `FAULT`.
 fn faulty<const FAULT: usize>(first: &[u8], list: &[u8], times: u64, answers: &mut [u8]) -> Outcome {
     let (_, fault) = FAULTS[FAULT];
     call_by_call(first, list, times, answers, |board, call, room| {
@@ -192,7 +192,7 @@ fn faults_of_counts_are_found() {
     let faulty: [Runner; FAULTS.len()] = runners!(faulty: 0 1 2 3 4 5 6 7 8 9 10 11 12 13 14 15 16 17);
     for ((name, _), runner) in FAULTS.into_iter().zip(faulty) {
         let difference = lists(&pair(runner)).expect_err(name);
-        // The shortest list that shows it is one of advances.
+        // The shortest list that shows it begins with an advance.
         let shown = Call::decode(&difference.second).map(|(call, _)| call.tag());
         assert_eq!(shown, Ok(Call::Advance { cycles: 0 }.tag()), "{name}: {difference}");
     }

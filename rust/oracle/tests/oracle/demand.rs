@@ -7,7 +7,7 @@ use oracle::generate::Random;
 use crate::rules::set_source_3;
 use crate::support::*;
 
-/// An advance, often about the rest of the deadline, or a host time, at times a refused one.
+/// An advance, often to about the remaining deadline, or a host time, at times a refused one.
 fn some_call(random: &mut Random, rest: Option<u128>) -> Call {
     if random.once_in(4) {
         return Call::HostTime {
@@ -39,13 +39,13 @@ fn the_line_is_high_exactly_from_the_deadline_on() {
     RATES.into_iter().for_each(the_line_at);
 }
 
-/// The same of boards of a rate.
+/// The same for boards at a rate.
 fn the_line_at(rate: u32) {
     let (mut rises, mut late_rises, mut without, mut refused, mut disabled_realtime) = (0, 0, 0, 0, 0);
     let mut by_alarm = 0;
     for (mut random, mut fields) in sound_boards_at(rate, 40_000) {
         if random.once_in(2) {
-            // More boards on which only one deadline is left, and that one often above 2^64.
+            // More boards with only one deadline, often above 2^64.
             for channel in &mut fields.channels[1..] {
                 channel.control &= !8;
             }

@@ -31,7 +31,7 @@ fn turns_are_those_worked_out_by_hand() {
         // Sources 4 and 8 are pending, and 4 is not enabled.
         (3, 0x0110, 0xFFEF, Some(8), 0x0010, 8),
         (3, 0x0110, 0x0010, Some(4), 0x0100, 4),
-        // None: nothing pending, nothing enabled, and none of the pending ones enabled.
+        // None is served: nothing pending, nothing enabled, and none of the pending ones enabled.
         (7, 0x0000, ALL, None, 0x0000, 7),
         (7, ALL, 0x0000, None, ALL, 7),
         (0, 0x5A3C, 0xA5C3, None, 0x5A3C, 0),
@@ -62,7 +62,7 @@ fn a_source_that_stays_is_served_within_sixteen_turns() {
         let number = random.below(16) as u8;
         let mut last = random.word() as u8;
         let density = random.below(4) as usize;
-        // Any words at each turn, with few sources, many or all, and always this one.
+        // Any words at each turn, with few sources, many or all, always with this one.
         let mut any = || {
             let (one, other) = (random.word() as u16, random.word() as u16);
             [one & other, one, one | other, ALL][density] | 1 << number
@@ -75,7 +75,7 @@ fn a_source_that_stays_is_served_within_sixteen_turns() {
         let served = served.unwrap_or_else(|| panic!("source {number} is not served, seed {seed}"));
         latest = latest.max(served);
     }
-    // No fewer turns would do.
+    // Fewer turns are not enough.
     assert_eq!(latest, 16);
 }
 
@@ -118,7 +118,7 @@ fn the_comparison_has_every_pair_of_bytes_after_every_number() {
 /// A turn with a fault.
 type Faulty = fn([u16; 3], u8) -> Turn;
 
-/// The rule but for a change where a source is served, of which the number is given.
+/// The rule, except for a change where a source is served, whose number is given.
 fn served_but(words: [u16; 3], last: u8, change: fn(&mut [u16; 3], u8)) -> Turn {
     let mut found = turn(words, last);
     if let Some(number) = found.served {
@@ -127,7 +127,7 @@ fn served_but(words: [u16; 3], last: u8, change: fn(&mut [u16; 3], u8)) -> Turn 
     found
 }
 
-/// The rule but for the source that is taken, which is the one of another turn.
+/// The rule, except that it serves the source of another turn.
 fn taken_by(other: Turn, last: u8) -> Turn {
     Turn {
         remembered: other.served.unwrap_or(last.min(15)),

@@ -1,5 +1,5 @@
-//! Generated lists over a fixed range of seeds: what they reach, that each call follows document 01's rules,
-//! and that a run equals its direct calls.
+//! Generated lists over a fixed range of seeds: what they reach, that each call follows document 01's rules, and that a
+//! run equals its direct calls.
 
 use std::collections::BTreeMap;
 
@@ -125,8 +125,8 @@ impl Counts {
             "clock stands at its top",
             counts && !saturates && after.seconds == u64::MAX,
         );
-        // From afar to about the end of a second that has begun, which no alarm waits for, and of a poll that has; and
-        // about numbers that the rate gives.
+        // Long advances to about the end of a second or a poll that has begun, with no alarm armed for the second; and
+        // advances by about the numbers that the rate gives.
         let limit = poll_at(before.rate);
         for (event, more) in [("a cycle before", 0), ("at", 1), ("a cycle after", 2)] {
             let ends = |begun: u32, whole: u32| {
@@ -196,7 +196,7 @@ fn overdue(fields: &Fields, number: usize) -> bool {
     fields.channels[number].compare < fields.channels[number].counter
 }
 
-/// Runs a list by direct calls over a fresh board of a rate, into a buffer of that length; gives the outcome, the
+/// Runs a list by direct calls over a fresh board at a rate, into a buffer of that length; gives the outcome, the
 /// answers and the fields.
 fn run_by_direct_calls(rate: u32, list: &[u8], length: usize, counts: &mut Counts) -> (Outcome, Vec<u8>, Fields) {
     let (mut board, _) = Board::fresh_at(rate);
@@ -205,7 +205,7 @@ fn run_by_direct_calls(rate: u32, list: &[u8], length: usize, counts: &mut Count
     while outcome.list_bytes < list.len() {
         let before = board.fields();
         let next = Call::decode(&list[outcome.list_bytes..]).and_then(|(call, used)| {
-            // On a copy, as the call may be refused for its answer's length alone.
+            // On a copy, because the call may be refused for its answer's length alone.
             let mut copy = Board::from_fields(&before);
             let reply = copy.call(call);
             let given = (number(&reply), reply.answer, copy.fields());
@@ -250,10 +250,10 @@ fn generated_lists_reach_every_event_and_runs_equal_direct_calls() {
     RATES.into_iter().for_each(generated_lists_at);
 }
 
-/// The same of the lists for a rate.
+/// The same for the lists of a rate.
 fn generated_lists_at(rate: u32) {
     let mut counts = Counts::default();
-    // Events that are named only when they happen; the others are named with each call of their tag.
+    // These events are noted only when they happen; the others are noted with each call of their tag.
     for number in (2..=11).chain([13]) {
         counts.note(format!("refusal {number}"), false);
     }
@@ -289,7 +289,7 @@ fn a_seed_gives_the_same_list_each_time() {
         assert_eq!((first.list, first.buffer), (second.list, second.buffer));
     }
     assert_ne!(generate::list(3).list, generate::list(4).list);
-    // Without a rate it is that for a board of which none is said, and that of another rate is another.
+    // Without a rate the list is that for 48,000,000. The list for another rate differs.
     assert_eq!(generate::list(3).list, generate::list_at(F, 3).list);
     for rate in [1_000_000, 12_000_000] {
         assert!((0..20).any(|seed| generate::list(seed).list != generate::list_at(rate, seed).list));

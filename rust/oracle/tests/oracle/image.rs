@@ -1,4 +1,4 @@
-//! The image of a board, and what reading one refuses: the request's sentences, on bytes written out by hand.
+//! The image of a board, and what reading one refuses: the requests' sentences, on bytes written by hand.
 
 use std::fs;
 use std::path::Path;
@@ -13,8 +13,8 @@ use oracle::image::{
 use crate::soundness::{CLAUSES, RATE_CLAUSES};
 use crate::support::*;
 
-/// Where the members of each field start in the old form: three bytes behind the end of the field before. The new form
-/// has 7 bytes more in front.
+/// Where the members of each field start in the old form: three bytes after the end of the field before. The new form
+/// has 7 bytes more before them.
 const MEMBERS: [usize; 7] = [3, 41, 79, 117, 155, 230, 263];
 
 /// Where the flags stand in the old form: pending and armed of each channel, offset sign, alarm pending, alarm armed,
@@ -30,8 +30,8 @@ const RATE_FIELDS: [(u32, [u8; 7]); 3] = [
     (48_000_000, [0x24, 0x00, 0x04, 0x02, 0xDC, 0x6C, 0x00]),
 ];
 
-/// The fresh board's image in the old form: a channel's field four times, then timer enable to host nanoseconds with
-/// clock control 1, the latches and the controller.
+/// The fresh board's image in the old form: four channel fields, then timer enable to host nanoseconds with clock
+/// control 1, the latches and the controller.
 #[rustfmt::skip]
 const FRESH: [u8; 269] = [
     0x20, 0x00, 0x23,
@@ -49,7 +49,7 @@ const FRESH: [u8; 269] = [
     0x23, 0x00, 0x06, 0, 0, 0, 0, 0, 0,
 ];
 
-/// A sound board whose members' bytes show their places.
+/// A sound board whose members have bytes that show their places.
 fn marked() -> Fields {
     let channel = |number: u8| Channel {
         control: number,
@@ -123,7 +123,7 @@ fn new_form(old: &[u8]) -> Vec<u8> {
     [&RATE_FIELDS[2].1[..], old].concat()
 }
 
-/// How many bytes stand before the fields of the old form.
+/// How many bytes come before the fields of the old form.
 fn front(form: Form) -> usize {
     form.size() - OLD_IMAGE_SIZE
 }
@@ -190,7 +190,7 @@ fn a_sound_boards_image_is_read_back() {
 #[test]
 fn a_board_that_is_not_sound_is_refused_with_1_and_12_comes_first() {
     for form in Form::ALL {
-        // The old form says no rate.
+        // The old form has no rate.
         let of_rate = RATE_CLAUSES.into_iter().filter(|_| form == Form::New);
         for (name, unsound, sound) in CLAUSES.into_iter().chain(of_rate) {
             let image = edited(form, sound);
@@ -218,13 +218,13 @@ fn a_rate_that_no_board_has_is_refused_with_1() {
         let mut image = new_form(&FRESH);
         image[3..7].copy_from_slice(&u32::to_be_bytes(rate));
         assert_eq!(read_image(&image), Err(Refusal::UnsoundBoard), "{rate}");
-        // Neither move takes it: it is new already, and then not sound.
+        // Neither move accepts it: forward, it has the new form already; back, it is not sound.
         let mut buffer = [7; IMAGE_SIZE];
         assert_eq!(move_forward(&image, &mut buffer), Err(Refusal::MalformedImage));
         assert_eq!(move_back(&image, &mut buffer), Err(Refusal::UnsoundBoard));
         assert_eq!(buffer, [7; IMAGE_SIZE]);
     }
-    // A board's own limits are those of its rate: this subsecond is sound at 48,000,000 alone.
+    // A board's limits are those of its rate: this subsecond is sound at 48,000,000 alone.
     for (rate, field) in RATE_FIELDS {
         let fast = Fields {
             subsecond: 12_000_000,
@@ -290,7 +290,7 @@ fn fields_missing_cut_out_of_order_and_over_are_refused_with_12() {
             for other in 0..one {
                 let mut swapped = fields.clone();
                 swapped.swap(one, other);
-                // Two channels change places and are still channels: another board.
+                // Two channels change places: both are still channels, of another board.
                 if channels.contains(&one) && channels.contains(&other) {
                     let mut board = marked();
                     board.channels.swap(one - channels.start, other - channels.start);
@@ -299,7 +299,7 @@ fn fields_missing_cut_out_of_order_and_over_are_refused_with_12() {
                     refused(&swapped.concat());
                 }
             }
-            // A member byte more or less, which the length says.
+            // A member byte more or less, with the length to match.
             let mut longer = fields[one].to_vec();
             longer.push(0);
             longer[2] += 1;
@@ -310,7 +310,8 @@ fn fields_missing_cut_out_of_order_and_over_are_refused_with_12() {
                 image[one] = &changed;
                 refused(&image.concat());
             }
-            // A rate in front of every other field than the first, and a second one in front of that.
+            // A rate before each field. Before the first field of an old image it makes a new image; elsewhere it is
+            // refused.
             let mut with_rate = fields.clone();
             with_rate.insert(one, &RATE_FIELDS[2].1);
             if form == Form::Old && one == 0 {
@@ -338,7 +339,7 @@ fn a_fresh_board_is_parked_in_the_new_form_where_there_is_room() {
         assert_eq!(parked(&mut buffer), Ok(IMAGE_SIZE));
         assert_eq!(buffer[..], [&field[..], &FRESH, &[0xEE]].concat());
     }
-    // Another rate comes before a short buffer.
+    // Another rate is refused before a short buffer is.
     for rate in [0, 1, 999_999, 1_000_001, 24_000_000, 48_000_001, u32::MAX] {
         for length in [0, IMAGE_SIZE] {
             let mut buffer = [0xEE; IMAGE_SIZE];
@@ -384,12 +385,12 @@ fn boards_of_all_rates_are_parked_in_the_new_form_and_only_one_in_the_old() {
             }
         }
     }
-    // A rate that no board has is not sound.
+    // A board at a rate that no board has is not sound.
     let other = Fields::fresh_at(24_000_000);
     for form in Form::ALL {
         assert_eq!(park(form, &other, &mut [0; IMAGE_SIZE]), Err(Refusal::UnsoundBoard));
     }
-    // The old form has no rate, so that its board is one of which none is said.
+    // The old form has no rate, so its board is one without a given rate.
     let old = image_of(Form::Old, &Fields::fresh_at(1_000_000));
     assert_eq!(read_image(&old), Ok((Form::Old, Fields::fresh())));
 }
@@ -424,14 +425,14 @@ fn moves_are_refused_in_order_and_leave_the_buffer() {
     other_tag[0] = 0x25;
     use Refusal::*;
     for (to, image, length, refusal) in [
-        // Of neither form; of the target form already, sound or not, which comes before 1.
+        // In neither form; or in the target form already, sound or not, which comes before 1.
         (Form::New, old(&unsound)[1..].to_vec(), 0, MalformedImage),
         (Form::Old, new(&unsound)[..275].to_vec(), 0, MalformedImage),
         (Form::New, new(&marked()), 276, MalformedImage),
         (Form::New, new(&unsound), 0, MalformedImage),
         (Form::Old, old(&marked()), 276, MalformedImage),
         (Form::Old, old(&unsound), 0, MalformedImage),
-        // Also where the rate is another.
+        // Also where the rate is not 48,000,000.
         (Form::Old, new(&slow)[..275].to_vec(), 0, MalformedImage),
         (Form::Old, other_tag, 276, MalformedImage),
         // Then 1, then 16, then 11.
@@ -498,7 +499,7 @@ fn the_images_that_the_library_of_s_1_wrote_have_their_deadlines() {
         let (form, fields) = read_image(&image).expect("it is read for ever");
         assert_eq!((form, fields.rate), (Form::Old, F), "{name}");
         assert_eq!(image_of(Form::Old, &fields), image, "{name}");
-        // What was recorded then is what the rules give now.
+        // The recorded deadline is the one that the rules give.
         let due = deadline(&mut Board::from_fields(&fields));
         assert_eq!(due.is_some(), present == "1", "{name}");
         assert_eq!(due.unwrap_or(0).to_string(), exact, "{name}");
@@ -508,8 +509,8 @@ fn the_images_that_the_library_of_s_1_wrote_have_their_deadlines() {
         assert_eq!(read_image(&moved), Ok((Form::New, fields)), "{name}");
         seen.push(fields);
     }
-    // Every sort of member is among them: latches held, pending, armed and rung alarms, a negative offset, poll, and a
-    // deadline above 2^64 - 1.
+    // The images cover every kind of member: latches held, pending, armed and rung alarms, a negative offset, poll, and
+    // a deadline above 2^64 - 1.
     assert_eq!(seen.len(), 8);
     let some = |holds: &dyn Fn(&Fields) -> bool| assert!(seen.iter().any(holds));
     some(&|fields| fields.count_latches.iter().all(|latch| latch.held) && fields.clock_low_latch.held);

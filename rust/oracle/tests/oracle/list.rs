@@ -138,7 +138,7 @@ fn refusals_of_the_calls_own() {
         assert_eq!(reply.answer, call.zero_answer());
         if expected != 0 {
             assert_eq!(board.fields(), Fields::fresh());
-            // The call's own comes before 11.
+            // The call's own refusal comes before 11.
             let outcome = run(&mut board, &call.encode(), &mut []);
             assert_eq!(outcome.refusal_number(), expected);
         }
@@ -163,7 +163,7 @@ fn an_answer_longer_than_the_rest_is_refused_with_11() {
                 refusal: if done == 2 { None } else { Some(Refusal::BufferTooSmall) },
             };
             assert_eq!(outcome, expected, "{call:?} into {length}");
-            // The board is that of the calls done, and the rest of the buffer is as it was.
+            // The board is that of the calls done, and the other bytes of the buffer stay.
             let mut direct = Board::fresh();
             for &call in &[first, call][..done] {
                 accepted(&mut direct, call);

@@ -1,4 +1,5 @@
-//! Tests of the oracle, one module for a part of document 01.
+//! Tests of the oracle: the rules of document 01 and of the requests, the comparisons and the faults that they find,
+//! the recording, the measured lists, and the papers.
 
 mod clock;
 mod compare;

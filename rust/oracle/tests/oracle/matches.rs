@@ -1,5 +1,5 @@
 //! S-4's counts of matches at the edges of its rule, by both readings: the oracle's, from what an advance changed, and
-//! that of the rules, from the old compare and the new counter. And that the counts of an advance in parts add up.
+//! that of the rules, from the old compare and the new counter. Also, the counts of an advance in pieces add up.
 
 use calls::{list_of, Answer, Call, Refusal};
 use oracle::board::Reply;
@@ -61,7 +61,7 @@ fn board_of(channels: [Channel; 4]) -> Fields {
     fields
 }
 
-/// The counts of an advance, in which the two readings agree.
+/// The counts of an advance; the two readings must agree.
 fn counts(fields: &Fields, cycles: u64) -> [u128; 4] {
     let call = Call::Advance { cycles };
     let mut board = Board::from_fields(fields);
@@ -87,7 +87,7 @@ fn rows() -> Vec<Row> {
         ("the largest count", periodic(0, 0, 1), TOP, 1 << 64),
         ("one less", periodic(0, 1, 1), TOP, (1 << 64) - 1),
         ("of every second number", periodic(0, 0, 2), TOP, 1 << 63),
-        // The counter is at 21 after a tick; the points 10, 14 and 18 are behind it.
+        // The counter is at 21 after a tick, past the points 10, 14 and 18.
         ("overdue points", periodic(20, 10, 4), 1, 3),
         ("a point that the counter stands at", periodic(10, 10, 4), 1, 1),
         ("overdue, no cycles", periodic(20, 10, 4), 0, 0),
@@ -97,7 +97,7 @@ fn rows() -> Vec<Row> {
         ("reload 0, at the point", periodic(0, 10, 0), 10, 1),
         ("reload 0, far past the point", periodic(0, 10, 0), TOP, 1),
         ("reload 0, overdue", periodic(20, 10, 0), 1, 1),
-        // The next point is past 2^64 - 1, and the channel is switched off.
+        // The next point is past 2^64 - 1, so the channel is switched off.
         ("setting C, reload 4", periodic(TOP - 2, TOP - 1, 4), 1, 1),
         ("the next point is 2^64", periodic(0, 1 << 63, 1 << 63), 1 << 63, 1),
         ("two points below 2^64", periodic(0, 0, 1 << 63), TOP, 2),
@@ -111,7 +111,7 @@ fn rows() -> Vec<Row> {
         ("phase 1, one tick", prescaled(periodic(0, 2, 2), 2, 1), 4, 0),
         ("phase 1, two ticks", prescaled(periodic(0, 2, 2), 2, 1), 5, 1),
         ("phase 1, four ticks", prescaled(periodic(0, 2, 2), 2, 1), 11, 2),
-        // 2^64 - 1 cycles after phase 2^32 - 1 are 2^32 ticks and a rest.
+        // 2^64 - 1 cycles after phase 2^32 - 1 are 2^32 ticks and a remainder.
         (
             "largest phase, one tick",
             prescaled(periodic(0, 1, 1), u32::MAX, u32::MAX),
@@ -206,7 +206,7 @@ fn channel_0_comes_first() {
 
 #[test]
 fn a_match_is_counted_once() {
-    // Setting B goes on with compare 22. One-shot is switched off, and free-running disarmed, though it comes round.
+    // Setting B goes on with compare 22. One-shot is switched off; free-running is disarmed, though it comes round.
     let mut board = Board::from_fields(&board_of([
         periodic(0, 10, 4),
         one_shot(0, 10),
@@ -244,12 +244,12 @@ fn a_refused_advance_gives_zeros() {
 
 #[test]
 fn the_counts_of_parts_add_up() {
-    // Wholes by mode with a count of 0, of 1 and of more; and wholes whose points fall to more than one part, and
-    // periodic channels that a part switches off before the last.
+    // Whole advances by mode with a count of 0, of 1 and of more; whole advances whose points fall in more than one
+    // piece; and periodic channels that a piece before the last switches off.
     let mut seen = [[0; 3]; 4];
     let (mut shared, mut switched_off) = (0, 0);
     for (mut random, mut fields) in sound_boards(150_000) {
-        // More channels that run.
+        // Lets more channels run.
         fields.timer_enable = 15;
         for channel in &mut fields.channels {
             channel.control |= 4;
@@ -322,11 +322,11 @@ fn cycle_by_cycle_the_counts_add_up() {
         }
         met[usize::from(mode)] = met[usize::from(mode)].max(total[0]);
     }
-    // The most: just below 2^64 a compare past it is 0, and with reload 1 every number is an overdue point.
+    // The largest counts: just below 2^64 a compare past it is 0, and with reload 1 every number is an overdue point.
     assert_eq!(met, [1, 1 << 64, 1, 0]);
 }
 
-/// The runner at a rate that counts, and the one that is measured.
+/// The runner at a rate that counts, and the one that is measured, which does not.
 fn runners_at(rate: u32) -> [Runner; 2] {
     [runner, uncounted_runner].map(|of_rate| of_rate(rate).expect("the rate is one of the three"))
 }

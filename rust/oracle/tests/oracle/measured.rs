@@ -1,4 +1,4 @@
-//! The lists that are measured do what they are made for, and answers of two builds are compared as far as both go.
+//! The measured lists do what they are made for, and the answers of two builds are compared as far as both go.
 
 use calls::{list_of, Answer, Call, DEFAULT_RATE};
 use oracle::board::{AnyBoard, Board};
@@ -24,7 +24,7 @@ fn the_burst_meets_points_to_its_end() {
         fields.channels[0]
     };
     let mut before = channel_after(&kind.first);
-    // A cycle and 2^40 in each pair of calls, and after each the next number is the compare point.
+    // Each pair of calls passes 1 + 2^40 cycles. After each run of the list the next number is the compare point.
     let cycles = kind.list.len() as u64 / 2 * (1 + (1 << 40));
     for _ in 0..3 {
         let after = channel_after(&kind.list);
@@ -33,7 +33,7 @@ fn the_burst_meets_points_to_its_end() {
         assert_eq!((after.prescaler, after.phase), (0, 0));
         before = after;
     }
-    // And so for all the times of a benchmark.
+    // The same holds for all repeats of a benchmark.
     assert!(cycles.checked_mul(kind.times).is_some_and(|all| all < 1 << 61));
 }
 
@@ -49,7 +49,7 @@ fn ten_years_are_minutes_at_every_rate() {
         };
         let (mut board, _) = AnyBoard::fresh_at(rate);
         assert_eq!(board.run(&list_of(&kind.first), &mut [0; 256]).refusal, None);
-        // A skip and an acknowledgement in turn, so many that they make ten years of 365 days.
+        // Skips and acknowledgements in turn, as many as make ten years of 365 days.
         for call in &kind.list[..6] {
             let reply = board.call(*call);
             assert_eq!(reply.refusal, None);
@@ -92,6 +92,6 @@ fn answers_are_compared_as_far_as_both_go() {
         other[place] = byte;
         assert!(!agree(&other, &long), "byte {place}");
     }
-    // An answer less, and one that is cut.
+    // One answer less, and a cut one.
     assert!(!agree(&short[..4], &long) && !agree(&short[..6], &long) && !agree(&short, &long[..5]));
 }

@@ -15,7 +15,7 @@ pub const TIMING: &str = include_str!("../../original/timing.rs");
 fn only_the_body_of_host_time_and_the_import_of_the_rate_are_replaced() {
     let replaced = replace(TIMING).unwrap();
     let [host_time, rate] = REPLACEMENTS;
-    // The import stands first.
+    // The import comes first.
     let (before, after) = TIMING.split_once(rate.original).unwrap();
     let (between, after) = after.split_once(host_time.original).unwrap();
     let expected = [before, rate.replaced, between, host_time.replaced, after];

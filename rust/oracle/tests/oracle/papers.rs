@@ -100,7 +100,7 @@ fn the_manuals_registers_are_the_originals() {
         );
         assert!(row[2].ends_with(&format!("`{name}`")), "{name}");
     }
-    // The place in the block, the address for each channel, and the register; the last row has no register.
+    // The offset in the block, the address for each channel, and the register; the last row has no register.
     let block = rows(&section(&text, "### Registers of a channel"));
     let own = originals("TIMER_CTRL", "TIMER_PRESCALER");
     assert_eq!(block.len(), own.len() + 1);

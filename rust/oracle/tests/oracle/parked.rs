@@ -1,4 +1,4 @@
-//! The comparison of parked boards finds planted faults, and the images that it damages have every sort of member.
+//! The comparison of parked boards finds planted faults, and the images that it damages have every kind of member.
 
 use calls::{list_of, Call, Outcome, Refusal};
 use oracle::compare::parked::{
@@ -15,7 +15,7 @@ use oracle::writes::{byte, two_words};
 use crate::support::{Board, F, RATES};
 
 /// Where members stand in an image of the old form: timer enable, the offset's sign, poll, and the clock's two latches.
-/// In the new form 7 bytes stand before them, of which the last four are the rate.
+/// In the new form 7 bytes come before them, the last four of which are the rate.
 const TIMER_ENABLE: usize = 155;
 const OFFSET_SIGN: usize = 169;
 const POLL: usize = 202;
@@ -23,7 +23,7 @@ const CLOCK_LOW_LATCH: usize = 250;
 const CLOCK_HIGH_LATCH: usize = 255;
 const RATE: std::ops::Range<usize> = 3..7;
 
-/// Where the old form's fields begin in an image of some length; none where it is that of neither form.
+/// Where the old form's fields begin in an image of some length; none where it has the length of neither form.
 fn front(image: &[u8]) -> Option<usize> {
     match image.len() {
         OLD_IMAGE_SIZE => Some(0),
@@ -47,7 +47,7 @@ fn all_moves(parking: &Parking) -> Result<(), String> {
     RATES.into_iter().try_for_each(|rate| moves(parking, rate).map(|_| ()))
 }
 
-/// The rules but for the two clock latches, which stand in the other order.
+/// The rules, except that the two clock latches are swapped.
 fn latches_swapped(image: &mut [u8], list: &[u8], answers: &mut [u8]) -> Outcome {
     let swap = |image: &mut [u8]| {
         if let Some(front) = front(image) {
@@ -61,12 +61,12 @@ fn latches_swapped(image: &mut [u8], list: &[u8], answers: &mut [u8]) -> Outcome
     outcome
 }
 
-/// The rules but for a board that is not written back.
+/// The rules, except that the board is not written back.
 fn not_written(image: &mut [u8], list: &[u8], answers: &mut [u8]) -> Outcome {
     run_parked(&mut image.to_vec(), list, answers)
 }
 
-/// The rules but for a poll that is lost when an image is read: a fresh board has none to lose.
+/// The rules, except that the poll is lost when an image is read. A fresh board has none to lose.
 fn poll_lost(image: &mut [u8], list: &[u8], answers: &mut [u8]) -> Outcome {
     if let (Ok(_), Some(front)) = (image_form(image), front(image)) {
         image[front + POLL..][..4].fill(0);
@@ -74,7 +74,7 @@ fn poll_lost(image: &mut [u8], list: &[u8], answers: &mut [u8]) -> Outcome {
     run_parked(image, list, answers)
 }
 
-/// The rules but for a fresh board in the place of an image that is refused.
+/// The rules, except that a fresh board replaces an image that is refused.
 fn refused_replaced(image: &mut [u8], list: &[u8], answers: &mut [u8]) -> Outcome {
     let outcome = run_parked(image, list, answers);
     if image_form(image).is_err() && image.len() == IMAGE_SIZE {
@@ -83,7 +83,7 @@ fn refused_replaced(image: &mut [u8], list: &[u8], answers: &mut [u8]) -> Outcom
     outcome
 }
 
-/// The rules but for a run that is left out where the list is short.
+/// The rules, except that a short list is not run.
 fn short_lists_left_out(image: &mut [u8], list: &[u8], answers: &mut [u8]) -> Outcome {
     if list.len() == 3 {
         return Outcome {
@@ -94,7 +94,8 @@ fn short_lists_left_out(image: &mut [u8], list: &[u8], answers: &mut [u8]) -> Ou
     run_parked(image, list, answers)
 }
 
-/// A run over the board of an image, read and written back by two functions: of the form, the fields and the bytes.
+/// A run over the board of an image, read and written back by two functions, which are given the form and the fields;
+/// the second also gets the bytes.
 fn run_by(
     image: &mut [u8],
     (list, answers): (&[u8], &mut [u8]),
@@ -118,14 +119,14 @@ fn run_by(
     }
 }
 
-/// Writes the image of a board in a form over the front of some bytes, as far as they go.
+/// Writes the image of a board in a form over the start of some bytes, as far as they go.
 fn put(form: Form, fields: Fields, bytes: &mut [u8]) {
     let image = image_of(form, &fields);
     let length = image.len().min(bytes.len());
     bytes[..length].copy_from_slice(&image[..length]);
 }
 
-/// A board at 48,000,000, or a refusal of one at another rate.
+/// A board at 48,000,000, or a refusal for one at another rate.
 fn if_default(fields: Fields, refusal: Refusal) -> Result<Fields, Refusal> {
     if fields.rate == F {
         Ok(fields)
@@ -134,7 +135,7 @@ fn if_default(fields: Fields, refusal: Refusal) -> Result<Fields, Refusal> {
     }
 }
 
-/// What a run over an image does in the place of the rules.
+/// A run over an image, in place of the rules.
 type Run = fn(&mut [u8], &[u8], &mut [u8]) -> Outcome;
 
 const RUN_FAULTS: [(&str, Run); 8] = [
@@ -218,7 +219,7 @@ const RUN_FAULTS: [(&str, Run); 8] = [
     }),
 ];
 
-/// The rules but for 1, which comes before 12.
+/// The rules, except that 1 comes before 12.
 fn unsound_first(image: &[u8]) -> Result<Form, Refusal> {
     match front(image) {
         Some(front) if image[front + TIMER_ENABLE] > 15 => Err(Refusal::UnsoundBoard),
@@ -226,7 +227,7 @@ fn unsound_first(image: &[u8]) -> Result<Form, Refusal> {
     }
 }
 
-/// The rules but for a flag that may be any number.
+/// The rules, except that a flag may be any number.
 fn flag_of_2(image: &[u8]) -> Result<Form, Refusal> {
     let mut image = image.to_vec();
     if let Some(front) = front(&image) {
@@ -236,7 +237,7 @@ fn flag_of_2(image: &[u8]) -> Result<Form, Refusal> {
     image_form(&image)
 }
 
-/// The rules but for a last byte that is not asked for.
+/// The rules, except that an extra byte at the end is ignored.
 fn byte_over(image: &[u8]) -> Result<Form, Refusal> {
     let size = match image.first() {
         Some(0x24) => IMAGE_SIZE,
@@ -245,10 +246,10 @@ fn byte_over(image: &[u8]) -> Result<Form, Refusal> {
     image_form(image.get(..size).unwrap_or(image))
 }
 
-/// The form of an image, or its refusal, in the place of the rules.
+/// The form of an image, or its refusal, in place of the rules.
 type Asked = fn(&[u8]) -> Result<Form, Refusal>;
 
-/// The rules for an image of the new form with another rate, where a condition holds of its own.
+/// The rules for an image of the new form, with its rate replaced where a condition holds of it.
 fn with_rate(image: &[u8], rate: u32, holds: impl Fn(u32) -> bool) -> Result<Form, Refusal> {
     let mut image = image.to_vec();
     if image.len() == IMAGE_SIZE && holds(u32::from_be_bytes(image[RATE].try_into().expect("four bytes"))) {
@@ -298,7 +299,7 @@ const FORM_FAULTS: [(&str, Asked); 12] = [
     }),
 ];
 
-/// The rules but for a byte that is written past the image.
+/// The rules, except that a byte is written past the image.
 fn past_the_image(buffer: &mut [u8]) -> Result<usize, Refusal> {
     let parked = park_fresh(buffer);
     if let (Ok(written), true) = (parked, buffer.len() > IMAGE_SIZE) {
@@ -307,7 +308,7 @@ fn past_the_image(buffer: &mut [u8]) -> Result<usize, Refusal> {
     parked
 }
 
-/// The rules but for a short buffer, which is filled as far as it goes.
+/// The rules, except that a short buffer is filled as far as it goes.
 fn short_buffer_filled(buffer: &mut [u8]) -> Result<usize, Refusal> {
     let parked = park_fresh(buffer);
     if parked.is_err() {
@@ -316,7 +317,7 @@ fn short_buffer_filled(buffer: &mut [u8]) -> Result<usize, Refusal> {
     parked
 }
 
-/// The rules but for the old form, which is written by default.
+/// The rules, except that the old form is written by default.
 fn old_by_default(buffer: &mut [u8]) -> Result<usize, Refusal> {
     park(Form::Old, &Fields::fresh(), buffer)
 }
@@ -327,7 +328,7 @@ fn old_where_the_new_has_room(buffer: &mut [u8]) -> Result<usize, Refusal> {
     old_by_default(buffer)
 }
 
-/// A fresh board of a rate, parked in the place of the rules.
+/// The parking of a fresh board at a rate, in place of the rules.
 type FreshAt = fn(u32, &mut [u8]) -> Result<usize, Refusal>;
 
 const FRESH_AT_FAULTS: [(&str, FreshAt); 8] = [
@@ -371,10 +372,10 @@ const FRESH_AT_FAULTS: [(&str, FreshAt); 8] = [
     }),
 ];
 
-/// A move in the place of the rules.
+/// A move, in place of the rules.
 type Move = fn(&[u8], &mut [u8]) -> Result<usize, Refusal>;
 
-/// The form of an image, of a sound board or not; none where it has neither.
+/// The form of an image, sound or not; none where it has neither.
 fn formed(image: &[u8]) -> Option<Form> {
     match image_form(image) {
         Ok(form) => Some(form),
@@ -384,7 +385,7 @@ fn formed(image: &[u8]) -> Option<Form> {
     }
 }
 
-/// Copies an image to the front of a buffer, or 11.
+/// Copies an image to the start of a buffer, or gives 11.
 fn copied(image: &[u8], moved: &mut [u8]) -> Result<usize, Refusal> {
     let room = moved.get_mut(..image.len()).ok_or(Refusal::BufferTooSmall)?;
     room.copy_from_slice(image);
@@ -451,7 +452,7 @@ const FORWARD_FAULTS: [(&str, Move); 9] = [
     }),
 ];
 
-/// Whether an image has the new form, of a sound board or not, and another rate than 48,000,000.
+/// Whether an image has the new form, sound or not, and a rate other than 48,000,000.
 fn other_rate(image: &[u8]) -> bool {
     formed(image) == Some(Form::New) && image[RATE] != F.to_be_bytes()
 }
@@ -529,9 +530,9 @@ const BACK_FAULTS: [(&str, Move); 12] = [
 #[test]
 fn the_rules_agree_with_themselves() {
     seeds(&RULES).unwrap();
-    // Each of ten images and 255 values for each of its bytes; cuts, a byte over, and fields left out, doubled, longer,
-    // shorter and swapped; the three rates before each field and behind the last, and the rate behind each other field;
-    // and other rates. Five comparisons each.
+    // Each of ten images; 255 values for each of its bytes; cuts, extra bytes, and fields left out, doubled, longer,
+    // shorter and swapped; the three rates before each field and after the last, and the image's rate after each other
+    // field; and other rates. Five comparisons each.
     let rates = rates_in_images().count();
     for (form, rate) in forms() {
         let size = form.size();
@@ -541,7 +542,7 @@ fn the_rules_agree_with_themselves() {
         let count = damaged(&RULES, form, rate).unwrap();
         assert_eq!(count.comparisons, (images(rate).len() * each * 5) as u64);
     }
-    // Eleven boards in two forms, moved to two, and at 48,000,000 eight there and back.
+    // Eleven boards in two forms, moved to two; and at 48,000,000 eight there and back.
     for rate in RATES {
         let back = if rate == F { 8 * 2 } else { 0 };
         assert_eq!(
@@ -584,7 +585,7 @@ fn a_difference_is_shown_by_the_shortest_list() {
 
 #[test]
 fn what_is_lost_in_parking_is_found_by_parking_on_the_way() {
-    // An alarm on host time, armed; the first advance counts poll.
+    // An alarm on host time, armed; the first advance adds to the poll.
     let mut calls = vec![byte(registers::CLOCK_CONTROL + 3, 5)];
     calls.extend(two_words(registers::ALARM_LOW, registers::ALARM_HIGH, 3));
     calls.extend([Call::Output, Call::Advance { cycles: 10 }, Call::Deadline]);
@@ -594,7 +595,7 @@ fn what_is_lost_in_parking_is_found_by_parking_on_the_way() {
     };
     for (form, rate) in forms() {
         let found = list_from(&parking, form, &Fields::fresh_at(rate), &list_of(&calls), 100).unwrap_err();
-        // The shortest list ends with the advance, and parking after it loses what it counted.
+        // The shortest list ends with the advance, and parking after it loses the poll.
         assert!(found.contains("\nparked after 10 calls:"), "{found}");
         let place = form.size() - OLD_IMAGE_SIZE + POLL + 3;
         assert!(
@@ -631,7 +632,7 @@ fn faults_of_a_fresh_board_that_is_parked_are_found() {
     }
 }
 
-/// A fault that only an image of the new form's length that is malformed and has another rate shows.
+/// A fault that shows only on an image that has the new form's length, is malformed and has another rate.
 const BACK_FAULT_OF_FORM: (&str, Move) = ("16 before 12", |image, moved| {
     if image.len() == IMAGE_SIZE && formed(image).is_none() && image[RATE] != F.to_be_bytes() {
         return Err(Refusal::RateNeedsNewForm);
@@ -687,7 +688,7 @@ fn the_damaged_images_hold_every_sort_of_member() {
         assert!(boards.iter().any(|fields| fields.alarm_pending));
         assert!(boards.iter().any(|fields| fields.offset_negative));
         assert!(boards.iter().any(|fields| fields.controller_pending & 8 != 0));
-        // Replaced bytes are accepted, refused with 1 and refused with 12, of each sound board.
+        // Of each sound board's images with a byte replaced, some are accepted, some refused with 1, some with 12.
         for fields in boards.iter().filter(|fields| fields.sound()) {
             let image = image_of(form, fields);
             let mut seen = [0; 3];
@@ -706,7 +707,7 @@ fn the_damaged_images_hold_every_sort_of_member() {
             assert!(seen.iter().all(|count| *count > 10), "{seen:?}");
         }
     }
-    // Both the rates that a board has and the requests' own limits are put into images.
+    // The rates that are put into images include these limits and the three.
     let rates: Vec<u32> = rates_in_images().collect();
     for rate in [0, 1, 999_999, 1_000_001, 24_000_000, 48_000_001, u32::MAX] {
         assert!(rates.contains(&rate), "{rate}");

@@ -98,7 +98,7 @@ fn sum(channel: &Channel, cycles: u128) -> u128 {
     u128::from(channel.phase) + cycles
 }
 
-/// What an advance meets of a channel: by its divisor, phase + cycles, and cycles.
+/// A condition on an advance of a channel: by its divisor, phase + cycles, and cycles.
 type Edge = fn(u128, u128, u128) -> bool;
 
 const EDGES: [(&str, Edge); 9] = [
@@ -115,8 +115,8 @@ const EDGES: [(&str, Edge); 9] = [
 
 #[test]
 fn the_boards_follow_the_rules_at_every_edge() {
-    // Edges by channel number, mode, prescaler and phase; and, by mode, advances with ticks that meet no point, one
-    // and more.
+    // Edges by channel number, mode, prescaler and phase; and, by mode, advances with ticks that meet no point, one and
+    // more.
     let (mut met, mut seen) = (BTreeSet::new(), [[0; 3]; 4]);
     for start in starts() {
         let prescalers = start.channels.map(|channel| (channel.prescaler, channel.phase));
@@ -147,7 +147,7 @@ fn the_boards_follow_the_rules_at_every_edge() {
     let mut expected = BTreeSet::new();
     for prescaler in [0, 1, u32::MAX - 1, u32::MAX] {
         for phase in [0, prescaler] {
-            // A sum is past 2^64 - 1 by at most the phase.
+            // A sum exceeds 2^64 - 1 by at most the phase.
             let possible = EDGES.len() - 2 + phase.min(2) as usize;
             for (name, _) in &EDGES[..possible] {
                 let places = (0..16).map(|place| (place / 4, (place % 4) as u8));
@@ -181,7 +181,7 @@ fn divided(sum: u128, divisor: u128) -> (u128, u32) {
     (sum / divisor, (sum % divisor) as u32)
 }
 
-/// A step where the condition holds, and the rule where it does not.
+/// A faulty step where the condition holds, and the rule where it does not.
 fn only(condition: bool, faulty: (u128, u32), channel: &Channel, cycles: u128) -> (u128, u32) {
     if condition {
         faulty
@@ -205,7 +205,7 @@ const STEPS: [(&str, Step); 16] = [
     ("phase 0 taken as prescaler 0", |channel, cycles| {
         only(channel.phase == 0, (cycles, 0), channel, cycles)
     }),
-    // It leaves a board that is not sound.
+    // This leaves a board that is not sound.
     ("cycles kept as phase with prescaler 0", |channel, cycles| {
         only(channel.prescaler == 0, (cycles, cycles as u32), channel, cycles)
     }),
@@ -249,7 +249,7 @@ const STEPS: [(&str, Step); 16] = [
     }),
 ];
 
-/// A call of the Rust, but for an advance, which is by the rules with the step of a number.
+/// A call of the Rust; but an advance follows the rules with step `STEP`.
 fn one_call<const STEP: usize>(board: &mut Board, call: &[u8], room: &mut [u8]) -> Outcome {
     let before = board.fields();
     let outcome = run(board, call, room);

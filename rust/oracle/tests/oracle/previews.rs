@@ -17,7 +17,7 @@ use crate::support::*;
 /// The seeds that the tests go over.
 const SEEDS: u64 = 40;
 
-/// The line that one advance answers on a board of its own with these fields.
+/// The line that one advance answers on a separate board with these fields.
 fn line_after(fields: &Fields, cycles: u64) -> bool {
     advance(&mut Board::from_fields(fields), cycles)
 }
@@ -83,10 +83,10 @@ fn previews_are_refused_in_order_and_write_nothing() {
             let refused = preview_parked(image, &[30, 29], &mut buffer[..room]);
             assert_eq!((refused, buffer), (Err(refusal), [7; 2]));
         }
-        // Of no totals too.
+        // Also for no totals.
         let refused = preview_parked(realtime, &[], &mut []);
         assert_eq!(refused, Err(Refusal::ClockInRealtime));
-        // Realtime without enable, and enable without realtime, are no realtime clock.
+        // A clock with realtime but not enabled, or enabled but without realtime, is not refused.
         for clock_control in [0, 1, 2, 3, 4, 6] {
             let mut buffer = [7; 2];
             let image = image_of(form, &controlled(clock_control));
@@ -108,7 +108,7 @@ fn previews_go_by_the_rate_of_the_image() {
             Ok(())
         );
         assert_eq!(buffer, [1, 0], "{rate}");
-        // The old form says no rate.
+        // The old form has no rate.
         let previewed = preview_parked(&image_of(Form::Old, &fields), &[96_000_000, 95_999_999], &mut buffer);
         assert_eq!((previewed, buffer), (Ok(()), [1, 0]));
     }
@@ -148,10 +148,10 @@ fn the_boards_and_totals_of_the_seeds_reach_every_case() {
     assert!(repeats > 50, "{repeats}");
 }
 
-/// A preview that is not the rules': of an image, totals and a buffer.
+/// A preview that is not by the rules: of an image, totals and a buffer.
 type Fault = fn(&[u8], &[u64], &mut [u8]) -> Result<(), Refusal>;
 
-/// The rules, and then a change where they accept: of the board, the totals and the whole buffer.
+/// The rules, and then, where they accept, a change: of the board, the totals and the whole buffer.
 fn accepted_but(
     (image, totals, high): (&[u8], &[u64], &mut [u8]),
     change: impl FnOnce(&Fields, &[u64], &mut [u8]),
@@ -162,7 +162,7 @@ fn accepted_but(
     Ok(())
 }
 
-/// The rules but for each byte, which is a function of the board and the total.
+/// The rules, except that each byte is a function of the board and the total.
 fn each(
     (image, totals, high): (&[u8], &[u64], &mut [u8]),
     byte: impl Fn(&Fields, u64) -> bool,

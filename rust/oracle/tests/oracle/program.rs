@@ -1,4 +1,4 @@
-//! The built program, as `listrun` is to behave.
+//! The built program, which must behave as `listrun`.
 
 use std::io::Write;
 use std::process::{Command, Output, Stdio};

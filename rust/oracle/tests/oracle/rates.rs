@@ -1,5 +1,5 @@
 //! The comparison at the three rates: its clocks have the deadlines, subseconds and polls that they are made for, and
-//! it finds planted faults, of boards that go by another rate than their own and of rates that no board has.
+//! it finds planted faults, of boards that use a rate other than their own and of rates that no board has.
 
 use std::collections::BTreeSet;
 
@@ -15,7 +15,7 @@ use oracle::registers;
 
 use crate::support::*;
 
-/// The board that calls make of a fresh one of a rate.
+/// The board that calls make from a fresh one at a rate.
 fn made_at(rate: u32, calls: &[Call]) -> Board {
     let (mut board, refusal) = Board::fresh_at(rate);
     assert_eq!(refusal, None);
@@ -44,7 +44,7 @@ fn the_counting_clocks_have_their_subseconds_and_deadlines() {
             let end = u64::from(rate - fields.subsecond);
             assert!([end - 1, end].iter().all(|cycles| start.advances.contains(cycles)));
         }
-        // At each of the seconds every subsecond, and setting F's deadline.
+        // Every subsecond at each of the seconds, and setting F's deadline.
         assert_eq!(seen.len(), 4 * subseconds(rate).len());
         assert!(seen.contains(&(0, rate - 1)) && seen.contains(&(u64::MAX, 0)));
         assert!(deadlines.contains(&(2 * u128::from(rate))));
@@ -110,7 +110,7 @@ fn the_switched_clocks_change_from_every_control_to_every_control() {
             offsets.insert(after.offset_ns());
         }
         assert_eq!(seen.len(), 64);
-        // By way of nanoseconds a subsecond becomes less, but where a cycle is a whole number of them.
+        // By way of nanoseconds a subsecond becomes less, except where a cycle is a whole number of them.
         assert_eq!(less > 0, rate != 1_000_000, "{less} at {rate}");
         assert!(
             from_host.len() > 8 && offsets.len() > 20,
@@ -129,7 +129,7 @@ fn the_rust_agrees_with_itself_at_every_rate() {
         assert_eq!(passes::seed(&same, 1).unwrap().comparisons, 6);
     }
     let count = rates(&RULES).unwrap();
-    // Three ways with and without room, of 23 lists.
+    // 23 lists, each by three runs, with and without room.
     assert_eq!(count.comparisons as usize, 3 * 2 * 23 * (other_rates().len() + 3));
 }
 
@@ -151,7 +151,7 @@ fn another_rate_is_refused_with_15_before_all_else() {
                 }
                 assert_eq!(buffer, [0xEE; 80]);
             }
-            // At the three, a run is that of the board.
+            // At the three, it gives what a run of the board gives.
             for rate in RATES {
                 let [mut said, mut repeated, mut buffer] = [[0xEE; 80]; 3];
                 let (mut board, _) = Board::fresh_at(rate);
@@ -164,7 +164,7 @@ fn another_rate_is_refused_with_15_before_all_else() {
     }
 }
 
-/// Whether a call is one that a fault carries out at another rate, from the fields before it.
+/// Whether a fault carries out a call at another rate, from the fields before it.
 type Fault = fn(&Fields, Call) -> bool;
 
 /// A clock that counts cycles.
@@ -192,8 +192,8 @@ const FAULTS: [(&str, Fault); 7] = [
     ),
 ];
 
-/// The Rust at a rate but for a fault, of a number, by which some calls go by another rate, as far as the board is
-/// sound at that.
+/// The Rust at a rate, except that by fault `FAULT` some calls use another rate, where the board is sound at
+/// that.
 fn faulty<const FAULT: usize, const RATE: u32, const OTHER: u32>(
     first: &[u8],
     list: &[u8],
@@ -219,7 +219,7 @@ fn faulty<const FAULT: usize, const RATE: u32, const OTHER: u32>(
     })
 }
 
-/// The runners of a fault's number at each rate, with each other rate: rate, other and runner.
+/// The runners of a fault's number at each rate with each other rate: the rate, the other one and the runner.
 macro_rules! at_each_rate {
     ($($fault:literal)*) => {
         [$([
@@ -259,7 +259,7 @@ fn a_board_that_is_made_at_another_rate_is_found() {
                 (1..=20).any(|seed| passes::seed(&pair, seed).is_err()),
                 "{other} at {rate}"
             );
-            // Each prepared board of the pass over the registers, with no register written, shows it or does not.
+            // Some prepared board of the pass over the registers shows it with no register written.
             let state = passes::state_readout();
             let shown = |board: &Vec<u8>| pair.compare(board, Some(&state), REGISTERS_BUFFER).is_err();
             assert!(passes::prepared(rate).iter().any(shown), "{other} at {rate}");
@@ -267,7 +267,7 @@ fn a_board_that_is_made_at_another_rate_is_found() {
     }
 }
 
-/// What a run at a rate that a fault takes for another, or that it refuses in another way, gives.
+/// A run at a rate with a fault: it takes the rate for another, or refuses it differently.
 type RateFault = fn(u32, &[u8], &mut [u8]) -> Outcome;
 
 fn refused(refusal: Refusal) -> Outcome {
@@ -277,7 +277,7 @@ fn refused(refusal: Refusal) -> Outcome {
     }
 }
 
-/// A run at a rate by `run`, and at another than the three as at the rate of a board of which none is said.
+/// Runs at a rate, and at a rate other than the three as a board without a given rate.
 fn at_the_default(rate: u32, list: &[u8], answers: &mut [u8]) -> Outcome {
     run_at(if RATES.contains(&rate) { rate } else { F }, list, answers)
 }
@@ -338,7 +338,7 @@ fn faulty_run<const FAULT: usize>(rate: u32, list: &[u8], answers: &mut [u8]) ->
     RATE_FAULTS[FAULT].1(rate, list, answers)
 }
 
-/// The same fault where a first list is all that is run.
+/// The same fault where only a first list is run.
 fn faulty_repeated<const FAULT: usize>(
     rate: u32,
     first: &[u8],
@@ -352,7 +352,7 @@ fn faulty_repeated<const FAULT: usize>(
     run_repeated_at(rate, first, list, times, answers)
 }
 
-/// The rules but for a list that is repeated over a board of which no rate is said.
+/// The rules, except that a list is repeated over a board without a given rate.
 fn repeated_at_the_default(rate: u32, first: &[u8], list: &[u8], times: u64, answers: &mut [u8]) -> Outcome {
     let board = if times > 0 && RATES.contains(&rate) { F } else { rate };
     run_repeated_at(board, first, list, times, answers)

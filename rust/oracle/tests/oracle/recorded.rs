@@ -36,7 +36,7 @@ fn recording_covers_tags_registers_and_refusals() {
     assert_eq!(coverage.tags, (0x01..=0x0A).collect());
     assert_eq!(coverage.read, (0x000..0x380).collect());
     assert_eq!(coverage.written, (0x000..0x380).collect());
-    // 12 is that of an image.
+    // 12 is a refusal of images only.
     assert_eq!(coverage.refusals, (0..=11).chain([13]).collect());
 }
 

@@ -15,7 +15,7 @@ fn boards() -> Vec<Fields> {
     RATES.into_iter().flat_map(boards_at).collect()
 }
 
-/// The fresh board of a rate, one about to commit, one with its alarm due and latches held, a busy one, and a random
+/// The fresh board at a rate, one about to commit, one with its alarm due and latches held, a busy one, and a random
 /// one.
 fn boards_at(rate: u32) -> Vec<Fields> {
     let held = Latch {
@@ -81,7 +81,7 @@ fn every_write_keeps_the_board_sound_and_reaches_its_register() {
             }
         }
     }
-    // The registers that a write may change, from `write_byte`: of some only the last byte has an effect.
+    // The registers that a write may change, from `write_byte`. In some, only the last byte has an effect.
     let mut expected = BTreeSet::new();
     for register in [
         registers::ENABLE,

@@ -1,5 +1,6 @@
 //! Document 01's rules for every call, with S-4's counts, written from their sentences over exact numbers and whole
-//! fields; for register offsets, read values and write effects it points to timing.rs. The board is compared with them.
+//! fields; for register offsets, read values and write effects document 01 points to timing.rs. The board is compared
+//! with these rules.
 
 use calls::{Answer, Call};
 use oracle::deadline;
@@ -79,7 +80,7 @@ fn points(old: &Channel, new: &Channel) -> u128 {
     }
 }
 
-/// A rule for the ticks that so many cycles give a channel, and for its phase after them.
+/// A rule for the ticks that a number of cycles gives a channel, and for its phase after them.
 pub type Step = fn(&Channel, u128) -> (u128, u32);
 
 /// Document 01's rule for c cycles and divisor V = prescaler + 1.
@@ -140,14 +141,14 @@ fn write_clock_control(before: &Fields, control: u8) -> Fields {
         ..*before
     };
     let switched_off = before.clock_enabled() && !after.clock_enabled();
-    // This arises also where the clock was disabled with the realtime bit set.
+    // This also holds where the clock was disabled with the realtime bit set.
     let left_realtime = after.clock_enabled() && !after.realtime() && before.realtime();
     if switched_off || left_realtime {
         let seconds = time / SECOND;
         if seconds > i128::from(u64::MAX) {
             (after.seconds, after.subsecond) = (u64::MAX, 0);
         } else {
-            // The cycles of a second to 10^9 ns.
+            // The ratio of the cycles of a second to 10^9 ns.
             let (cycles, nanoseconds) = match before.rate {
                 1_000_000 => (1, 1_000),
                 12_000_000 => (3, 250),
@@ -171,7 +172,7 @@ fn set_byte(number: &mut u64, place: u16, byte: u8) {
     *number = u64::from_be_bytes(bytes);
 }
 
-/// A byte written into a shadow; true when it is the eighth distinct one, and the mask is then 0 again.
+/// Writes a byte into a shadow; true where it is the eighth distinct one, and the mask is then 0 again.
 fn write_shadow(shadow: &mut u64, mask: &mut u8, place: u16, byte: u8) -> bool {
     set_byte(shadow, place, byte);
     *mask |= 1 << place;
@@ -395,7 +396,7 @@ fn refusal(before: &Fields, call: Call) -> u8 {
     }
 }
 
-/// What a sound board gives a direct call: the refusal's number, the answer and the fields after it.
+/// What a sound board answers to a direct call: the refusal's number, the answer and the fields after it.
 pub fn direct(before: &Fields, call: Call) -> (u8, Answer, Fields) {
     match refusal(before, call) {
         0 => {
@@ -468,7 +469,7 @@ pub fn compare(fields: &Fields, call: Call) -> (u8, Answer, Fields) {
     given
 }
 
-/// Cycles about a channel's tick, its match or the end of a second, or any number.
+/// Cycles to about a channel's tick, its match or the end of a second, or any number.
 pub fn some_cycles(random: &mut Random, fields: &Fields) -> u64 {
     let channel = fields.channels[random.below(4) as usize];
     let divisor = u64::from(channel.prescaler) + 1;
@@ -486,7 +487,7 @@ pub fn some_cycles(random: &mut Random, fields: &Fields) -> u64 {
 
 #[test]
 fn advance_follows_the_rules() {
-    // By mode: matches that set pending anew, and matches of a channel that was pending. Then, in mode 1, counts of
+    // By mode: matches that set pending, and matches of a channel that is pending already. Then, in mode 1, counts of
     // more than 1, 2^32 and 2^63.
     let (mut rises, mut again, mut large) = ([0; 4], [0; 4], [0; 3]);
     for (mut random, fields) in RATES.into_iter().flat_map(|rate| sound_boards_at(rate, 60_000)) {
@@ -531,7 +532,7 @@ fn every_call_follows_the_rules() {
 
 #[test]
 fn an_overdue_alarm_gives_a_deadline_of_1() {
-    // No sound board has one, so only the exact deadline is asked.
+    // No sound board has one, so only the exact deadline is checked.
     for rate in RATES {
         let fields = Fields {
             seconds: 5,

@@ -1,4 +1,4 @@
-//! Document 01's settings A to J, the wrong readings that it names, and the skip, S-2's limit of it too.
+//! Document 01's settings A to J, the wrong readings that it names, and the skip with S-2's limit.
 
 use calls::{list_of, Answer, Call, Outcome, Refusal};
 use oracle::board::Reply;
@@ -32,7 +32,7 @@ fn writes(bytes: &[(u16, u8)]) -> Vec<Call> {
         .collect()
 }
 
-/// The records of empty answers to as many writes.
+/// The records of the empty answers to a number of writes.
 fn written(count: usize) -> Vec<u8> {
     [0x03, 0, 0].repeat(count)
 }
@@ -139,13 +139,13 @@ fn f_alarm_after_two_seconds() {
         let expected = [
             &written(9)[..],
             &deadline_record(due.into(), due),
-            // The alarm is no channel's match.
+            // The alarm is not a match of any channel.
             &advance_record(0, [0; 4]),
             &deadline_record(1, 1),
             &advance_record(1, [0; 4]),
         ];
         assert_eq!(answers_at(rate, &[&calls[..], &behind].concat()), expected.concat());
-        // A skip gets there at once.
+        // A skip reaches it at once.
         let expected = [&written(9)[..], &[0x06, 0, 9], &due.to_be_bytes(), &[1]];
         assert_eq!(
             answers_at(rate, &[&calls[..], &[Call::Skip]].concat()),
@@ -254,7 +254,7 @@ fn wrong_low_count_latched() {
 
 #[test]
 fn wrong_compare_of_a_disabled_channel_moved() {
-    // Neither control's enable alone nor timer enable alone makes it run; phase stays too.
+    // Neither control's enable alone nor timer enable alone makes it run; the phase stays too.
     for (control, timer_enable) in [(9, 1), (13, 0), (13, 14)] {
         let mut fields = running(1);
         fields.channels[0].control = control;
@@ -285,7 +285,7 @@ fn wrong_pending_from_a_steady_level() {
     accepted(&mut board, raise);
     assert_eq!(board.fields().controller_pending, 0);
 
-    // The same of the line, which the board sets after every call.
+    // The same for the line, which the board sets after every call.
     let mut fields = running(0);
     fields.channels[0].compare = 1;
     let mut board = Board::from_fields(&fields);
@@ -431,7 +431,7 @@ fn far_boards() -> Vec<(&'static str, u128, Fields)> {
             }),
         ),
         ("the largest", 1 << 96, with(2, |f| f.channels[0].prescaler = u32::MAX)),
-        // 2^64 = 384,307,168,202 x F + 13,551,616, and so 384,307,168,203 x F is 34,448,384 more.
+        // 2^64 = 384,307,168,202 x F + 13,551,616, so 384,307,168,203 x F is 34,448,384 more than 2^64.
         ("an alarm at the top", (1 << 64) - 1, alarm(384_307_168_203, 34_448_385)),
         ("an alarm past the top", 1 << 64, alarm(384_307_168_203, 34_448_384)),
         ("the last alarm", 0xFFFF_FFFF_FFFF_FFFF * 48_000_000, alarm(u64::MAX, 0)),
@@ -467,7 +467,7 @@ fn skip_gets_there_or_is_refused_with_13() {
             assert_eq!(reply, TOO_LARGE, "{name}");
             assert_eq!(board.fields(), fields, "{name}");
             assert_eq!(number(&reply), 13);
-            // Once the rest fits, a skip gets there.
+            // Once the remaining deadline fits, a skip reaches it.
             if exact < (1 << 65) - 1 {
                 assert!(!advance(&mut board, u64::MAX), "{name}");
                 let rest = (exact - u128::from(u64::MAX)) as u64;
@@ -502,7 +502,7 @@ fn skip_is_refused_with_13_after_1_and_before_11() {
                 refusal: Refusal::from_number(refusal),
             };
             assert_eq!(outcome, expected, "{name} into {length}");
-            // The calls before the refused one stand, and nothing else is changed.
+            // The calls before the refused one stand, and nothing else changes.
             let after = calls[..done]
                 .iter()
                 .fold(fields, |fields, &call| fields_after(&fields, call));
@@ -543,7 +543,7 @@ fn skip_of_a_high_line_is_accepted_beside_any_deadline() {
 #[test]
 fn the_smallest_deadline_decides_a_skip() {
     for (name, exact, mut fields) in far_boards() {
-        // Channel 1 is due after 5 cycles, and, without its interrupt, never.
+        // Channel 1 is due after 5 cycles; without its interrupt, never.
         fields.timer_enable |= 2;
         fields.channels[1].compare = 5;
         fields.channels[1].control = 12;

@@ -14,8 +14,8 @@ const TOP: u128 = u64::MAX as u128;
 /// The bytes of a skip's record.
 const RECORD: usize = 12;
 
-/// What a skip on a board, with so many bytes left in the buffer, gives instead of what it should; none where it does
-/// as it should.
+/// What a skip on a board, with that many bytes left in the buffer, gives in place of the rule; none where it follows
+/// the rule.
 type Fault = fn(&mut Board, usize) -> Option<Result<Answer, Refusal>>;
 
 /// D, where a skip would advance by it.
@@ -24,12 +24,12 @@ fn due(board: &Board) -> Option<u128> {
     deadline::exact(&fields).filter(|_| !fields.line())
 }
 
-/// Whether a skip is to be refused with 13.
+/// Whether a skip must be refused with 13.
 fn too_large(board: &Board) -> bool {
     due(board) > Some(TOP)
 }
 
-/// Passes 2^64 - 1 cycles with the line low, as a skip once did.
+/// Passes 2^64 - 1 cycles and leaves the line low: document 01's skip without S-2's refusal.
 fn falls_short(board: &mut Board) -> Result<Answer, Refusal> {
     let line = advance(board, u64::MAX);
     Ok(Answer::Skip { passed: u64::MAX, line })
@@ -64,7 +64,7 @@ const FAULTS: [(&str, Fault); 7] = [
     }),
 ];
 
-/// The Rust but for the fault, of a number, of its skips.
+/// The Rust, except for its skips, which have fault `FAULT`.
 fn faulty<const FAULT: usize>(first: &[u8], list: &[u8], times: u64, answers: &mut [u8]) -> Outcome {
     let (_, fault) = FAULTS[FAULT];
     call_by_call(first, list, times, answers, |board, call, room| {
@@ -116,7 +116,7 @@ fn the_boards_have_their_deadlines() {
         assert_eq!((number(&reply), reply.answer), expected, "{:?}", start.calls);
         seen[kind] += 1;
     }
-    // Many that get there, and many that are refused.
+    // Many skips that reach the deadline, and many that are refused.
     assert!(seen[0] > 0 && seen[1] > 0 && seen[2] > 50 && seen[3] > 50, "{seen:?}");
 }
 
@@ -131,7 +131,7 @@ fn faults_of_skips_are_found() {
     let faulty: [Runner; FAULTS.len()] = runners!(faulty: 0 1 2 3 4 5 6);
     for ((name, _), runner) in FAULTS.into_iter().zip(faulty) {
         let difference = lists(&pair(runner)).expect_err(name);
-        // The shortest list that shows it skips, or the one after it does.
+        // The shortest list that shows it ends with a skip, or the list after it does.
         let skip = Call::Skip.encode();
         assert!(
             difference.first.ends_with(&skip) || difference.second.ends_with(&skip),
@@ -140,7 +140,7 @@ fn faults_of_skips_are_found() {
     }
 }
 
-/// The rules but for a fresh board in the place of one whose skip is refused.
+/// The rules, except that a fresh board replaces one whose skip is refused.
 fn refused_replaced(image: &mut [u8], list: &[u8], answers: &mut [u8]) -> Outcome {
     let outcome = run_parked(image, list, answers);
     if outcome.refusal == Some(Refusal::DeadlineTooLarge) {

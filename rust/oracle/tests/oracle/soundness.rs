@@ -8,7 +8,7 @@ use crate::support::*;
 
 pub type Edit = fn(&mut Fields);
 
-/// For each clause an edit of the fresh board that breaks it and the nearest that does not.
+/// For each clause, an edit of the fresh board that breaks it and the nearest one that does not.
 pub const CLAUSES: [(&str, Edit, Edit); 19] = [
     (
         "control",
@@ -79,7 +79,8 @@ pub const CLAUSES: [(&str, Edit, Edit); 19] = [
     ),
 ];
 
-/// S-7's clause, on what no image of the old form says: 'a record carrying a rate outside the three is 1'.
+/// S-7's clause, on a field that the old form of an image does not have: 'a record carrying a rate outside the three is
+/// 1'.
 pub const RATE_CLAUSES: [(&str, Edit, Edit); 4] = [
     ("rate 0", |f| f.rate = 0, |f| f.rate = 1_000_000),
     ("rate below", |f| f.rate = 999_999, |f| f.rate = 1_000_000),
@@ -102,7 +103,7 @@ fn a_board_that_is_not_sound_is_refused_with_1() {
                 "{name}, {call:?}"
             );
         }
-        // 1 comes before every refusal of the call's own and of the list.
+        // 1 comes before a call's own refusals and those of the list.
         assert_eq!(number(&board.call(Call::Source { number: 16, level: 2 })), 1);
         for list in [&[][..], &[1], &list_of(&CALLS)] {
             let mut buffer = [0xEE; 100];
@@ -122,7 +123,7 @@ fn a_board_that_is_not_sound_is_refused_with_1() {
             assert_eq!(Board::from_fields(&fields).call(call).refusal, None, "{name}, {call:?}");
         }
     }
-    // The clauses on an empty latch hold of each latch.
+    // The clauses on an empty latch hold for each latch.
     let edits: [Edit; 5] = [
         |f| f.clock_low_latch.value = 1,
         |f| f.count_latches[0].value = 1,
@@ -150,7 +151,7 @@ fn a_fresh_board_takes_one_of_three_rates() {
         let (board, refusal) = Board::fresh_at(rate);
         assert_eq!((board.fields(), refusal), (Fields::fresh_at(rate), None));
         assert!(board.sound());
-        // The same but for the rate.
+        // The same, except for the rate.
         let other = Fields {
             rate: F,
             ..board.fields()

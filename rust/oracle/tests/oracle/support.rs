@@ -1,4 +1,4 @@
-//! Short forms that the tests share.
+//! Helpers that the tests share.
 
 use calls::{list_of, Answer, Call, Outcome, Refusal};
 pub use oracle::board::AnyBoard as Board;
@@ -10,7 +10,7 @@ use oracle::generate::Random;
 
 /// The rates, cycles a second, as S-7 gives them.
 pub const RATES: [u32; 3] = [1_000_000, 12_000_000, 48_000_000];
-/// Cycles a second of a board of which no rate is said, and cycles from poll to poll, as document 01 gives them.
+/// The rate of a board without a given one, and cycles from poll to poll at it, as document 01 gives them.
 pub const F: u32 = 48_000_000;
 pub const POLL: u32 = 48_000;
 
@@ -141,7 +141,7 @@ pub fn run_fresh(list: &[u8]) -> (Outcome, Vec<u8>, Board) {
     (outcome, buffer, board)
 }
 
-/// The fields of the board that a start's calls make of a fresh one: those of the start but for the clock.
+/// The fields of the board that a start's calls make from a fresh one: those of the start, except for the clock.
 pub fn made(start: &Start) -> Fields {
     let calls = start.calls();
     let (outcome, _, board) = run_fresh(&list_of(&calls));
@@ -156,7 +156,7 @@ pub fn made(start: &Start) -> Fields {
     fields
 }
 
-/// The Rust, and what is compared with it, at the rate of a board of which none is said.
+/// The Rust and another board, at the rate of a board without a given one.
 pub fn pair(other: Runner) -> Pair {
     Pair::at(F, other)
 }
@@ -166,8 +166,8 @@ pub fn run(board: &mut Board, list: &[u8], answers: &mut [u8]) -> Outcome {
     board.run(list, answers)
 }
 
-/// A list over a board by a function that runs one call into the rest of the buffer. What is no whole call is given to
-/// it too.
+/// Runs a list over a board by a function that runs one call into the remaining buffer. Bytes that are no whole call
+/// are passed to it too.
 pub fn each_call(
     board: &mut Board,
     list: &[u8],
@@ -183,7 +183,7 @@ pub fn each_call(
     total
 }
 
-/// The same for a list over a fresh board, and then a second so many times, as a `Runner` has it.
+/// The same for a list over a fresh board, and then a second list a number of times, as a `Runner` does.
 pub fn call_by_call(
     first: &[u8],
     list: &[u8],
