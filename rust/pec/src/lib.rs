@@ -224,7 +224,12 @@ pub fn listing(answers: &[u8], outcome: &Outcome) -> String {
     String::from_utf8(text).expect("a listing is ASCII")
 }
 
-// The example of README.md, compiled and run with the documentation tests.
+// The examples of this crate's README.md and of the repository's, compiled with the documentation tests, and run but for
+// those that need a file.
 #[cfg(doctest)]
 #[doc = include_str!("../README.md")]
 struct Readme;
+
+#[cfg(doctest)]
+#[doc = include_str!("../../../README.md")]
+struct RepositoryReadme;
