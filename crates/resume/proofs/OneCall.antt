@@ -26,7 +26,7 @@ use Rattle.format.specs.Codec.{callLength, answerRecord, recordLength, firstOf,
 use Rattle.format.proofs.Frames.{framed}
 use Rattle.list.specs.Run.{done, resultOf, stepped, Run, runOn, nothingDone, runOf, joined}
 use Rattle.list.specs.Demand.{FrontIs, ListIs}
-use Rattle.resume.specs.OneCall.{InRun, SkipInRun}
+use Rattle.resume.specs.InRuns.{InRun, SkipInRun}
 use Rattle.list.proofs.Results.{result-refused, result-done}
 use Rattle.list.proofs.Runs.{go-on, stop-at}
 use Rattle.list.proofs.TwoParts.{two-parts}

@@ -20,7 +20,7 @@ use Rattle.list.proofs.TwoParts.{two-parts}
 use Rattle.list.proofs.Kept.{began-sound, run-keeps}
 use Rattle.list.proofs.Demand.{bytes-before, bytes-behind, run-ends}
 use Rattle.resume.specs.Carried.{carriedBy}
-use Rattle.resume.specs.Stretch.{Stretch}
+use Rattle.resume.specs.InRuns.{Stretch}
 use Rattle.resume.proofs.Carried.{run-carries, carries-first, carries-all, all-take}
 
 -- of a run over b whose list is `first`, `stretch` and `last`, one after another: the calls are those of the stretch

@@ -1,5 +1,4 @@
 pub mod Resumed
 pub mod Carried
-pub mod OneCall
-pub mod Stretch
+pub mod InRuns
 pub mod Counts
