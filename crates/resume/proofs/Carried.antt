@@ -31,7 +31,7 @@ use Rattle.resume.specs.Carried.{callsIn, BeginsWith, carriedBy, answers
 
 -- ---- the first calls of some bytes
 
--- no bytes are no call
+-- an empty list begins with no call
 no-front : (l : List ℕ) (call : Call) → l ≡ [] → FrontIs l call → ⊥
 no-front l call e f = omega (arith, framed l (f .0), ap length e)
 
