@@ -18,7 +18,7 @@ use wide::deadline::Deadline;
 use wide::number::Wide;
 
 // A call, with its members. The smaller of two members comes first, which is faster to decode.
-#[derive(Drop)]
+#[derive(Clone, Copy)]
 pub enum Call {
     // nanoseconds, seconds
     HostTime(u32, u64),
@@ -39,13 +39,13 @@ pub enum Call {
 }
 
 // The answer of a call without answer members, and of making a board.
-#[derive(Drop)]
+#[derive(Clone, Copy)]
 pub struct EmptyAnswer {
     pub board: Board,
     pub refusal: u8,
 }
 
-#[derive(Drop)]
+#[derive(Clone, Copy)]
 pub struct ByteAnswer {
     pub board: Board,
     pub refusal: u8,
@@ -53,7 +53,7 @@ pub struct ByteAnswer {
 }
 
 // The line, and the compare points that each channel met, channel 0 first.
-#[derive(Drop)]
+#[derive(Clone, Copy)]
 pub struct AdvanceAnswer {
     pub board: Board,
     pub refusal: u8,
@@ -62,7 +62,7 @@ pub struct AdvanceAnswer {
 }
 
 // Whether there is a deadline, the exact one, and the smaller of it and the largest word.
-#[derive(Drop)]
+#[derive(Clone, Copy)]
 pub struct DeadlineAnswer {
     pub board: Board,
     pub refusal: u8,
@@ -71,7 +71,7 @@ pub struct DeadlineAnswer {
     pub word: Cycles,
 }
 
-#[derive(Drop)]
+#[derive(Clone, Copy)]
 pub struct SkipAnswer {
     pub board: Board,
     pub refusal: u8,
@@ -79,7 +79,7 @@ pub struct SkipAnswer {
     pub line: bool,
 }
 
-#[derive(Drop)]
+#[derive(Clone, Copy)]
 pub struct OutputAnswer {
     pub board: Board,
     pub refusal: u8,
@@ -88,14 +88,14 @@ pub struct OutputAnswer {
 }
 
 // The board after an advance, and the compare points that each channel met.
-#[derive(Drop)]
+#[derive(Clone, Copy)]
 struct Moved {
     board: Board,
     matches: [Wide; 4],
 }
 
 // The members of the deadline's answer.
-#[derive(Drop)]
+#[derive(Clone, Copy)]
 pub struct DeadlineMembers {
     pub present: bool,
     pub exact: Wide,
@@ -104,7 +104,7 @@ pub struct DeadlineMembers {
 
 // An advance that may be refused or not made: its refusal, 0 for none; whether it is made, and its cycles, 0 where it
 // is not.
-#[derive(Drop)]
+#[derive(Clone, Copy)]
 pub struct SkipAdvance {
     pub refusal: u8,
     pub made: bool,

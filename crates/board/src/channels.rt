@@ -51,7 +51,7 @@ pub fn soonest(timers: [HardwareTimer; 4], timer_enable: u8) -> Deadline
 }
 
 // The channels after an advance, and the compare points that each met.
-#[derive(Drop)]
+#[derive(Clone, Copy)]
 pub struct AdvancedChannels {
     pub timers: [HardwareTimer; 4],
     pub matches: [Wide; 4],

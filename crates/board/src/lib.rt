@@ -1,4 +1,6 @@
 // The board: four channels, the clock, the latches of its registers and the controller, by value.
+#![tactic(auto)]
+
 ghost use Rattle.std.specs.Prelude.{◌≡◌};
 ghost use Rattle.board.specs.Fields.{fresh_board_at, fresh_board};
 ghost use Rattle.board.specs.Calls.{fresh_of};
@@ -17,19 +19,19 @@ mod line;
 mod sound;
 
 // A word of a register pair that is held for the next reads.
-#[derive(Drop)]
+#[derive(Clone, Copy)]
 pub enum Latch {
     Empty,
     Held(u32),
 }
 
 // The latch of a channel's high count word.
-#[derive(Drop)]
+#[derive(Clone, Copy)]
 pub struct CountLatch {
     pub high: Latch,
 }
 
-#[derive(Drop)]
+#[derive(Clone, Copy)]
 pub struct Latches {
     pub counts: [CountLatch; 4],
     // The clock's seconds.
@@ -37,7 +39,7 @@ pub struct Latches {
     pub high: Latch,
 }
 
-#[derive(Drop)]
+#[derive(Clone, Copy)]
 pub struct Board {
     pub timers: [HardwareTimer; 4],
     pub timer_enable: u8,

@@ -13,7 +13,7 @@ use wide::flags::both;
 use wide::number::Wide;
 
 // The ticks to go: none, or one more than the number held. They can be 2^64, which a word cannot hold.
-#[derive(Drop)]
+#[derive(Clone, Copy)]
 pub enum ToGo {
     Never,
     OneAfter(Ticks),

@@ -1,4 +1,6 @@
 // A timer channel of the board. Cycles become ticks at its prescaler, and ticks reach its counter.
+#![tactic(auto)]
+
 ghost use Rattle.std.specs.Prelude.{◌≡◌};
 ghost use Rattle.wide.specs.Bits.{bit};
 ghost use Rattle.channel.specs.Channel.{fresh_timer, enabled_of, irq_enabled_of, line_of, sound_timer, TimerFits};
@@ -11,22 +13,22 @@ mod prescaler;
 mod timer_registers;
 
 // Cycles of the master clock. Only a channel's prescaler converts them to ticks.
-#[derive(Drop)]
+#[derive(Clone, Copy)]
 pub struct Cycles(pub u64);
 
 // Ticks of a channel, which its prescaler gives.
-#[derive(Drop)]
+#[derive(Clone, Copy)]
 pub struct Ticks(pub u64);
 
 // A channel after an advance, and how many compare points the advance met, at most 2^64.
-#[derive(Drop)]
+#[derive(Clone, Copy)]
 pub struct Advanced {
     pub timer: HardwareTimer,
     pub matches: Wide,
 }
 
 // A channel's number on the board, 0 to 3.
-#[derive(Drop)]
+#[derive(Clone, Copy)]
 pub struct ChannelNumber(pub u8);
 
 impl ChannelNumber {
@@ -46,7 +48,7 @@ impl ChannelNumber {
 }
 
 // A channel's fields. The small ones come first, which leaves the least padding.
-#[derive(Drop)]
+#[derive(Clone, Copy)]
 pub struct HardwareTimer {
     pub control: u8,
     pub pending: bool,

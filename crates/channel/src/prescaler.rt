@@ -8,7 +8,7 @@ use crate::{Advanced, Cycles, HardwareTimer, Ticks};
 use wide::flags::both;
 
 // The ticks that a number of cycles gives, and the phase after them.
-#[derive(Drop)]
+#[derive(Clone, Copy)]
 struct Scaled {
     ticks: Ticks,
     phase: u32,

@@ -1,4 +1,6 @@
 // The board's clock: its time from cycles or from host time, its alarm, and the bytes of its registers.
+#![tactic(auto)]
+
 ghost use Rattle.std.specs.Prelude.{◌≡◌, ◌<◌, ◌/◌, ◌%◌, eqb};
 ghost use Rattle.clock.specs.Fields.{with_control, with_time, with_offset, with_alarm, with_shadow};
 ghost use Rattle.clock.specs.Fields.{with_poll, with_alarm_shadow, with_host};
@@ -16,14 +18,14 @@ pub mod sound;
 pub mod time;
 
 // The offset that is added to host time, as sign and magnitude.
-#[derive(Drop)]
+#[derive(Clone, Copy)]
 pub struct Offset {
     pub negative: bool,
     pub seconds: u64,
     pub nanoseconds: u32,
 }
 
-#[derive(Drop)]
+#[derive(Clone, Copy)]
 pub struct Alarm {
     pub enable: u8,
     pub seconds: u64,
@@ -32,19 +34,19 @@ pub struct Alarm {
 }
 
 // The bytes written to a register of eight bytes and not yet committed. The mask has a bit for each.
-#[derive(Drop)]
+#[derive(Clone, Copy)]
 pub struct Shadow {
     pub value: u64,
     pub mask: u8,
 }
 
-#[derive(Drop)]
+#[derive(Clone, Copy)]
 pub struct HostTime {
     pub seconds: u64,
     pub nanoseconds: u32,
 }
 
-#[derive(Drop)]
+#[derive(Clone, Copy)]
 pub struct Clock {
     // Cycles a second.
     pub rate: u32,

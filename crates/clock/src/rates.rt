@@ -30,7 +30,7 @@ pub fn sound_rate(rate: u32) -> bool
 }
 
 // Whole periods, and the remainder.
-#[derive(Drop)]
+#[derive(Clone, Copy)]
 pub(crate) struct Periods {
     pub(crate) whole: u64,
     pub(crate) rest: u64,

@@ -11,14 +11,14 @@ use crate::{Clock, HostTime, Offset, from_host};
 use wide::number::Wide;
 
 // A length of time.
-#[derive(Drop)]
+#[derive(Clone, Copy)]
 pub struct Duration {
     pub seconds: u64,
     pub nanoseconds: u32,
 }
 
 // A time, whose seconds may exceed a word.
-#[derive(Drop)]
+#[derive(Clone, Copy)]
 pub struct Time {
     pub seconds: Wide,
     pub nanoseconds: u32,

@@ -2,6 +2,8 @@
 // lowest source that is pending and enabled. Each operation states its whole result by a rule of
 // specs/Controller.antt. A function is named by what it answers; the comment above it has the Rust's name. The methods
 // that lend a controller are in lent.rt.
+#![tactic(auto)]
+
 ghost use Rattle.std.specs.Prelude.{◌≡◌, true, false, cond, ◌+◌, ◌*◌, ◌/◌, ◌%◌, ◌<◌, eqb};
 ghost use Rattle.wide.specs.Bits.{bit};
 ghost use Rattle.controller.specs.Bits.{with_bit, without};
@@ -12,18 +14,18 @@ ghost use Rattle.controller.specs.Controller.{output_of, controller_read, contro
 mod lent;
 
 // The number of a source. It is a type of its own, so that no channel number is passed for it.
-#[derive(Drop)]
+#[derive(Clone, Copy)]
 pub struct SourceNumber(pub u8);
 
 // Whether a source is presented to the CPU, and which.
-#[derive(Drop)]
+#[derive(Clone, Copy)]
 pub struct IrqOutput {
     pub valid: bool,
     pub number: SourceNumber,
 }
 
 // One bit for each source: the requests that are latched, the sources that are enabled, and the levels last set.
-#[derive(Drop)]
+#[derive(Clone, Copy)]
 pub struct IrqController {
     pub pending: u16,
     pub enable: u16,

@@ -1,6 +1,8 @@
 // The dispatcher of S-3, above the controller: it serves the enabled pending sources in turn, while the controller's
 // own output stays lowest first. One turn takes a controller and the number that the turn before left, and gives the
 // controller after, the source served and the number to remember, by the rule of specs/Dispatcher.antt.
+#![tactic(auto)]
+
 ghost use Rattle.std.specs.Prelude.{◌≡◌, ◌<◌};
 ghost use Rattle.dispatcher.specs.Dispatcher.{fresh_number, number_read, next_after, dispatched};
 
@@ -11,7 +13,7 @@ const HIGHEST: u8 = 15;
 
 // What one turn gives: the controller after, the source that was served or that there was none, and the number to
 // remember.
-#[derive(Drop)]
+#[derive(Clone, Copy)]
 pub struct Dispatched {
     pub controller: IrqController,
     pub served: IrqOutput,

@@ -1,4 +1,6 @@
 // The bytes of the call list, big-endian: the first call of a list is decoded, and the record of an answer written.
+#![tactic(auto)]
+
 ghost use Rattle.std.specs.Prelude.{◌≡◌, true, not, [], ◌∷◌, ◌+◌, ◌≤◌, ◌<◌, length, eqb};
 ghost use Rattle.std.proofs.lemmas.List.Edits.{sets};
 ghost use Rattle.wide.specs.Number.{value_of};
@@ -35,7 +37,7 @@ pub const HEADER_LENGTH: usize = 3;
 pub const COUNT_LENGTH: usize = 16;
 
 // The members of an answer.
-#[derive(Drop)]
+#[derive(Clone, Copy)]
 pub enum Answer {
     Empty,
     Byte(u8),
@@ -45,7 +47,7 @@ pub enum Answer {
 }
 
 // What follows from a tag: whether there is a call with it, and the lengths of the call's value and answer.
-#[derive(Drop)]
+#[derive(Clone, Copy)]
 pub struct Lengths {
     pub known: bool,
     pub value: usize,
@@ -87,7 +89,7 @@ pub fn lengths_of(tag: u8) -> Lengths
 
 // The first call of a list, decoded: its refusal, 0 for none, and the call where there is none. Only the list's bytes
 // and the room for the answer refuse it here; a skip's own refusal depends on the board and is not included.
-#[derive(Drop)]
+#[derive(Clone, Copy)]
 pub struct Decoded {
     pub refusal: u8,
     pub call: Call,

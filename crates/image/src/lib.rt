@@ -1,4 +1,6 @@
 // The image of a board: the bytes of its fields, put into a buffer.
+#![tactic(auto)]
+
 ghost use Rattle.std.specs.Prelude.{◌≡◌};
 ghost use Rattle.image.specs.Image.{image_length};
 
@@ -8,7 +10,7 @@ use format::HEADER_LENGTH;
 pub mod put;
 
 // The forms of an image: S-1's, which has no rate, and S-8's, which begins with it.
-#[derive(Drop)]
+#[derive(Clone, Copy)]
 pub enum Form {
     Old,
     New,

@@ -1,8 +1,10 @@
 // Reads the whole of an input, and distinguishes its end from a failed read, which `io::read_full` takes for the end.
+#![tactic(auto)]
+
 ghost use Rattle.io.specs.Counts.{IsPrefixLen};
 
 // Whether a read failed, and how many bytes were read to the start of a buffer, 0 where one failed.
-#[derive(Drop)]
+#[derive(Clone, Copy)]
 pub struct Input {
     pub failed: bool,
     pub count: usize,

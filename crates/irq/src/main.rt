@@ -1,5 +1,7 @@
 // Lends a controller to its methods, one after another, and prints what it then presents: whether there is a source,
 // and its number.
+#![tactic(auto)]
+
 ghost use Rattle.std.specs.Prelude.{◌≡◌};
 ghost use Rattle.irq.specs.Presented.{presented_by};
 

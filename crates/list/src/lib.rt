@@ -1,6 +1,8 @@
 // The call list: a run takes the calls of a list in order, writes an answer for each into a buffer, and stops at the
 // first refusal. A call is decoded once; a refusal is found before its call is carried out, so an accepted call changes
 // the board in place.
+#![tactic(auto)]
+
 ghost use Rattle.std.specs.Prelude.{◌≡◌, length};
 ghost use Rattle.list.specs.Run.{run_of, over};
 
@@ -21,7 +23,7 @@ const WRITE_CALL: usize = 6;
 const WRITE_RECORD: usize = 3;
 
 // The board after a run, the calls done, the list bytes that they used, the answer bytes, and the refusal, 0 for none.
-#[derive(Drop)]
+#[derive(Clone, Copy)]
 pub struct Outcome {
     pub board: Board,
     pub calls: usize,

@@ -1,5 +1,7 @@
 // The text that `listrun` prints: a line for each answer of a run, and a last line. Each function that puts a text into
 // a buffer puts as much of it as fits. It gives the index after the whole text, which may be past the buffer's end.
+#![tactic(auto)]
+
 ghost use Rattle.std.specs.Prelude.{◌≡◌, [], ◌∷◌, ◌+◌, ◌*◌, ◌^◌, ◌≤◌, ◌<◌, length};
 ghost use Rattle.io.specs.Digits.{hex_digit_ascii};
 ghost use Rattle.listing.specs.Listing.{

@@ -1,6 +1,8 @@
 // Reads a call list from standard input, runs it over a fresh board, and prints each answer's tag and value in
 // hexadecimal; last the calls done, the refusal and the list bytes used, in decimal. Where the input cannot be read it
 // prints nothing but a message on standard error, and where the output cannot be written it prints such a message.
+#![tactic(auto)]
+
 ghost use Rattle.std.specs.Prelude.{◌≡◌, ◌+◌, ◌*◌, ◌≤◌, length, take};
 ghost use Rattle.io.specs.Counts.{IsPrefixLen};
 ghost use Rattle.board.specs.Fields.{fresh_board};

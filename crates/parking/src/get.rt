@@ -24,41 +24,41 @@ use wide::fields;
 use wide::flags::{both, either};
 
 // A channel's field: whether it is there, and its channel. The next three structs do so for their fields.
-#[derive(Drop)]
+#[derive(Clone, Copy)]
 struct ChannelSaid {
     formed: bool,
     timer: HardwareTimer,
 }
 
-#[derive(Drop)]
+#[derive(Clone, Copy)]
 struct ClockSaid {
     formed: bool,
     timer_enable: u8,
     clock: Clock,
 }
 
-#[derive(Drop)]
+#[derive(Clone, Copy)]
 struct LatchesSaid {
     formed: bool,
     empties_hold_0: bool,
     latches: Latches,
 }
 
-#[derive(Drop)]
+#[derive(Clone, Copy)]
 struct ControllerSaid {
     formed: bool,
     controller: IrqController,
 }
 
 // The field ahead of them in the new form: whether it is there, and its rate.
-#[derive(Drop)]
+#[derive(Clone, Copy)]
 pub struct RateSaid {
     pub formed: bool,
     pub rate: u32,
 }
 
 // An image as it is read: whether its bytes have the form of one, whether its empty latches hold 0, and its board.
-#[derive(Drop)]
+#[derive(Clone, Copy)]
 pub struct BoardSaid {
     pub formed: bool,
     pub empties_hold_0: bool,

@@ -1,5 +1,7 @@
 // Parked boards: a sound board written to a lent buffer as its image, in a form, an image read back, and an image moved
 // from one form to the other.
+#![tactic(auto)]
+
 ghost use Rattle.std.specs.Prelude.{◌≡◌, ◌&&◌, length};
 ghost use Rattle.board.specs.Fields.{fresh_board};
 ghost use Rattle.image.specs.declared.Form.TheVariants.{Old};
@@ -23,7 +25,7 @@ pub const IMAGE_MALFORMED: u8 = 12;
 pub const RATE_NEEDS_NEW_FORM: u8 = 16;
 
 // The board that was given, the refusal, 0 for none, and the bytes that were written.
-#[derive(Drop)]
+#[derive(Clone, Copy)]
 pub struct Writing {
     pub board: Board,
     pub refusal: u8,
@@ -32,7 +34,7 @@ pub struct Writing {
 
 // The board that was read and the form of its image, and the refusal, 0 for none. Where the reading is refused, the
 // board is a fresh one, and the form is the new one.
-#[derive(Drop)]
+#[derive(Clone, Copy)]
 pub struct Reading {
     pub board: Board,
     pub form: Form,

@@ -6,7 +6,7 @@ use crate::{read_in, write_in};
 use image::Form;
 
 // The refusal, 0 for none, and the bytes that were written.
-#[derive(Drop)]
+#[derive(Clone, Copy)]
 pub struct Moved {
     pub refusal: u8,
     pub written: usize,

@@ -1,5 +1,7 @@
 // The C interface of the proved board: functions on numbers and slices, which programs in other languages link. A slice
 // is a pointer and a length; a number that is lent is written before the call returns.
+#![tactic(auto)]
+
 ghost use Rattle.std.specs.Prelude.{◌≡◌, ◌+◌, ◌*◌, ◌≤◌, length};
 ghost use Rattle.board.specs.Fields.{fresh_board};
 ghost use Rattle.image.specs.declared.Form.TheVariants.{Old, New};

@@ -1,5 +1,7 @@
 // S-6, 'Many previews from one look': whether the line would be high after each total of cycles in a lent slice, all
 // from one deadline; for a board, and for a parked one.
+#![tactic(auto)]
+
 ghost use Rattle.std.specs.Prelude.{◌≡◌, cond, ◌&&◌, map, ◌++◌, ◌≤◌, length, drop, leb, ltb};
 ghost use Rattle.wide.specs.Bits.{flag_of};
 ghost use Rattle.parking.specs.Parking.{buffer_short};

@@ -1,4 +1,6 @@
 // A record of the Rust's answers: its numbers, the run of its list, and whether the run agrees with it.
+#![tactic(auto)]
+
 ghost use Rattle.std.specs.Prelude.{◌≡◌, ◌+◌, ◌≤◌, length};
 ghost use Rattle.list.specs.Run.{run_of, over};
 ghost use Rattle.recording.specs.Record.{Decides, start_of, results_of, header_at, recorded};
@@ -17,7 +19,7 @@ pub const RECORD_HEADER_LENGTH: usize = 12;
 pub const BUFFER_LIMIT: usize = 32768;
 
 // A run's results without the board and the answers.
-#[derive(Drop)]
+#[derive(Clone, Copy)]
 pub struct Results {
     pub calls: usize,
     pub used: usize,
@@ -27,7 +29,7 @@ pub struct Results {
 
 // The numbers of a record: the starting board's timer enable, the lengths of the list and of the answer buffer, and
 // the results.
-#[derive(Drop)]
+#[derive(Clone, Copy)]
 pub struct Header {
     pub enable: u8,
     pub list: usize,

@@ -16,7 +16,7 @@ const OLD: u8 = 0xA5;
 
 // Lists, calls done as recorded, and the calls that agreed, each modulo 2^64; and the first list that did not agree,
 // with the first call in it, 0 for none.
-#[derive(Drop)]
+#[derive(Clone, Copy)]
 pub struct Tally {
     pub lists: usize,
     pub calls: usize,

@@ -1,5 +1,7 @@
 // The board's registers, as functions on the board: the direct calls read and write. Each tests soundness first, and a
 // refused call returns the board given.
+#![tactic(auto)]
+
 ghost use Rattle.std.specs.Prelude.{◌≡◌};
 ghost use Rattle.board.specs.Calls.{answer_of, empty_answer, byte_answer};
 ghost use Rattle.registers.specs.CodeReads.{after_reading};

@@ -20,7 +20,7 @@ use wide::words::{high, low};
 
 // The result of a read: the latches after it, the byte, the alarm's two flags, and whether its alarm check set pending.
 // The latches come first, so that no padding is copied with them.
-#[derive(Drop)]
+#[derive(Clone, Copy)]
 pub struct LatchedReading {
     pub latches: Latches,
     pub byte: u8,
@@ -30,7 +30,7 @@ pub struct LatchedReading {
 }
 
 // The same for a read that leaves the latches unchanged.
-#[derive(Drop)]
+#[derive(Clone, Copy)]
 pub struct PlainReading {
     pub byte: u8,
     pub pending: bool,

@@ -16,7 +16,7 @@ use regmap::fields::{channel_at, channel_of, place_of};
 use regmap::writes::{acknowledged, clock_written};
 
 // The part of a board that a byte written at an offset changes.
-#[derive(Drop)]
+#[derive(Clone, Copy)]
 pub enum WritePart {
     Nothing,
     // timer enable

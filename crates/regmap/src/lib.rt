@@ -1,4 +1,6 @@
 // The registers at their offsets: where they are, the words that they read as, and what a byte written does.
+#![tactic(auto)]
+
 
 pub mod fields;
 pub mod words;
@@ -6,7 +8,7 @@ pub mod writes;
 
 // Offsets of the registers outside the channels' blocks, and of those blocks. A name that ends in LAST is the offset of
 // the last byte of a register, or of those blocks.
-#[derive(Drop)]
+#[derive(Clone, Copy)]
 pub struct Registers;
 
 impl Registers {

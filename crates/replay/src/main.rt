@@ -7,6 +7,8 @@
 // the program that records.
 //
 // Call 0 stands for a record or a file that cannot be read; crates/recording says when a list and a call agree.
+#![tactic(auto)]
+
 use recording::tally::{Tally, joined, none, replay_record};
 
 // The longest file.

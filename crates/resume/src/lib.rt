@@ -1,11 +1,13 @@
 // A run over a parked board: the board is read from its image, a list is run over it, and the board that the run left
 // is written back into the same bytes, in the form that they had.
+#![tactic(auto)]
+
 ghost use Rattle.std.specs.Prelude.{◌≡◌, length};
 ghost use Rattle.resume.specs.Resumed.{resumed_of, image_after, answers_after};
 
 // The refusal, of the image or else of the run, 0 for none, and the run's counts: the calls done, the list bytes that
 // they used, and the answer bytes.
-#[derive(Drop)]
+#[derive(Clone, Copy)]
 pub struct Resumed {
     pub refusal: u8,
     pub calls: usize,

@@ -1,5 +1,7 @@
 // The steps of one call of a run on a sound board: its refusal where the board decides it; what a call that changes at
 // most host time or the controller changes and answers; and the records of the other calls' answers.
+#![tactic(auto)]
+
 ghost use Rattle.std.specs.Prelude.{◌≡◌, true, [], ◌∷◌, ◌+◌, ◌*◌, ◌≤◌, ◌<◌, length};
 ghost use Rattle.std.proofs.lemmas.List.Edits.{sets};
 ghost use Rattle.wide.specs.Bits.{flag_of};
@@ -23,7 +25,7 @@ use wide::flags::flag;
 use wide::number::Wide;
 
 // What a run does with the next call of its list.
-#[derive(Drop)]
+#[derive(Clone, Copy)]
 pub enum Step {
     // The call is refused.
     Refused(u8),
@@ -45,7 +47,7 @@ pub enum Step {
 }
 
 // Host time and controller after a call that changes at most these, and its answer.
-#[derive(Drop)]
+#[derive(Clone, Copy)]
 pub struct Changes {
     pub host: HostTime,
     pub controller: IrqController,

@@ -4,7 +4,7 @@ ghost use Rattle.wide.specs.Deadline.{number_of, sooner};
 
 use crate::number::Wide;
 
-#[derive(Drop)]
+#[derive(Clone, Copy)]
 pub enum Deadline {
     Never,
     At(Wide),

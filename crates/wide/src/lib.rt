@@ -1,5 +1,7 @@
 // Numbers that the layers above share: two-word numbers, optional deadlines, big-endian fields of a byte slice, the
 // words of a register pair, and flags.
+#![tactic(auto)]
+
 pub mod deadline;
 pub mod fields;
 pub mod flags;

@@ -1,0 +1,34 @@
+-- `number::Wide::difference` meets its contract. Assumes nothing.
+use Rattle.std.proofs.Common.{arith, rules}
+use Rattle.wide.proofs.TwoWords.{borrow-is, borrow-fits, no-borrow-is, no-borrow-fits}
+use Rattle.wide.proofs.number.Wide.difference.Goals as goal
+
+pub overflow_sub-result : goal.overflow_sub-result
+overflow_sub-result c =
+    let a = c.args in
+    no-borrow-fits a.self a.other 0 (search rules) (search rules) c.requires
+
+pub overflow_sub-result-then-l-m : goal.overflow_sub-result-then-l-m
+overflow_sub-result-then-l-m c =
+    let a = c.args in
+    omega
+    (arith, borrow-fits a.self a.other 0 (search rules) (search rules) c.requires c.if-l-m.true)
+
+pub returns-then-l-m : goal.returns-then-l-m
+returns-then-l-m c =
+    let a = c.args in
+    let r = c.wrapping_sub_u64-low in
+    borrow-is a.self a.other r.result (search rules) (search rules) c.requires (search rules)
+    r.ensures.value c.if-l-m.true
+
+pub overflow_sub-result-2 : goal.overflow_sub-result-2
+overflow_sub-result-2 c =
+    let a = c.args in
+    no-borrow-fits a.self a.other 0 (search rules) (search rules) c.requires
+
+pub returns : goal.returns
+returns c =
+    let a = c.args in
+    let r = c.wrapping_sub_u64-low in
+    no-borrow-is a.self a.other r.result (search rules) (search rules) c.requires (search rules)
+    r.ensures.value c.if-l-m.false
