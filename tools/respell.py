@@ -21,7 +21,13 @@ HEAD = re.compile(
 FIELD = re.compile(r"^\s+(?:pub\s+)?(" + NAME + r")\s*:\s")
 
 # Names that would fall together with another name, and what they are called instead.
-SPECIAL = {"front_length": "front_length_lem"}
+SPECIAL = {
+    "and-false": "and-false",
+    "or-false": "or-false",
+    "bit-and": "bit-and",
+    "bit-xor": "bit-xor",
+    "front_length": "front_length_lem",
+}
 
 
 def snake(word):

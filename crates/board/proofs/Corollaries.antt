@@ -5,7 +5,7 @@ use Prim.Native.Nat.{ℕ, suc, ◌+◌, ◌-◌, ◌*◌, ◌^◌, ◌≤◌, �
 use native.Mathlib.Nat.{mul-le-mul}
 use native.Mathlib.Omega.{arith}
 use mathlib.Core.Path.{◌≡◌, sym, ap, subst, ◌∙◌}
-use mathlib.Core.Bool.{true, false, not, ◌&&◌, ◌||◌, or_false, or-true, false≢true}
+use mathlib.Core.Bool.{true, false, not, ◌&&◌, ◌||◌, or-false, or-true, false≢true}
 use mathlib.Core.Option.{Option, none, some}
 use mathlib.Core.List.{List, [], ◌∷◌}
 use lib.Dec.{leb}
@@ -53,7 +53,7 @@ module _ (b : Board) (f : BoardFits b) (s : sound b ≡ true) (low : line b ≡ 
 
     -- and source 3's pending bit is as it was
     pub kept-below-deadline : cycles_passed calls b < d → source3 (after_all calls b) ≡ source3 b
-    kept-below-deadline l = pending-is ∙ ap (λ v. source3 b || v) (lt-leb d passed l) ∙ or_false (source3 b)
+    kept-below-deadline l = pending-is ∙ ap (λ v. source3 b || v) (lt-leb d passed l) ∙ or-false (source3 b)
 
     -- as soon as they add up to D or more it is high
     pub high-from-deadline : d ≤ cycles_passed calls b → line (after_all calls b) ≡ true
@@ -98,7 +98,7 @@ module _ (b : Board) (f : BoardFits b) (s : sound b ≡ true) (low : line b ≡ 
   kept-without-deadline =
       source-after b f s low o calls w
       ∙ ap (λ (x : Option ℕ). source3 b || due x (cycles_passed calls b)) none_given
-      ∙ or_false (source3 b)
+      ∙ or-false (source3 b)
 
 -- where the clock has a deadline of its own, by the board's rate
 module _ (b : Board) (f : BoardFits b) (s : sound b ≡ true) where

@@ -3,7 +3,7 @@ use Prim.Native.Nat.{ℕ, ◌+◌, ◌-◌, ◌≤◌}
 use native.Mathlib.Nat.{zero-add, add-zero, add_assoc}
 use mathlib.Core.Path.{◌≡◌, refl, sym, ap, ◌∙◌}
 use mathlib.Core.Logic.{◌↔◌, ◌⊎◌, inl, inr}
-use mathlib.Core.Bool.{Bool, true, false, not, ◌&&◌, ◌||◌, or_false, false≢true}
+use mathlib.Core.Bool.{Bool, true, false, not, ◌&&◌, ◌||◌, or-false, false≢true}
 use mathlib.Core.Option.{Option, none, some}
 use mathlib.Core.List.{List, [], ◌∷◌}
 use lib.Dec.{leb}
@@ -110,7 +110,7 @@ or_iff v false a t e =
 module _ (b : Board) (f : BoardFits b) (s : sound b ≡ true) (low : line b ≡ false)
     (o : from_host b.clock.control ≡ false) (calls : List Call) (w : All PassesTime calls) where
   R : Ran (rate_of b.clock) (source3 b) (cycles_passed calls b) b (after_all calls b)
-  R = ran (source3 b) calls w b (calm-good b f s) o (sym (ap (λ v. source3 b || v) low ∙ or_false (source3 b)))
+  R = ran (source3 b) calls w b (calm-good b f s) o (sym (ap (λ v. source3 b || v) low ∙ or-false (source3 b)))
 
   -- the line after the list is what was due
   pub line_after : line (after_all calls b) ≡ due (exact_deadline b) (cycles_passed calls b)
@@ -123,7 +123,7 @@ module _ (b : Board) (f : BoardFits b) (s : sound b ≡ true) (low : line b ≡ 
   promised : (d : Option ℕ) → line (after_all calls b) ≡ due d (cycles_passed calls b) →
       source3 (after_all calls b) ≡ (source3 b || due d (cycles_passed calls b)) →
       PromiseAfter (is_present d) (or_zero d) (or_zero (word_deadline d)) b (cycles_passed calls b) (after_all calls b)
-  promised none p q = record { line = p; source = q ∙ or_false (source3 b) }
+  promised none p q = record { line = p; source = q ∙ or-false (source3 b) }
   promised (some d) p q = (
     record {
       line = true_iff (line (after_all calls b)) d (cycles_passed calls b) p;

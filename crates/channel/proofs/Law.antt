@@ -3,7 +3,7 @@
 -- channel, or its part of the line, stays as it was. Assumes nothing.
 use Rattle.std.proofs.Common.{◌≡◌, ℕ, zero, suc, ◌+◌, ◌-◌, ◌*◌, ◌/◌, ◌%◌, ◌^◌, ◌<◌, ◌≤◌, min, Bool, true, false, ◌&&◌, ◌||◌, eqb, ltb, leb, ◌≢◌, sym, refl, ap, ◌∙◌, subst, add-zero, mul-le-mul, zero-add, arith, ltb-true, le-ltb, lt-ltb, eqb-true, le-leb, leb-false, leb-true}
 use native.Mathlib.Nat.{div-eq_of_lt}
-use mathlib.Core.Bool.{and_false, or_false, false≢true}
+use mathlib.Core.Bool.{and-false, or-false, false≢true}
 use mathlib.Core.Option.{Option, none, some}
 use borrow.Author.Tests.{lt-leb, eqb-false}
 use Rattle.wide.specs.Number.{largest}
@@ -155,7 +155,7 @@ module _ (selected : Bool) (h : HardwareTimer) (t : ℕ) where
   -- without interrupt enable nothing is due
   due-quiet : irq_enabled_of h.control ≡ false → channel_due selected h t ≡ false
   unfolding channel_due line_of deadline_of
-  due-quiet e = simp (e, and_false)
+  due-quiet e = simp (e, and-false)
 
   due-asserted : irq_enabled_of h.control ≡ true → h.pending ≡ true → channel_due selected h t ≡ true
   unfolding channel_due line_of
@@ -173,7 +173,7 @@ module _ (selected : Bool) (h : HardwareTimer) (t : ℕ) where
   -- not running: only what is in the line
   due-resting : runs selected h ≡ false → channel_due selected h t ≡ line_of h
   unfolding channel_due deadline_of
-  due-resting r = simp (r, or_false)
+  due-resting r = simp (r, or-false)
 
 -- ---- the law
 
@@ -247,7 +247,7 @@ line-due selected h f q =
     ∙ sym (due-waiting selected h 0 e p r f q
     ∙ rw (add-zero, div-eq_of_lt q)
     (due_zero (to_go (mode_of h.control) h) (to_go_positive (mode_of h.control) h f)))))
-    (λ e. let l : line_of h ≡ false = rw (e, and_false) in l ∙ sym (due-quiet selected h 0 e)))
+    (λ e. let l : line_of h ≡ false = rw (e, and-false) in l ∙ sym (due-quiet selected h 0 e)))
     (λ r. sym (due-resting selected h 0 r))
 
 -- ---- the law in the words of a deadline, for a sound channel that is not in the line

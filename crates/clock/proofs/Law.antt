@@ -38,8 +38,8 @@ use Rattle.clock.specs.Deadline.{clock_line, to_alarm, alarm_cycles, clock_deadl
 use Rattle.clock.specs.Fields.{with_time, with_alarm, with_poll, with_host}
 use Rattle.clock.proofs.Cases.{moved-cases}
 use Rattle.clock.proofs.Tests.{
-  and_false,
-  or_false,
+  and-false,
+  or-false,
   own_enabled,
   own_host,
   host_own,
@@ -87,16 +87,16 @@ due_by o e a h d t = (h && e) || due (cond (o && (e && (a && not h))) (some d) n
 
 module _ (o e a h : Bool) (d t : ℕ) where
   disabled : e ≡ false → due_by o e a h d t ≡ false
-  disabled p = simp (p, and_false)
+  disabled p = simp (p, and-false)
 
   raised : e ≡ true → h ≡ true → due_by o e a h d t ≡ true
   raised p q = rw (p, q)
 
   disarmed : h ≡ false → a ≡ false → due_by o e a h d t ≡ false
-  disarmed p q = simp (p, q, and_false)
+  disarmed p q = simp (p, q, and-false)
 
   unmoved : o ≡ false → due_by o e a h d t ≡ (h && e)
-  unmoved p = simp (p, or_false)
+  unmoved p = simp (p, or-false)
 
   waiting : o ≡ true → e ≡ true → a ≡ true → h ≡ false → due_by o e a h d t ≡ leb d t
   waiting p q r s = rw (p, q, r, s)
@@ -306,4 +306,4 @@ line-due rate k g =
     line_low h e p = rw p
 
     line-disabled : (h e : Bool) → e ≡ false → (h && e) ≡ false
-    line-disabled h e p = rw p (and_false h)
+    line-disabled h e p = rw p (and-false h)

@@ -178,14 +178,14 @@ bit-without (suc w) (suc j) n m h =
 pub and_digit : (k a b : ℕ) → bit_and a b / 2 ^ k % 2 ≡ min (a / 2 ^ k % 2) (b / 2 ^ k % 2)
 and_digit k a b = omega (arith, and_shr a b k, and_step (a / 2 ^ k) (b / 2 ^ k))
 
-pub bit_and : (k a b : ℕ) → bit k (bit_and a b) ≡ (bit k a && bit k b)
-bit_and k a b =
+pub bit-and : (k a b : ℕ) → bit k (bit_and a b) ≡ (bit k a && bit k b)
+bit-and k a b =
     ap (λ (x : ℕ). eqb x 1) (and_digit k a b)
     ∙ digits (λ (x y : ℕ). eqb (min x y) 1 ≡ (eqb x 1 && eqb y 1)) refl refl refl refl (a / 2 ^ k) (b / 2 ^ k)
 
 -- where `^` has a bit clear, the two words agree in it
-pub bit_xor : (k a b : ℕ) → bit k (bit_xor a b) ≡ false → bit k a ≡ bit k b
-bit_xor k a b e =
+pub bit-xor : (k a b : ℕ) → bit k (bit_xor a b) ≡ false → bit k a ≡ bit k b
+bit-xor k a b e =
     let low : differ (a / 2 ^ k % 2) (b / 2 ^ k % 2) < 2 =
     digits (λ (x y : ℕ). differ x y < 2) (omega arith) (omega arith) (omega arith) (omega arith)
     (a / 2 ^ k) (b / 2 ^ k) in

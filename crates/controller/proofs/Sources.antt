@@ -11,7 +11,7 @@ use Rattle.wide.specs.Bits.{bit}
 use Rattle.wide.proofs.Choices.{choose}
 use Rattle.controller.specs.Bits.{with_bit}
 use Rattle.controller.specs.Controller.{source_set, masked_source_set, masked_sources_set, source_levels_set}
-use Rattle.controller.proofs.Bits.{bit_and, bit_xor}
+use Rattle.controller.proofs.Bits.{bit-and, bit-xor}
 use Rattle.controller.proofs.Laws.{level_other, steady}
 
 -- ---- one source: a steady high level is the fourth case
@@ -63,11 +63,11 @@ unfolding masked_sources_set masked_source_set
 changed_below zero c mask levels = refl
 changed_below (suc n) c mask levels =
     let differs = bit_xor c.levels (bit_and levels mask) in
-    rw (changed_below n c mask levels, bit_and n differs mask, bit_and n levels mask)
+    rw (changed_below n c mask levels, bit-and n differs mask, bit-and n levels mask)
     (pass_over (masked_sources_set n c mask levels) n (bit n differs) (bit n mask) (bit n levels)
     (λ e. level_ahead n c mask levels n (omega arith)
-    ∙ bit_xor n c.levels (bit_and levels mask) e
-    ∙ bit_and n levels mask))
+    ∙ bit-xor n c.levels (bit_and levels mask) e
+    ∙ bit-and n levels mask))
 
 -- the mask may be that of the sources whose level changes
 pub only_changed : (c : IrqController) (mask levels : ℕ)

@@ -2,7 +2,7 @@
 -- number, or the lowest of all where there is none above. Assumes nothing.
 use Prim.Native.Nat.{ℕ, zero, suc, ◌+◌, ◌-◌, ◌/◌, ◌%◌, ◌^◌, ◌≤◌, ◌<◌}
 use mathlib.Core.Path.{◌≡◌, refl, sym, ap, ap₂, ◌∙◌}
-use mathlib.Core.Bool.{Bool, true, false, not, ◌&&◌, and-true, and_false, false≢true}
+use mathlib.Core.Bool.{Bool, true, false, not, ◌&&◌, and-true, and-false, false≢true}
 use native.Mathlib.Nat.{add-zero, pow-suc, div-eq_of_lt, lt_of_lt_of_le}
 use native.Mathlib.Omega.{arith}
 use borrow.Author.Tests.{eq-eqb, ltb-true, ltb-false, leb-true, leb-false}
@@ -129,7 +129,7 @@ module _ (c : IrqController) (last : ℕ) (h : last < 16) where
   -- a source up to `last` is not pending there, and one above it is as it was
   gone : (j : ℕ) → j ≤ last → enabled_pending j above ≡ false
   gone j i =
-      rw (above-bit j (omega arith), ones_bit (suc last) j (omega arith), and_false (bit j c.pending)) refl
+      rw (above-bit j (omega arith), ones_bit (suc last) j (omega arith), and-false (bit j c.pending)) refl
 
   kept : (j : ℕ) → last < j → j < 16 → enabled_pending j above ≡ enabled_pending j c
   kept j i k =

@@ -3,7 +3,7 @@
 use Prim.Native.Nat.{ℕ, ◌%◌}
 use native.Mathlib.Omega.{arith}
 use mathlib.Core.Path.{◌≡◌, refl, sym, ap, ◌∙◌}
-use mathlib.Core.Bool.{Bool, true, false, ◌&&◌, and_false, false≢true}
+use mathlib.Core.Bool.{Bool, true, false, ◌&&◌, and-false, false≢true}
 use lib.Dec.{eqb}
 use borrow.Author.Tests.{eqb-true, ne_eqb, eqb-false}
 use Rattle.wide.proofs.Choices.{choose, either}
@@ -114,7 +114,7 @@ module _ (o : ℕ) where
         either (eqb (o % 4) 3)
         (λ e. let h = eqb-true (o % 4) 3 e in
         rw (ne_eqb (register_of o) timer_ack_at (λ g. eqb-false o (last_of timer_ack_at) a (omega (arith, g, h)))))
-        (λ e. rw (e, and_false)) in
+        (λ e. rw (e, and-false)) in
         rw (not-enable, unacknowledged)
 
     pub written_is : written_at o v b ≡ written_by (part_of o) o v b

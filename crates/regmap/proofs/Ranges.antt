@@ -2,7 +2,7 @@
 use Prim.Native.Nat.{ℕ, ◌≤◌, ◌<◌}
 use native.Mathlib.Omega.{arith}
 use mathlib.Core.Path.{◌≡◌}
-use mathlib.Core.Bool.{Bool, true, false, and_false}
+use mathlib.Core.Bool.{Bool, true, false, and-false}
 use lib.Dec.{leb}
 use borrow.Author.Tests.{leb-true, le-leb, lt-leb}
 use Rattle.wide.proofs.Choices.{and_parts}
@@ -34,7 +34,7 @@ module _ (r : Range) (n : ℕ) where
   below p = simp (lt-leb r.first n p)
 
   pub above : r.last < n → within r n ≡ false
-  above p = simp (lt-leb n r.last p, and_false)
+  above p = simp (lt-leb n r.last p, and-false)
 
   pub bounds : within r n ≡ true → Inside r n
   bounds e =

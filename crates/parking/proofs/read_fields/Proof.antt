@@ -1,6 +1,6 @@
 -- `read_fields` meets its contract. Assumes nothing.
 use mathlib.Core.Path.{sym, ap, ◌∙◌}
-use mathlib.Core.Bool.{Bool, ◌&&◌, and_false}
+use mathlib.Core.Bool.{Bool, ◌&&◌, and-false}
 use Rattle.image.specs.declared.Form.TheVariants.{Old}
 use Rattle.parking.specs.Parking.{said}
 use Rattle.parking.proofs.RoundTrip.{formed_not}
@@ -18,7 +18,7 @@ returns c =
     let a = c.before.before.before.args in
     c.refused.ensures
     ∙ members-malformed a.form a.rate _ (said Old a.fields.now)
-    (ap (λ (v : Bool). a.ahead && v) (formed_not Old a.fields.now c.before.if1.true) ∙ and_false a.ahead)
+    (ap (λ (v : Bool). a.ahead && v) (formed_not Old a.fields.now c.before.if1.true) ∙ and-false a.ahead)
 
 board_in_requires : tie.Need-board-in-requires
 board_in_requires c κs = search rules

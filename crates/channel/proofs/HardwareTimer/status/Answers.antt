@@ -1,0 +1,6 @@
+-- `HardwareTimer::status` meets its contract. Assumes nothing.
+use Rattle.std.proofs.Common.{rules}
+use Rattle.channel.proofs.HardwareTimer.status.Goals as goal
+
+pub returns : goal.returns
+returns c = rw (c.pair.ensures, c.enabled.ensures)

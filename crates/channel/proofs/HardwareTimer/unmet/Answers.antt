@@ -1,0 +1,6 @@
+-- `HardwareTimer::unmet` meets its contract. Assumes nothing.
+use Rattle.std.proofs.Common.{refl, rules}
+use Rattle.channel.proofs.HardwareTimer.unmet.Goals as goal
+
+pub returns : goal.returns
+returns c = (refl, c.from_word.ensures)

@@ -1,0 +1,14 @@
+-- `deadline::ticks_round` meets its contract. Assumes nothing.
+use Rattle.std.proofs.Common.{ap, rules}
+use mathlib.Core.Option.{some}
+use Rattle.channel.proofs.Distances.{one-after-is}
+use Rattle.channel.proofs.deadline.ticks_round.Goals as goal
+
+pub returns-then-armed : goal.returns-then-armed
+returns-then-armed c =
+    let a = c.args in
+    rw c.if-armed.true
+    (ap some
+    (one-after-is a.counter a.compare (search rules) (search rules) c.wrapping_sub_u64-difference.result
+    c.wrapping_sub_u64.result (search rules) (search rules) c.wrapping_sub_u64-difference.ensures
+    c.wrapping_sub_u64.ensures))

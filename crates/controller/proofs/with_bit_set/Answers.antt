@@ -1,0 +1,7 @@
+-- `controller::with_bit_set` meets its contract. Assumes nothing.
+use borrow.Author.Rules.{rules}
+use Rattle.controller.proofs.Bits.{shifted, or_bit}
+use Rattle.controller.proofs.with_bit_set.Goals as goal
+
+pub returns : goal.returns
+returns c = rw (shifted c.args.number c.requires) (or_bit c.args.number c.args.word)
