@@ -1,3 +1,4 @@
+mod Arms
 pub mod Results
 pub mod Runs
 pub mod TwoParts
