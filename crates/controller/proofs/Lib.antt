@@ -1,13 +1,7 @@
-pub mod Altering
 pub mod Bits
-pub mod ByValue
 pub mod Laws
-pub mod Lending
 pub mod Lowest
-pub mod Plain
-pub mod Reading
 pub mod Registers
 pub mod Settings
 pub mod Sources
-pub mod Walk
 pub mod Widths

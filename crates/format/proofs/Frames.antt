@@ -70,17 +70,14 @@ by_tag P tag low high p1 p2 p3 p4 p5 p6 p7 p8 p9 p10 =
         (λ e. let m = eqb-false tag (suc k) e in n (omega arith))
 
 -- a tag that no arm of the code names has no row
-pub unknown_is : (tag : ℕ) {A : Type 0} →
-    ((((((((((A × (tag ≡ 1 → ⊥)) × (tag ≡ 2 → ⊥)) × (tag ≡ 3 → ⊥)) × (tag ≡ 4 → ⊥)) × (tag ≡ 5 → ⊥)) × (tag ≡ 6 → ⊥))
-    × (tag ≡ 7 → ⊥)) × (tag ≡ 8 → ⊥)) × (tag ≡ 9 → ⊥)) × (tag ≡ 10 → ⊥)) →
+pub unknown_is : (tag : ℕ) → (tag ≡ 1 → ⊥) → (tag ≡ 2 → ⊥) → (tag ≡ 3 → ⊥) → (tag ≡ 4 → ⊥) → (tag ≡ 5 → ⊥) →
+    (tag ≡ 6 → ⊥) → (tag ≡ 7 → ⊥) → (tag ≡ 8 → ⊥) → (tag ≡ 9 → ⊥) → (tag ≡ 10 → ⊥) →
     record { known = false; value = 0; answer = 0 } ≡ lengths_of tag
-unknown_is tag r =
+unknown_is tag n1 n2 n3 n4 n5 n6 n7 n8 n9 n10 =
     either (ltb 0 tag)
     (λ a. either (ltb tag 11)
     (λ b. absurd
-    (by_tag (λ (t : ℕ). tag ≡ t → ⊥) tag (ltb-true 0 tag a) (ltb-true tag 11 b) r.0.0.0.0.0.0.0.0.0.1
-    r.0.0.0.0.0.0.0.0.1 r.0.0.0.0.0.0.0.1 r.0.0.0.0.0.0.1 r.0.0.0.0.0.1
-    r.0.0.0.0.1 r.0.0.0.1 r.0.0.1 r.0.1 r.1 refl))
+    (by_tag (λ (t : ℕ). tag ≡ t → ⊥) tag (ltb-true 0 tag a) (ltb-true tag 11 b) n1 n2 n3 n4 n5 n6 n7 n8 n9 n10 refl))
     (λ b. rw (a, b, get_or-eq_default table (row [] []) (ltb-false tag 11 b))))
     (λ a. let h = ltb-false 0 tag a in let z : tag ≡ 0 = omega arith in rw z)
 
@@ -142,8 +139,8 @@ module _ (l : List ℕ) (e : frame_refusal l ≡ 0) where
       (λ ms. refl) (λ ms. refl) (λ ms. refl) (λ ms. refl) (λ ms. refl) (λ ms. refl) (λ ms. refl) (λ ms. refl)
       (λ ms. refl) (members_at l header_length (row_of (tag_at l)).value)
 
-  pub call_length : call_length (call_at l) ≤ length l
-  call_length = rw tag_is framed.0
+  pub call_length_lem : call_length (call_at l) ≤ length l
+  call_length_lem = rw tag_is framed.0
 
 pub call_least : (call : Call) → 3 ≤ call_length call
 call_least call = omega arith

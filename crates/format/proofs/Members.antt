@@ -25,11 +25,15 @@ pub data Each {A B : Type 0} (R : A → B → Type 0) : List A → List B → Ty
 module _ {A B : Type 0} (R : A → B → Type 0) where
   pub each_length : (xs : List A) (ys : List B) → Each R xs ys → length ys ≡ length xs
   each_length [] [] ended = refl
+  each_length [] (y ∷ ys) r = elim r [ ]
+  each_length (x ∷ xs) [] r = elim r [ ]
   each_length (x ∷ xs) (y ∷ ys) (r ▸ rs) = ap suc (each_length xs ys rs)
 
   pub each_at : (d : A) (e : B) (xs : List A) (ys : List B) → Each R xs ys → (k : ℕ) → k < length xs →
       R (get_or xs k d) (get_or ys k e)
   each_at d e [] [] ended k h = absurd (omega (arith, h))
+  each_at d e [] (y ∷ ys) r k h = elim r [ ]
+  each_at d e (x ∷ xs) [] r k h = elim r [ ]
   each_at d e (x ∷ xs) (y ∷ ys) (r ▸ rs) zero h = r
   each_at d e (x ∷ xs) (y ∷ ys) (r ▸ rs) (suc k) h = each_at d e xs ys rs k (omega (arith, h))
 
@@ -54,6 +58,8 @@ pub members_back : (ws ms : List ℕ) → Fit ws ms → (pre post : List ℕ) �
     members_at (pre ++ (members_bytes ws ms ++ post)) (length pre) ws ≡ ms
 unfolding members_at members_bytes
 members_back [] [] ended pre post = refl
+members_back [] (m ∷ ms) fit pre post = elim fit [ ]
+members_back (w ∷ ws) [] fit pre post = elim fit [ ]
 members_back (w ∷ ws) (m ∷ ms) (h ▸ fit) pre post =
     let front = be w m in
     let rest = members_bytes ws ms ++ post in

@@ -1,11 +1,12 @@
 // Lends a controller to its methods, one after another, and prints what it then presents: whether there is a source,
-// and its number.
+// and its number. A write that fails ends the program with its error.
 #![tactic(auto)]
 
 ghost use Rattle.std.specs.Prelude.{◌≡◌};
 ghost use Rattle.irq.specs.Presented.{presented_by};
 
 use controller::{IrqController, IrqOutput};
+use std::io::{self, Write};
 
 // What is presented once the sources of `raised` have risen, those of `mask` are enabled, and the byte at `address` is
 // read and written back.
@@ -20,27 +21,28 @@ fn presented(raised: u16, mask: u16, address: u32) -> IrqOutput
     controller.irq_output()
 }
 
-fn print_output(output: IrqOutput) {
+fn print_output(rt: &impl Print, output: IrqOutput) -> io::Result<()> {
+    let mut out = io::writer(rt);
     if output.valid {
-        io::write_all(1, b"1 ");
+        out.write_all(b"1 ")?;
     } else {
-        io::write_all(1, b"0 ");
+        out.write_all(b"0 ")?;
     }
-    io::print_decimal(1, output.number.0 as u64);
-    io::write_all(1, b"\n");
+    write!(out, "{}", output.number.0)?;
+    out.write_all(b"\n")
 }
 
 // Sources 9 and 5 have risen.
-fn print_presented(mask: u16, address: u32) {
-    print_output(presented(0x0220, mask, address));
+fn print_presented(rt: &impl Print, mask: u16, address: u32) -> io::Result<()> {
+    print_output(rt, presented(0x0220, mask, address))
 }
 
-fn main() {
+fn main(rt: HostRuntime) -> io::Result<()> {
     // no register is there, so nothing is acknowledged
     let nowhere = 0x02;
-    print_presented(0x0200, nowhere);
-    print_presented(0x0220, nowhere);
+    print_presented(&rt, 0x0200, nowhere)?;
+    print_presented(&rt, 0x0220, nowhere)?;
     // source 5 is acknowledged
-    print_presented(0x0220, IrqController::REG_PENDING_LOW);
-    print_presented(0x0020, IrqController::REG_PENDING_LOW);
+    print_presented(&rt, 0x0220, IrqController::REG_PENDING_LOW)?;
+    print_presented(&rt, 0x0020, IrqController::REG_PENDING_LOW)
 }

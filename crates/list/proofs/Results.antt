@@ -13,7 +13,7 @@ use Rattle.board.specs.Calls.{board_after}
 use Rattle.board.specs.Kept.{Good}
 use Rattle.registers.proofs.Kept.{call_keeps}
 use Rattle.format.specs.Codec.{call_at, call_length, answer_record, refusal_at}
-use Rattle.format.proofs.Frames.{call_length, call_fits, answer_size}
+use Rattle.format.proofs.Frames.{call_length_lem, call_fits, answer_size}
 use Rattle.format.proofs.Decoding.{Clear, clear}
 use Rattle.list.specs.declared.Outcome.{Outcome}
 use Rattle.list.specs.Run.{Result, done, refused, result_of, stepped}
@@ -64,7 +64,7 @@ pub done_fits : (b : Board) (l : List ℕ) (room : ℕ) (b' : Board) (n : ℕ) (
     result_of b l room ≡ done b' n a → (3 ≤ n) × ((n ≤ length l) × (length a ≤ room))
 done_fits b l room b' n a e =
     let p = done_placed b l room b' n a e in
-    (omega (arith, p.1.0), (omega (arith, p.1.0, call_length l p.0.frame), p.1.1.0))
+    (omega (arith, p.1.0), (omega (arith, p.1.0, call_length_lem l p.0.frame), p.1.1.0))
 
 -- ---- the board stays good
 

@@ -16,7 +16,7 @@ use Rattle.list.specs.Run.{Result, done, refused, result_of, stepped, Run, run_o
 use Rattle.board.specs.Calls.{board_after}
 use Rattle.registers.proofs.Kept.{call_keeps}
 use Rattle.format.specs.Codec.{call_at, call_length, answer_record, record_length, refusal_at}
-use Rattle.format.proofs.Frames.{sets_then, sets_front, call_length, call_fits, answer_size}
+use Rattle.format.proofs.Frames.{sets_then, sets_front, call_length_lem, call_fits, answer_size}
 use Rattle.format.proofs.Decoding.{clear}
 use Rattle.list.proofs.Results.{result-refused, result-done, done_fits}
 
@@ -178,7 +178,7 @@ module _ (list buf₀ : List ℕ) (s₀ : Outcome) (buf : List ℕ) (b : Board) 
     used-inside =
         omega (
           arith,
-          call_length l (clear b l (length buf - written) z).frame,
+          call_length_lem l (clear b l (length buf - written) z).frame,
           ap length rest,
           length-drop used list,
           r.used_in,

@@ -1,7 +1,6 @@
 // The registers at their offsets: where they are, the words that they read as, and what a byte written does.
 #![tactic(auto)]
 
-
 pub mod fields;
 pub mod words;
 pub mod writes;

@@ -9,8 +9,6 @@ use mathlib.Core.List.{List, [], ◌∷◌, ◌++◌}
 use lib.ListN.{length-append}
 use lib.Dec.{eqb}
 use lib.Seq.{sets}
-use types.Run.{OneOf, miss}
-use denote.Enum.Declared.{tag_of as variant_of}
 use borrow.Author.Tests.{ne_eqb}
 use Rattle.wide.specs.Bits.{bit, flag_of}
 use Rattle.wide.specs.Fields.{be}
@@ -25,7 +23,6 @@ use Rattle.board.specs.Calls.{effect_of, skip_length}
 use Rattle.board.specs.CodeCalls.{skip_advance_of}
 use Rattle.board.proofs.Answers.{skip-advance-refusal, skip-advance-some, skip-advance-none}
 use Rattle.board.proofs.Soundness.{sound_facts}
-use Rattle.board.specs.contracts.calls.Call as C
 use Rattle.format.specs.declared.Answer.TheVariants.{Skip as SkipBytes}
 use Rattle.format.specs.declared.Decoded.{Decoded}
 use Rattle.format.specs.declared.Lengths.{Lengths}
@@ -39,23 +36,21 @@ use Rattle.steps.specs.declared.Step.{Step}
 use Rattle.steps.specs.declared.Step.TheVariants as T
 use Rattle.steps.specs.declared.Changes.{Changes}
 use Rattle.steps.specs.CodeSteps.{Makes, SkipIs, StepIs, other_call, ChangesAre, Changed, passed_put, other_put}
-use Rattle.steps.specs.contracts.Step as S
 
--- ---- arms of several cases, by the positions of the variants
+-- ---- arms of several cases, by the variants that other arms name
 
 -- the calls that are no skip
-abbrev no_skip : List ℕ
-no_skip = 0 ∷ 1 ∷ 2 ∷ 3 ∷ 4 ∷ 6 ∷ 7 ∷ 8 ∷ 9 ∷ []
-
-abbrev NoSkip : Call → Type 0
-NoSkip call = OneOf no_skip (variant_of C.the_type call)
+abbrev pub NoSkip : Call → Type 0
+NoSkip call = call ≡ Skip → ⊥
 
 -- the steps that no arm names: a skip that stays, and those that are not of such a call
-abbrev rest : List ℕ
-rest = 0 ∷ 1 ∷ 2 ∷ 3 ∷ 5 ∷ []
-
-abbrev Rest : Step → Type 0
-Rest step = OneOf rest (variant_of S.the_type step)
+pub record Rest (step : Step) : Type 0 where
+  pub host : (nanoseconds seconds : ℕ) → step ≡ T.HostTime nanoseconds seconds → ⊥
+  pub deadline : step ≡ T.Deadline → ⊥
+  pub source : (number level : ℕ) → step ≡ T.Source number level → ⊥
+  pub read : (address : ℕ) → step ≡ T.ControllerRead address → ⊥
+  pub write : (byte address : ℕ) → step ≡ T.ControllerWrite byte address → ⊥
+  pub output : step ≡ T.Output → ⊥
 
 -- ---- the refusal
 
@@ -66,7 +61,7 @@ first_other (Read address) b n o = refl
 first_other (Write byte address) b n o = refl
 first_other (Advance c) b n o = refl
 first_other Deadline b n o = refl
-first_other Skip b n o = absurd (miss no_skip 5 tt o)
+first_other Skip b n o = absurd (o refl)
 first_other (Source number level) b n o = refl
 first_other (ControllerRead address) b n o = refl
 first_other (ControllerWrite byte address) b n o = refl
@@ -135,13 +130,13 @@ rest_is (T.Refused refusal) o = (refl, λ b c h. h)
 rest_is (T.Read offset) o = (refl, λ b c h. h)
 rest_is (T.Write byte offset) o = (refl, λ b c h. h)
 rest_is (T.Pass counted n) o = (refl, λ b c h. h)
-rest_is (T.HostTime nanoseconds seconds) o = absurd (miss rest 4 tt o)
+rest_is (T.HostTime nanoseconds seconds) o = absurd (o.host nanoseconds seconds refl)
 rest_is T.Stay o = (refl, λ b c h. h)
-rest_is T.Deadline o = absurd (miss rest 6 tt o)
-rest_is (T.Source number level) o = absurd (miss rest 7 tt o)
-rest_is (T.ControllerRead address) o = absurd (miss rest 8 tt o)
-rest_is (T.ControllerWrite byte address) o = absurd (miss rest 9 tt o)
-rest_is T.Output o = absurd (miss rest 10 tt o)
+rest_is T.Deadline o = absurd (o.deadline refl)
+rest_is (T.Source number level) o = absurd (o.source number level refl)
+rest_is (T.ControllerRead address) o = absurd (o.read address refl)
+rest_is (T.ControllerWrite byte address) o = absurd (o.write byte address refl)
+rest_is T.Output o = absurd (o.output refl)
 
 pub rest_tag : (step : Step) → Rest step → ◌≡◌ {A = ℕ} 6 (tag_of (other_call step))
 rest_tag step o = (rest_is step o).0

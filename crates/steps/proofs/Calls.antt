@@ -10,8 +10,6 @@ use mathlib.Core.List.{List, [], ◌∷◌, append-nil}
 use lib.ListN.{length}
 use lib.Seq.{sets}
 use lib.Dec.{eqb}
-use types.Run.{OneOf, miss}
-use denote.Enum.Declared as Declared
 use Rattle.wide.specs.Bits.{bit, flag_of}
 use Rattle.wide.proofs.Choices.{choose}
 use Rattle.channel.specs.Registers.{byte_written}
@@ -50,16 +48,15 @@ use Rattle.steps.specs.declared.Step.TheVariants as T
 use Rattle.steps.specs.declared.Changes.{Changes}
 use Rattle.steps.specs.CodeSteps.{Reads, Writes, Passes, StepIs, other_call, with_changes, ChangesAre, Changed}
 use Rattle.steps.specs.CodeSteps.{pass_call, begun_put, passed_put, other_put}
-use Rattle.steps.specs.contracts.Step.{the_type}
 use Rattle.steps.proofs.Advances.{begun_length, no_counts}
 use Rattle.steps.proofs.Records.{counts_put, counts_over, other_record, advance-record, skip_record}
 
 -- the steps without an arm of their own
-abbrev others : List ℕ
-others = 4 ∷ 5 ∷ 6 ∷ 7 ∷ 8 ∷ 9 ∷ 10 ∷ []
-
-abbrev pub Other : Step → Type 0
-Other step = OneOf others (Declared.tag_of the_type step)
+pub record Other (step : Step) : Type 0 where
+  pub refused : (refusal : ℕ) → step ≡ T.Refused refusal → ⊥
+  pub read : (offset : ℕ) → step ≡ T.Read offset → ⊥
+  pub write : (byte offset : ℕ) → step ≡ T.Write byte offset → ⊥
+  pub pass : (counted : Bool) (cycles : ℕ) → step ≡ T.Pass counted cycles → ⊥
 
 -- what a way of the code leaves of a call: the board y, on which source 3 is to be set where `moved` says so, and the
 -- buffer buf', with the call's record from index at on
@@ -227,10 +224,10 @@ module _ (b : Board) (s : sound b ≡ true) (at : ℕ) (buf : List ℕ) where
 
   pub other_does : (l : List ℕ) (room : ℕ) (step : Step) → Other step → StepIs b l room step → OtherDoes l room step
   unfolding line
-  other_does l room (T.Refused refusal) k h = absurd (miss others 0 tt k)
-  other_does l room (T.Read offset) k h = absurd (miss others 1 tt k)
-  other_does l room (T.Write byte offset) k h = absurd (miss others 2 tt k)
-  other_does l room (T.Pass counted c) k h = absurd (miss others 3 tt k)
+  other_does l room (T.Refused refusal) k h = absurd (k.refused refusal refl)
+  other_does l room (T.Read offset) k h = absurd (k.read offset refl)
+  other_does l room (T.Write byte offset) k h = absurd (k.write byte offset refl)
+  other_does l room (T.Pass counted c) k h = absurd (k.pass counted c refl)
   other_does l room (T.HostTime nanoseconds seconds) k h =
       (h.0, (h.1, (level_still _ refl refl, λ c x. x)))
   other_does l room T.Stay k h = (h.0, (h.1.0, (rw h.1.1 (wired_sound b s), λ c x. x h.1.1)))

@@ -1,5 +1,4 @@
 -- `controller::bit_is_set` meets its contract. Assumes nothing.
-use borrow.Author.Rules.{rules}
 use Rattle.controller.proofs.Bits.{shifted, bit_test}
 use Rattle.controller.proofs.bit_is_set.Goals as goal
 

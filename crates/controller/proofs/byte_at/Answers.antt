@@ -1,5 +1,4 @@
 -- `controller::byte_at` meets its contract. Assumes nothing.
-use borrow.Author.Rules.{rules}
 use borrow.Author.Tests.{eq-eqb, ne_eqb}
 use Rattle.controller.proofs.byte_at.Goals as goal
 

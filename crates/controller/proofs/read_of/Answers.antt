@@ -1,6 +1,5 @@
 -- `controller::read_of` meets its contract: the ranges are those of the registers. Assumes nothing.
 use mathlib.Core.Path.{◌∙◌}
-use borrow.Author.Rules.{rules}
 use native.Mathlib.Omega.{arith}
 use Rattle.controller.proofs.Registers.{read-pending, read-enable, read-other}
 use Rattle.controller.proofs.read_of.Goals as goal

@@ -1,5 +1,4 @@
 -- `controller::with_bit_cleared` meets its contract. Assumes nothing.
-use borrow.Author.Rules.{rules}
 use native.Mathlib.Omega.{arith}
 use Rattle.controller.proofs.Bits.{shifted, and_not_bit}
 use Rattle.controller.proofs.with_bit_cleared.Goals as goal

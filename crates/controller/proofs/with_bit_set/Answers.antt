@@ -1,5 +1,4 @@
 -- `controller::with_bit_set` meets its contract. Assumes nothing.
-use borrow.Author.Rules.{rules}
 use Rattle.controller.proofs.Bits.{shifted, or_bit}
 use Rattle.controller.proofs.with_bit_set.Goals as goal
 

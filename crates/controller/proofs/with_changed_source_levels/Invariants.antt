@@ -1,10 +1,8 @@
 -- `controller::with_changed_source_levels` meets its contract. The loop's invariant: the sources below `number` are
 -- set as the rule sets them. Assumes nothing.
 use Prim.Native.Nat.{◌-◌, ◌≤◌}
-use mathlib.Core.Path.{◌≡◌, refl, ◌∙◌}
-use native.Mathlib.Numerals.{add-one}
-use native.Mathlib.Omega.{arith}
-use Rattle.controller.specs.Controller.{masked_sources_set, source_levels_set}
+use mathlib.Core.Path.{◌≡◌}
+use Rattle.controller.specs.Controller.{masked_sources_set}
 use Rattle.controller.proofs.with_changed_source_levels.Given as goal
 
 abbrev pub invariant-loop-number : goal.invariant-loop-number

@@ -1,6 +1,5 @@
 -- `controller::with_masked_source` meets its contract. Assumes nothing.
 use mathlib.Core.Path.{sym, ap, ◌∙◌}
-use borrow.Author.Rules.{rules}
 use Rattle.controller.specs.Controller.{source_set, masked_source_set}
 use Rattle.controller.proofs.with_masked_source.Goals as goal
 

@@ -1,7 +1,6 @@
 -- `controller::with_source_levels` meets its contract: the sources whose level stays may be passed over.
 -- Assumes nothing.
 use mathlib.Core.Path.{◌∙◌}
-use borrow.Author.Rules.{rules}
 use Rattle.controller.proofs.Sources.{only_changed, none_changed}
 use Rattle.controller.proofs.with_source_levels.Goals as goal
 

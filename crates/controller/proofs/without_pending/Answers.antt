@@ -1,5 +1,4 @@
 -- `controller::without_pending` meets its contract. Assumes nothing.
-use borrow.Author.Rules.{rules}
 use Rattle.controller.specs.Controller.{pending_cleared}
 use Rattle.controller.proofs.without_pending.Goals as goal
 

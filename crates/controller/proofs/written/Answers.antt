@@ -2,7 +2,6 @@
 -- Assumes nothing.
 use Prim.Native.Nat.{◌*◌, ◌%◌}
 use mathlib.Core.Path.{◌≡◌, ap, ◌∙◌}
-use borrow.Author.Rules.{rules}
 use native.Mathlib.Omega.{arith}
 use Rattle.controller.specs.Controller.{pending_cleared, enable_mask_set, controller_written}
 use Rattle.controller.proofs.Registers.{write_other}
@@ -36,5 +35,4 @@ returns-in-5 c =
 pub returns-in_default : goal.returns-in_default
 returns-in_default c =
     let a = c.args in
-    let no = c.in_default.rest in
-    write_other a.controller a.address a.value no.0.0.0.1 no.0.0.1 no.0.1 no.1
+    write_other a.controller a.address a.value (λ e. omega arith) (λ e. omega arith) (λ e. omega arith) (λ e. omega arith)

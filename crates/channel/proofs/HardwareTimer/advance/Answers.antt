@@ -1,5 +1,5 @@
 -- `HardwareTimer::advance` meets its contract. Assumes nothing.
-use Rattle.std.proofs.Common.{◌≡◌, ◌%◌, sym, ◌∙◌, arith, rules, eq-eqb, ne_eqb}
+use Rattle.std.proofs.Common.{◌≡◌, ◌%◌, sym, ◌∙◌, arith, eq-eqb, ne_eqb}
 use Rattle.channel.specs.Modes.{ticked, ticked_in}
 use Rattle.channel.proofs.Counting.{no-ticks, one-shot-mode, periodic-mode, free-mode, idle-mode}
 use Rattle.channel.proofs.HardwareTimer.advance.Goals as goal
@@ -48,7 +48,7 @@ unfolding ticked ticked_in
 returns-in_default c =
     let a = c.args in
     let n = c.if-t-eq0.false in
-    let m : a.self.control % 4 ≡ 3 = omega (arith, c.in_default.rest) in (
+    let m : a.self.control % 4 ≡ 3 = omega arith in (
       simp (ne_eqb _ _ n, m) c.unmet-in_default.ensures.0,
       c.unmet-in_default.ensures.1 ∙ sym (idle-mode a.ticks.0 a.self n m),
     )

@@ -1,5 +1,5 @@
 -- `HardwareTimer::advance_cycles` meets its contract. Assumes nothing.
-use Rattle.std.proofs.Common.{◌∙◌, rules}
+use Rattle.std.proofs.Common.{◌∙◌}
 use Rattle.channel.proofs.HardwareTimer.advance_cycles.Goals as goal
 
 pub returns : goal.returns

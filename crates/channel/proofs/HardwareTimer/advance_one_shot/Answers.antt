@@ -1,5 +1,5 @@
 -- `HardwareTimer::advance_one_shot` meets its contract. Assumes nothing.
-use Rattle.std.proofs.Common.{sym, ◌∙◌, rules, le-leb}
+use Rattle.std.proofs.Common.{sym, ◌∙◌, le-leb}
 use Rattle.channel.specs.Modes.{one_shot}
 use borrow.Author.Tests.{lt-leb}
 use Rattle.channel.proofs.Counting.{one-shot-past, one-shot-reached, one-shot-ahead}

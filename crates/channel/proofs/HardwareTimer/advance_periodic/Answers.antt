@@ -1,5 +1,5 @@
 -- `HardwareTimer::advance_periodic` meets its contract. Assumes nothing.
-use Rattle.std.proofs.Common.{ℕ, sym, ap, ◌∙◌, rules}
+use Rattle.std.proofs.Common.{ℕ, sym, ap, ◌∙◌}
 use Rattle.channel.specs.Channel.{with_counter}
 use Rattle.channel.specs.Modes.{matched, periodic}
 use Rattle.channel.specs.Matches.{matches_in}

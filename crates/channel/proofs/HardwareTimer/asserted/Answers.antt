@@ -1,6 +1,5 @@
 -- `HardwareTimer::asserted` meets its contract. Assumes nothing.
 use Rattle.channel.specs.Channel.{line_of}
-use Rattle.std.proofs.Common.{rules}
 use Rattle.channel.proofs.HardwareTimer.asserted.Goals as goal
 
 pub returns-then-self : goal.returns-then-self

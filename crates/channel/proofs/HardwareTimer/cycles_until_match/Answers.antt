@@ -1,5 +1,5 @@
 -- `HardwareTimer::cycles_until_match` meets its contract. Assumes nothing.
-use Rattle.std.proofs.Common.{sym, ap, ◌∙◌, add-sub_cancel, rules}
+use Rattle.std.proofs.Common.{sym, ap, ◌∙◌, add-sub_cancel}
 use mathlib.Core.Option.{some}
 use Rattle.channel.specs.Deadline.{deadline_of}
 use Rattle.channel.proofs.HardwareTimer.cycles_until_match.Goals as goal

@@ -1,5 +1,5 @@
 -- `HardwareTimer::matched` meets its contract. Assumes nothing.
-use Rattle.std.proofs.Common.{sym, ◌∙◌, rules, le-leb}
+use Rattle.std.proofs.Common.{sym, ◌∙◌, le-leb}
 use Rattle.channel.specs.Modes.{matched}
 use borrow.Author.Tests.{lt-leb}
 use Rattle.channel.proofs.Counting.{matched-past, matched-ahead}

@@ -1,5 +1,5 @@
 -- `HardwareTimer::met` meets its contract. Assumes nothing.
-use Rattle.std.proofs.Common.{◌^◌, refl, ◌∙◌, lt_of_lt_of_le, arith, lit≤, rules}
+use Rattle.std.proofs.Common.{◌^◌, refl, ◌∙◌, lt_of_lt_of_le, arith, lit≤}
 use Rattle.channel.proofs.HardwareTimer.met.Goals as goal
 
 pub sum-requires : goal.sum-requires

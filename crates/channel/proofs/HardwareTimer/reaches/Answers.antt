@@ -8,10 +8,10 @@ returns-then-distance-eq0 c =
     let a = c.args in
     far-is a.self.counter a.self.compare (search rules) (search rules) a.ticks.0
     c.wrapping_sub_u64-distance.result
-    c.if-distance-eq0.true c.wrapping_sub_u64-distance.ensures (search rules)
+    c.if-distance-eq0.true c.wrapping_sub_u64-distance.ensures.value (search rules)
 
 pub returns : goal.returns
 returns c =
     let a = c.args in
     near-is a.self.counter a.self.compare (search rules) (search rules) c.wrapping_sub_u64-distance.result
-    a.ticks.0 (search rules) c.if-distance-eq0.false c.wrapping_sub_u64-distance.ensures
+    a.ticks.0 (search rules) c.if-distance-eq0.false c.wrapping_sub_u64-distance.ensures.value

@@ -1,6 +1,6 @@
 -- `HardwareTimer::read_word` meets its contract. Assumes nothing.
 use Rattle.channel.specs.Registers.{word_of}
-use Rattle.std.proofs.Common.{rules, ne_eqb}
+use Rattle.std.proofs.Common.{rules}
 use Rattle.channel.proofs.HardwareTimer.read_word.Goals as goal
 
 pub returns-in-0 : goal.returns-in-0
@@ -41,15 +41,4 @@ returns-in-32 c = rw c.in-32.is
 
 pub returns-in_default : goal.returns-in_default
 unfolding word_of
-returns-in_default c =
-    simp (
-      ne_eqb _ _ c.in_default.rest.1,
-      ne_eqb _ _ c.in_default.rest.0.1,
-      ne_eqb _ _ c.in_default.rest.0.0.1,
-      ne_eqb _ _ c.in_default.rest.0.0.0.1,
-      ne_eqb _ _ c.in_default.rest.0.0.0.0.1,
-      ne_eqb _ _ c.in_default.rest.0.0.0.0.0.1,
-      ne_eqb _ _ c.in_default.rest.0.0.0.0.0.0.1,
-      ne_eqb _ _ c.in_default.rest.0.0.0.0.0.0.0.1,
-      ne_eqb _ _ c.in_default.rest.0.0.0.0.0.0.0.0.1,
-    )
+returns-in_default c = search rules

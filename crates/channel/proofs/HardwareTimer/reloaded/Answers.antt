@@ -1,5 +1,5 @@
 -- `HardwareTimer::reloaded` meets its contract. Assumes nothing.
-use Rattle.std.proofs.Common.{ℕ, sym, ap, ◌∙◌, le_of_lt, mod-lt, pos_of_ne-zero, arith, rules, le-ltb, lt-ltb, eq-eqb, ne_eqb}
+use Rattle.std.proofs.Common.{ℕ, sym, ap, ◌∙◌, le_of_lt, mod-lt, pos_of_ne-zero, arith, le-ltb, lt-ltb, eq-eqb, ne_eqb}
 use Rattle.wide.specs.Number.{largest}
 use Rattle.channel.specs.Channel.{set_pending, with_compare}
 use Rattle.channel.specs.Modes.{next_compare, reloaded}

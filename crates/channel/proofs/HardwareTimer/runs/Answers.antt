@@ -1,5 +1,4 @@
 -- `HardwareTimer::runs` meets its contract. Assumes nothing.
-use Rattle.std.proofs.Common.{rules}
 use Rattle.channel.proofs.HardwareTimer.runs.Goals as goal
 
 pub returns : goal.returns

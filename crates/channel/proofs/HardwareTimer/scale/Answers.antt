@@ -1,5 +1,5 @@
 -- `HardwareTimer::scale` meets its contract. Assumes nothing.
-use Rattle.std.proofs.Common.{◌+◌, ◌∙◌, arith, rules}
+use Rattle.std.proofs.Common.{◌+◌, ◌∙◌, arith}
 use Rattle.channel.proofs.Prescaling.{each_is, early-is, later-is, later-fits, rest-fits}
 use Rattle.channel.proofs.HardwareTimer.scale.Goals as goal
 

@@ -1,5 +1,4 @@
 -- `HardwareTimer::status` meets its contract. Assumes nothing.
-use Rattle.std.proofs.Common.{rules}
 use Rattle.channel.proofs.HardwareTimer.status.Goals as goal
 
 pub returns : goal.returns

@@ -1,5 +1,5 @@
 -- `HardwareTimer::ticks_to_go` meets its contract. Assumes nothing.
-use Rattle.std.proofs.Common.{◌≡◌, ◌%◌, arith, rules}
+use Rattle.std.proofs.Common.{◌≡◌, ◌%◌, arith}
 use Rattle.channel.specs.Deadline.{ticks_to_go}
 use Rattle.channel.proofs.HardwareTimer.ticks_to_go.Goals as goal
 

@@ -1,5 +1,5 @@
 -- `HardwareTimer::unmet` meets its contract. Assumes nothing.
-use Rattle.std.proofs.Common.{refl, rules}
+use Rattle.std.proofs.Common.{refl}
 use Rattle.channel.proofs.HardwareTimer.unmet.Goals as goal
 
 pub returns : goal.returns

@@ -1,5 +1,4 @@
 -- `HardwareTimer::waits` meets its contract. Assumes nothing.
-use Rattle.std.proofs.Common.{rules}
 use Rattle.channel.proofs.HardwareTimer.waits.Goals as goal
 
 pub returns : goal.returns

@@ -1,5 +1,5 @@
 -- `HardwareTimer::write_byte` meets its contract. Assumes nothing.
-use Rattle.std.proofs.Common.{ap, ◌∙◌, rules, ne_eqb}
+use Rattle.std.proofs.Common.{ap, ◌∙◌, rules}
 use Rattle.channel.specs.Registers.{control_written, byte_written}
 use Rattle.channel.proofs.HardwareTimer.write_byte.Goals as goal
 
@@ -40,14 +40,4 @@ returns-in-32 c = rw c.in-32.is c.write_prescaler.ensures
 
 pub returns-in_default : goal.returns-in_default
 unfolding byte_written
-returns-in_default c =
-    simp (
-      ne_eqb _ _ c.in_default.rest.1,
-      ne_eqb _ _ c.in_default.rest.0.1,
-      ne_eqb _ _ c.in_default.rest.0.0.1,
-      ne_eqb _ _ c.in_default.rest.0.0.0.1,
-      ne_eqb _ _ c.in_default.rest.0.0.0.0.1,
-      ne_eqb _ _ c.in_default.rest.0.0.0.0.0.1,
-      ne_eqb _ _ c.in_default.rest.0.0.0.0.0.0.1,
-      ne_eqb _ _ c.in_default.rest.0.0.0.0.0.0.0.1,
-    )
+returns-in_default c = search rules

@@ -1,5 +1,5 @@
 -- `HardwareTimer::write_compare` meets its contract. Assumes nothing.
-use Rattle.std.proofs.Common.{ap, rules}
+use Rattle.std.proofs.Common.{ap}
 use Rattle.channel.specs.Registers.{compare_written}
 use Rattle.channel.proofs.HardwareTimer.write_compare.Goals as goal
 

@@ -1,6 +1,6 @@
 -- `HardwareTimer::write_control` meets its contract. Assumes nothing.
 use Rattle.channel.specs.Registers.{control_written}
-use Rattle.std.proofs.Common.{rules, eq-eqb, ne_eqb}
+use Rattle.std.proofs.Common.{eq-eqb, ne_eqb}
 use Rattle.channel.proofs.HardwareTimer.write_control.Goals as goal
 
 pub returns-then-word-eq1 : goal.returns-then-word-eq1

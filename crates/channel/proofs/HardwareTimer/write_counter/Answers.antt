@@ -1,5 +1,5 @@
 -- `HardwareTimer::write_counter` meets its contract. Assumes nothing.
-use Rattle.std.proofs.Common.{ap, rules}
+use Rattle.std.proofs.Common.{ap}
 use Rattle.channel.specs.Channel.{with_counter}
 use Rattle.channel.proofs.HardwareTimer.write_counter.Goals as goal
 

@@ -1,5 +1,5 @@
 -- `HardwareTimer::write_reload` meets its contract. Assumes nothing.
-use Rattle.std.proofs.Common.{ap, rules}
+use Rattle.std.proofs.Common.{ap}
 use Rattle.channel.specs.Channel.{with_reload}
 use Rattle.channel.proofs.HardwareTimer.write_reload.Goals as goal
 

@@ -10,5 +10,5 @@ returns-then-armed c =
     rw c.if-armed.true
     (ap some
     (one-after-is a.counter a.compare (search rules) (search rules) c.wrapping_sub_u64-difference.result
-    c.wrapping_sub_u64.result (search rules) (search rules) c.wrapping_sub_u64-difference.ensures
-    c.wrapping_sub_u64.ensures))
+    c.wrapping_sub_u64.result (search rules) (search rules) c.wrapping_sub_u64-difference.ensures.value
+    c.wrapping_sub_u64.ensures.value))

@@ -1,5 +1,5 @@
 -- `deadline::ticks_up` meets its contract. Assumes nothing.
-use Rattle.std.proofs.Common.{ap, arith, rules, le-ltb, lt-ltb}
+use Rattle.std.proofs.Common.{ap, arith, le-ltb, lt-ltb}
 use mathlib.Core.Option.{some}
 use Rattle.channel.proofs.deadline.ticks_up.Goals as goal
 

@@ -1,0 +1,41 @@
+-- `host_time_at` meets its contract. Assumes nothing.
+use mathlib.Core.Bool.{not}
+use mathlib.Core.Path.{refl, ap, ◌∙◌}
+use native.Mathlib.Omega.{arith}
+use Rattle.board.specs.declared.calls.Call.TheVariants.{HostTime}
+use Rattle.board.specs.Calls.{host_time_refusal, host_time_to}
+use Rattle.format.proofs.Decoding.{small, within, answer-of, as-unframed, as_own, as_short, as-accepted}
+use Rattle.format.proofs.host_time_at.Goals as goal
+
+pub framed-requires : goal.framed-requires
+framed-requires c = (c.requires, small 1 refl c.lengths_of-lengths.ensures)
+
+pub unframed-requires : goal.unframed-requires
+unframed-requires c = (c.requires, small 1 refl c.lengths_of-lengths.ensures)
+
+pub returns-then-not-framed : goal.returns-then-not-framed
+returns-then-not-framed c = as-unframed (HostTime _ _) _ _ c.lengths_of-lengths.ensures c.framed.ensures
+    c.unframed.ensures (ap not c.if-not-framed.true)
+
+pub host_at-host-requires : goal.host_at-host-requires
+host_at-host-requires c = within 1 _ c.lengths_of-lengths.ensures c.framed.ensures (ap not c.if-not-framed.false) 15 refl
+
+pub returns-then-own-ne0 : goal.returns-then-own-ne0
+returns-then-own-ne0 c = c.refused.ensures
+    ∙ as_own (HostTime _ _) _ _ c.lengths_of-lengths.ensures c.framed.ensures (ap not c.if-not-framed.false)
+    (c.host_time_refusal-own.ensures ∙ ap host_time_refusal c.host_at-host.ensures) c.if-own-ne0.true
+
+pub overflow_add-lengths : goal.overflow_add-lengths
+overflow_add-lengths c = omega (arith, answer-of 1 _ c.lengths_of-lengths.ensures)
+
+pub returns-then-room-lengths : goal.returns-then-room-lengths
+returns-then-room-lengths c = c.refused-then-room-lengths.ensures
+    ∙ as_short (HostTime _ _) _ _ c.lengths_of-lengths.ensures c.framed.ensures (ap not c.if-not-framed.false)
+    (c.host_time_refusal-own.ensures ∙ ap host_time_refusal c.host_at-host.ensures)
+    c.if-own-ne0.false c.if-room-lengths.true
+
+pub returns : goal.returns
+returns c = c.accepted.ensures
+    ∙ as-accepted (HostTime _ _) _ _ c.lengths_of-lengths.ensures c.framed.ensures
+    (ap not c.if-not-framed.false) (c.host_time_refusal-own.ensures ∙ ap host_time_refusal c.host_at-host.ensures)
+    c.if-own-ne0.false (ap host_time_to c.host_at-host.ensures) c.if-room-lengths.false
