@@ -1,4 +1,4 @@
-//! Finds libpec.a: in the directory that PEC_LIB_DIR names, or where `rt staticlib pec` writes it.
+//! Finds libpec.a: in the directory that PEC_LIB_DIR names, or where `bin/staticlib` writes it.
 
 use std::env;
 use std::path::PathBuf;
@@ -16,8 +16,8 @@ fn main() {
     println!("cargo:rerun-if-changed={}", library.display());
     if !library.is_file() {
         println!(
-            "cargo:warning={} is missing: run `rt staticlib pec` at the top of the repository, which proves and \
-             writes it, or set PEC_LIB_DIR to the directory that holds libpec.a",
+            "cargo:warning={} is missing: run `bin/staticlib` at the top of the repository, which proves and writes \
+             it, or set PEC_LIB_DIR to the directory that holds libpec.a",
             library.display()
         );
         std::process::exit(1);

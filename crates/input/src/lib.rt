@@ -1,55 +1,29 @@
-// Reads the whole of an input, and distinguishes its end from a failed read, which `io::read_full` takes for the end.
+// Reads the whole of an input, and distinguishes its end from a failed read.
 #![tactic(auto)]
 
-ghost use Rattle.io.specs.Counts.{IsPrefixLen};
+ghost use Rattle.std.specs.Prelude.{◌≡◌, ℕ, ◌<◌, ◌≤◌, length, take, IfOk, OnErr};
+ghost use Rattle.std.specs.Io.{ReadsAtMost};
+ghost use Rattle.std.specs.Io.KnownBytes.{Consumes, IsAtEnd};
 
-// Whether a read failed, and how many bytes were read to the start of a buffer, 0 where one failed.
-#[derive(Clone, Copy)]
-pub struct Input {
-    pub failed: bool,
-    pub count: usize,
-}
+use std::io;
+use std::io::Read;
 
-// One read.
-fn read_once(fd: i32, buf: &mut [u8]) -> Input
-    ensures { IsPrefixLen result.count buf.new }
-{
-    let got = libc::read(fd, buf);
-    if got < 0 {
-        return Input {
-            failed: true,
-            count: 0,
-        };
-    }
-    Input {
-        failed: false,
-        count: io::count(got, buf),
-    }
-}
-
-// Reads until the buffer is full, the input ends or a read fails. Bytes read before a failed read do not count.
-pub fn read_all(fd: i32, buf: &mut [u8]) -> Input
-    ensures { IsPrefixLen result.count buf.new }
+// Reads until the buffer is full, the input ends or a read fails, and gives how many bytes it put at the start of the
+// buffer, which is full unless the input has ended. Bytes read before a failed read do not count.
+pub fn read_all<R: Read>(reader: &mut R, buf: &mut [u8]) -> io::Result<usize>
+    ensures prefix_len { ReadsAtMost result buf.new }
+    ensures bytes { IfOk result (λ n. Consumes (R.remaining reader.old) (R.remaining reader.new) (take n buf.new)) }
+    ensures end { IfOk result (λ n. n < length buf.new → IsAtEnd (R.remaining reader.new)) }
+    ensures err { OnErr result ((n : ℕ) × (n ≤ length buf.new)
+        × Consumes (R.remaining reader.old) (R.remaining reader.new) (take n buf.new)) }
 {
     let mut done = 0;
     while done < buf.len() {
-        let r = read_once(fd, &mut buf[done..]);
-        if r.failed {
-            return Input {
-                failed: true,
-                count: 0,
-            };
+        let n = reader.read(&mut buf[done..])?;
+        if n == 0 {
+            return Ok(done);
         }
-        if r.count == 0 {
-            return Input {
-                failed: false,
-                count: done,
-            };
-        }
-        done += r.count;
+        done += n;
     }
-    Input {
-        failed: false,
-        count: done,
-    }
+    Ok(done)
 }

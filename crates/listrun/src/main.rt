@@ -1,6 +1,7 @@
 // Reads a call list from standard input, runs it over a fresh board, and prints each answer's tag and value in
 // hexadecimal; last the calls done, the refusal and the list bytes used, in decimal. Where the input cannot be read it
-// prints nothing but a message on standard error, and where the output cannot be written it prints such a message.
+// prints nothing but a message on standard error, and where the output cannot be written it prints such a message. In
+// both cases it ends with exit status 1.
 #![tactic(auto)]
 
 ghost use Rattle.std.specs.Prelude.{◌≡◌, ◌+◌, ◌*◌, ◌≤◌, length, take};
@@ -11,6 +12,8 @@ ghost use Rattle.listing.specs.Listing.{with_text};
 ghost use Rattle.listrun.specs.Printed.{listed, printed_of};
 
 use board::Board;
+use std::io::Error;
+use std::process::ExitCode;
 
 // The longest list, and the answer buffer.
 const LIST_LIMIT: usize = 32768;
@@ -45,19 +48,25 @@ fn print_list(list: &[u8], answers: &mut [u8; ANSWER_ROOM], text: &mut [u8; TEXT
     run_list(list, answers, text)
 }
 
-fn main() {
+// Says on standard error which stream failed and why. Gives the exit status that tells it, which a program that cannot
+// write there has too.
+fn failed(rt: &impl Eprint, stream: &str, error: Error) -> ExitCode {
+    let _ = eprintln!(rt; "listrun: {stream}: {error}");
+    ExitCode::FAILURE
+}
+
+fn main(rt: HostRuntime) -> ExitCode {
     // one byte more than the longest list, to find a longer one
     let mut list = [0u8; LIST_LIMIT + 1];
-    let r = input::read_all(0, &mut list);
-    if r.failed {
-        os::fail(b"listrun: standard input");
-        return;
-    }
-    let n = r.count;
+    let n = match input::read_all(&mut rt.stdin(), &mut list) {
+        Ok(n) => n,
+        Err(error) => return failed(&rt, "standard input", error),
+    };
     let mut answers = [0u8; ANSWER_ROOM];
     let mut text = [0u8; TEXT_ROOM];
     let length = print_list(&list[..n], &mut answers, &mut text);
-    if !io::write_all(1, &text[..length]) {
-        os::fail(b"listrun: standard output");
+    match rt.write_all(&text[..length]) {
+        Ok(()) => ExitCode::SUCCESS,
+        Err(error) => failed(&rt, "standard output", error),
     }
 }

@@ -9,10 +9,19 @@
 // Call 0 stands for a record or a file that cannot be read; crates/recording says when a list and a call agree.
 #![tactic(auto)]
 
+ghost use Rattle.std.specs.Prelude.{◌≤◌, length, IfSome};
+
 use recording::tally::{Tally, joined, none, replay_record};
+use std::env::{Env, FillError};
+use std::fs::File;
+use std::io::Result;
+use std::rt::Files;
 
 // The longest file.
 const FILE_LIMIT: usize = 65535;
+
+// The longest name of a file.
+const NAME_LIMIT: usize = 4096;
 
 // The tally of a file's bytes.
 fn replay(s: &[u8]) -> Tally {
@@ -33,76 +42,85 @@ fn replay(s: &[u8]) -> Tally {
     t
 }
 
-// Prints a text and a number.
-fn print(text: &[u8], n: usize) {
-    io::write_all(1, text);
-    io::print_decimal(1, n as u64);
-}
-
 // Prints how many calls agreed.
-fn print_counts(title: &[u8], t: Tally) {
-    io::write_all(1, title);
-    print(b": ", t.agreed);
-    print(b" of ", t.calls);
-    print(b" calls agree, in lists: ", t.lists);
-    io::write_all(1, b"\n");
+fn print_counts(rt: &impl Print, title: &[u8], t: Tally) -> Result<()> {
+    rt.write_all(title)?;
+    let Tally {
+        lists,
+        calls,
+        agreed,
+        ..
+    } = t;
+    println!(rt; ": {agreed} of {calls} calls agree, in lists: {lists}")
 }
 
 // Prints the first that did not agree.
-fn print_first(t: Tally) {
-    print(b"the first that does not agree: list ", t.list);
-    print(b", call ", t.call);
-    io::write_all(1, b"\n");
+fn print_first(rt: &impl Print, t: Tally) -> Result<()> {
+    let Tally { list, call, .. } = t;
+    println!(rt; "the first that does not agree: list {list}, call {call}")
 }
 
-// The tally of a file.
-fn replay_file(name: &[u8]) -> Tally {
-    let fd = os::open_read(name);
-    if fd < 0 {
+// The tally of a file. A name is text, and a file of another name cannot be read.
+fn replay_file(rt: &impl Files, name: &[u8]) -> Tally {
+    let Ok(path) = str::from_utf8(name) else {
         return none(1);
-    }
-    let mut bytes = io::large_buffer();
-    let r = input::read_all(fd, &mut bytes);
-    libc::close(fd);
-    if r.failed {
+    };
+    let Ok(mut file) = File::open(rt, path) else {
         return none(1);
-    }
-    let n = r.count;
+    };
+    let mut bytes = [0u8; FILE_LIMIT + 1];
+    let Ok(n) = input::read_all(&mut file, &mut bytes) else {
+        return none(1);
+    };
     if FILE_LIMIT < n {
         return none(1);
     }
     replay(&bytes[..n])
 }
 
-// The tally of the file that an argument names, printed.
-fn replay_argument(i: usize) -> Tally {
-    let mut name = io::buffer();
-    let n = os::arg(i, &mut name);
-    let t = replay_file(&name[..n]);
-    print_counts(&name[..n], t);
-    if t.list != 0 {
-        print_first(t);
+// Puts an argument at the start of a buffer and gives its length, none where there is no such argument. Of one that is
+// longer than the buffer it gives the empty name, which no file has.
+fn argument(rt: &impl Env, i: usize, name: &mut [u8]) -> Option<usize>
+    ensures { IfSome result (λ n. n ≤ length name.new) }
+{
+    match rt.arg(i, name) {
+        Ok(n) => Some(n),
+        Err(FillError::TooLong) => Some(0),
+        Err(FillError::NotPresent) => None,
     }
-    t
+}
+
+// The tally of the file that an argument names, printed; none where there is no such argument.
+fn replay_argument(rt: &(impl Env + Files + Print), i: usize) -> Result<Option<Tally>> {
+    let mut name = [0u8; NAME_LIMIT];
+    let Some(n) = argument(rt, i, &mut name) else {
+        return Ok(None);
+    };
+    let t = replay_file(rt, &name[..n]);
+    print_counts(rt, &name[..n], t)?;
+    if t.list != 0 {
+        print_first(rt, t)?;
+    }
+    Ok(Some(t))
 }
 
 // The tally of every file that an argument names.
-fn replay_all() -> Tally {
-    let n = os::arg_count();
+fn replay_all(rt: &(impl Env + Files + Print)) -> Result<Tally> {
     let mut t = none(0);
-    let mut i = 1;
-    while i < n {
-        t = joined(t, replay_argument(i));
-        i += 1;
+    for i in 1..usize::MAX {
+        match replay_argument(rt, i)? {
+            Some(next) => t = joined(t, next),
+            None => break,
+        }
     }
-    t
+    Ok(t)
 }
 
-fn main() {
-    let t = replay_all();
+fn main(rt: HostRuntime) -> Result<()> {
+    let t = replay_all(&rt)?;
     if t.list == 0 {
-        print_counts(b"all agree", t);
+        print_counts(&rt, b"all agree", t)
     } else {
-        print_counts(b"NOT ALL AGREE", t);
+        print_counts(&rt, b"NOT ALL AGREE", t)
     }
 }

@@ -1,6 +1,6 @@
 //! The proved PeC board for Rust programs.
 //!
-//! The functions here call the static library `libpec.a`, which `rt staticlib pec` proves and writes from crates/pec.
+//! The functions here call the static library `libpec.a`, which `bin/staticlib` proves and writes from crates/pec.
 //! Each is safe: the library's contracts ask nothing of their callers, and it keeps nothing between calls. A call list
 //! and its answers are bytes that the caller lends. The types of the crate rust/calls, which this crate exports too,
 //! make and read them.
