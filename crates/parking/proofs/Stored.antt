@@ -179,6 +179,8 @@ pub fields_formed : (fs : List Field) (mss : List (List ℕ)) → FieldsFit fs m
     fields_at (pre ++ fields_bytes fs mss) (length pre) fs ≡ true
 unfolding fields_at fields_bytes
 fields_formed [] [] ended pre = eq-eqb (length (pre ++ [])) (length pre) (ap length (append-nil pre))
+fields_formed [] (ms ∷ mss) fits pre = elim fits [ ]
+fields_formed (f ∷ fs) [] fits pre = elim fits [ ]
 fields_formed (f ∷ fs) (ms ∷ mss) (fit ▸ fits) pre =
     and_join _ _ (field_back f ms fit pre (fields_bytes fs mss))
     (ap₂ (λ (l : List ℕ) (n : ℕ). fields_at l n fs) (ahead-whole f fs ms mss pre) (ahead-length f fs ms mss pre)
@@ -188,6 +190,8 @@ pub fields_back : (fs : List Field) (mss : List (List ℕ)) → FieldsFit fs mss
     members_from (pre ++ fields_bytes fs mss) (length pre) fs ≡ mss
 unfolding members_from fields_bytes
 fields_back [] [] ended pre = refl
+fields_back [] (ms ∷ mss) fits pre = elim fits [ ]
+fields_back (f ∷ fs) [] fits pre = elim fits [ ]
 fields_back (f ∷ fs) (ms ∷ mss) (fit ▸ fits) pre =
     ap₂ ◌∷◌ (field_members f ms fit pre (fields_bytes fs mss))
     (ap₂ (λ (l : List ℕ) (n : ℕ). members_from l n fs) (ahead-whole f fs ms mss pre) (ahead-length f fs ms mss pre)
