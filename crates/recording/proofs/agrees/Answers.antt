@@ -1,6 +1,5 @@
 -- `agrees` meets its contract. Assumes nothing.
-use Rattle.std.proofs.Common.{sym, ◌∙◌, rules}
-use borrow.Author.Tests.{not-true, not-false}
+use Rattle.std.proofs.Common.{sym, ◌∙◌}
 use Rattle.recording.proofs.Laws.{results-differ, bytes-decide}
 use Rattle.recording.proofs.agrees.Goals as goal
 

@@ -1,6 +1,5 @@
 -- `holds` meets its contract. Assumes nothing.
 use Rattle.std.proofs.Common.{sym, arith, length-take-le}
-use borrow.Author.Tests.{not-true, not-false}
 use Rattle.format.proofs.Frames.{part_rest}
 use Rattle.recording.proofs.Laws.{too_short, front-differs, rest-decides}
 use Rattle.recording.proofs.holds.Goals as goal

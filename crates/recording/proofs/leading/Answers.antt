@@ -1,4 +1,4 @@
-use Rattle.std.proofs.Common.{◌-◌, ◌≤◌, length, arith}
+use Rattle.std.proofs.Common.{arith}
 use Rattle.recording.proofs.leading.Goals as goal
 
 pub loop-at-init : goal.loop-at-init

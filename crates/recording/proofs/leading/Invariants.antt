@@ -1,5 +1,5 @@
 -- `leading` is safe and ends: it counts no more answers than there are bytes. Assumes nothing.
-use Rattle.std.proofs.Common.{◌-◌, ◌≤◌, length, arith}
+use Rattle.std.proofs.Common.{◌-◌, ◌≤◌, length}
 use Rattle.recording.proofs.leading.Given as goal
 
 abbrev pub invariant-loop-at : goal.invariant-loop-at

@@ -1,5 +1,4 @@
 -- `replayed` meets its contract. Assumes nothing.
-use Rattle.std.proofs.Common.{rules}
 use Rattle.recording.proofs.Laws.{ran-results, ran-bytes}
 use Rattle.recording.proofs.replayed.Goals as goal
 
@@ -13,4 +12,4 @@ pub returns : goal.returns
 returns c =
     let s = c.start.ensures in
     let r = c.run-r.ensures in
-    (ran-results _ _ _ _ s _ r.0, ran-bytes _ _ _ _ s _ _ r.1)
+    (ran-results _ _ _ _ s _ r.value, ran-bytes _ _ _ _ s _ _ r.answers_after)

@@ -1,5 +1,4 @@
 -- `tally::replay_record` is safe: the record lies within the file. Assumes nothing.
-use Rattle.std.proofs.Common.{arith}
 use Rattle.recording.proofs.tally.replay_record.Goals as goal
 
 pub replayed-requires : goal.replayed-requires

@@ -1,5 +1,5 @@
 -- `tally::replayed` is safe: both buffers have the recorded length. Assumes nothing.
-use Rattle.std.proofs.Common.{sym, arith, length-take-le, rules}
+use Rattle.std.proofs.Common.{sym, arith, length-take-le}
 use Rattle.recording.proofs.tally.replayed.Goals as goal
 
 pub old_bytes-old-requires : goal.old_bytes-old-requires
