@@ -1,12 +1,9 @@
 -- `hex_digit` meets its contract. Assumes nothing.
-use borrow.Author.Rules.{rules}
 use borrow.Author.Tests.{lt-ltb, le-ltb}
 use Rattle.listing.proofs.hex_digit.Goals as goal
 
--- src/lib.rt:56:1
 pub returns-then-d-lt10 : goal.returns-then-d-lt10
 returns-then-d-lt10 c = rw (lt-ltb _ _ c.if-d-lt10.true)
 
--- src/lib.rt:56:1
 pub returns-else-d-lt10 : goal.returns-else-d-lt10
 returns-else-d-lt10 c = rw (le-ltb _ _ c.if-d-lt10.false)

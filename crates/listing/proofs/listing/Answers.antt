@@ -2,11 +2,14 @@
 use native.Mathlib.Omega.{arith}
 use Rattle.listing.specs.Listing.{listing_of}
 use Rattle.listing.proofs.Puts.{put_then, put_whole}
-use borrow.Author.Rules.{rules}
 use Rattle.listing.proofs.listing.Goals as goal
 
 pub returns : goal.returns
 unfolding listing_of
 returns c =
-    let w = put_whole (put_then c.put_answers-at.ensures.0 c.put_end.ensures.0) in
-    (w.0, (w.1, omega (arith, c.put_answers-at.ensures.1, c.put_end.ensures.1)))
+    let w = put_whole (put_then c.put_answers-at.ensures.put c.put_end.ensures.put) in
+    record {
+      value = w.0;
+      text_after = w.1;
+      upper_bound = omega (arith, c.put_answers-at.ensures.result_bound, c.put_end.ensures.upper_bound);
+    }

@@ -1,10 +1,10 @@
-use Prim.Native.Nat.{◌≤◌, ◌-◌, suc}
+use Prim.Native.Nat.{suc}
 use native.Mathlib.Numerals.{add-one}
 use native.Mathlib.Omega.{arith}
 use mathlib.Core.List.{[], ◌∷◌}
-use lib.ListN.{length, drop, get_or, drop_of_length-le}
+use lib.ListN.{drop, get_or, drop_of_length-le}
 use lib.Seq.{drop-cons}
-use Rattle.listing.proofs.Puts.{Left, left_all, left-counted, left-put, left_none}
+use Rattle.listing.proofs.Puts.{left_all, left-counted, left-put, left_none}
 use Rattle.listing.proofs.put_all.Goals as goal
 
 pub loop-i-init : goal.loop-i-init

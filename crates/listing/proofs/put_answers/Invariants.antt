@@ -1,9 +1,7 @@
 -- `put_answers` meets its contract. Assumes nothing.
 use Prim.Native.Nat.{◌-◌}
-use native.Mathlib.Omega.{arith}
-use mathlib.Core.Path.{refl}
 use lib.ListN.{length}
-use Rattle.listing.proofs.Answers.{Listed, none_listed, end-put, cut-put, line-counted, line-listed}
+use Rattle.listing.proofs.Answers.{Listed}
 use Rattle.listing.proofs.put_answers.Given as goal
 
 abbrev pub invariant-loop-at : goal.invariant-loop-at

@@ -1,9 +1,9 @@
-use Prim.Native.Nat.{◌≤◌, ◌-◌, suc}
+use Prim.Native.Nat.{suc}
 use native.Mathlib.Numerals.{add-one}
 use native.Mathlib.Omega.{arith}
-use lib.ListN.{length, drop, get_or}
+use lib.ListN.{drop, get_or}
 use Rattle.listing.specs.Listing.{hex_text, bytes_text}
-use Rattle.listing.proofs.Puts.{Left, left_all, left-counted, left-put, left_none}
+use Rattle.listing.proofs.Puts.{left_all, left-counted, left-put, left_none}
 use Rattle.listing.proofs.Lines.{bytes_from, bytes_none}
 use Rattle.listing.proofs.put_bytes.Goals as goal
 

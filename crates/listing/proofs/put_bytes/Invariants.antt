@@ -1,11 +1,8 @@
 -- `put_bytes` meets its contract. Assumes nothing.
-use Prim.Native.Nat.{◌≤◌, ◌-◌, suc}
-use native.Mathlib.Numerals.{add-one}
-use native.Mathlib.Omega.{arith}
-use lib.ListN.{length, drop, get_or}
-use Rattle.listing.specs.Listing.{hex_text, bytes_text}
-use Rattle.listing.proofs.Puts.{Left, left_all, left-counted, left-put, left_none}
-use Rattle.listing.proofs.Lines.{bytes_from, bytes_none}
+use Prim.Native.Nat.{◌≤◌, ◌-◌}
+use lib.ListN.{length, drop}
+use Rattle.listing.specs.Listing.{bytes_text}
+use Rattle.listing.proofs.Puts.{Left}
 use Rattle.listing.proofs.put_bytes.Given as goal
 
 abbrev pub invariant-loop-i : goal.invariant-loop-i

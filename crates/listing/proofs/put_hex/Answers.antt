@@ -2,7 +2,6 @@
 use native.Mathlib.Omega.{arith}
 use Rattle.listing.proofs.Puts.{put_is, put_then}
 use Rattle.listing.proofs.Numbers.{hex_is}
-use borrow.Author.Rules.{rules}
 use Rattle.listing.proofs.put_hex.Goals as goal
 
 pub returns : goal.returns

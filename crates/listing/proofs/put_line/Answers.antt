@@ -4,10 +4,20 @@ use mathlib.Core.List.{List, ◌++◌}
 use Rattle.listing.specs.Listing.{ascii, hex_text, value_text, answer_line}
 use Rattle.listing.specs.CodePuts.{Counted}
 use Rattle.listing.proofs.Puts.{counted_first, counted-second, put_then}
-use borrow.Author.Rules.{rules}
 use Rattle.listing.proofs.put_line.Goals as goal
 
 -- the parts of a line
+module _ (tag : ℕ) (value : List ℕ) {at : ℕ} (h : Counted (answer_line tag value) at) where
+  counted-3 : Counted (hex_text tag ++ ascii " " ++ value_text value) at
+  unfolding answer_line
+  counted-3 = counted_first (hex_text tag ++ ascii " " ++ value_text value) (ascii "\n") h
+
+  counted-2 : Counted (hex_text tag ++ ascii " ") at
+  counted-2 = counted_first (hex_text tag ++ ascii " ") (value_text value) counted-3
+
+  counted-1 : Counted (hex_text tag) at
+  counted-1 = counted_first (hex_text tag) (ascii " ") counted-2
+
 pub put_hex-space-requires : goal.put_hex-space-requires
 unfolding answer_line ascii
 put_hex-space-requires c =

@@ -2,7 +2,6 @@
 use Rattle.listing.specs.Listing.{ascii}
 use Rattle.listing.proofs.Puts.{counted_is, put_is}
 use Rattle.listing.proofs.Lines.{value_none, value_some}
-use borrow.Author.Rules.{rules}
 use Rattle.listing.proofs.put_value.Goals as goal
 
 pub put-requires : goal.put-requires
