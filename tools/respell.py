@@ -27,6 +27,22 @@ SPECIAL = {
     "bit-and": "bit-and",
     "bit-xor": "bit-xor",
     "front_length": "front_length_lem",
+    "matches-of-B": "matches_of_b",
+    "matches-of-C": "matches_of_c",
+    "matches-of-D": "matches_of_d",
+}
+
+# Names that are declared inside a module, which `HEAD` does not read.
+INNER = {
+    "mapTo": "map_to",
+    "givenTo": "given_to",
+    "channelsDue": "channels_due",
+    "isChannel": "is_channel",
+    "roomTest": "room_test",
+    "tagTest": "tag_test",
+    "sizeTest": "size_test",
+    "flagsTest": "flags_test",
+    "timerControl": "timer_control",
 }
 
 
@@ -121,7 +137,7 @@ def main(argv):
                 if m and not line.startswith(" "):
                     definitions.add(m[1])
     heads = {n for n in definitions} | {snake(n) for n in definitions} | {"append", "drop", "take", "length", "sets", "map", "fold"}
-    table = {}
+    table = dict(INNER)
     for name in sorted(set(own) | set(local)):
         if name.endswith("-spec") and name[:-5].replace("-", "_") in fns:
             new = name[:-5].replace("-", "_") + "_spec"

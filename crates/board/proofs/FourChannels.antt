@@ -56,19 +56,19 @@ module _ (enable : ℕ) where
   advances c k ts = map_from (λ i h. advanced (bit i enable) c h) k ts
 
   -- some channel is in the line t cycles from here
-  unfoldable pub channelsDue : ℕ → List HardwareTimer → ℕ → Bool
-  channelsDue k ts t = lines k ts || due (deadlines k ts) t
+  unfoldable pub channels_due : ℕ → List HardwareTimer → ℕ → Bool
+  channels_due k ts t = lines k ts || due (deadlines k ts) t
 
   due-cons : (k : ℕ) (h : HardwareTimer) (ts : List HardwareTimer) (t : ℕ) →
-      channelsDue k (h ∷ ts) t ≡ (channel_due (bit k enable) h t || channelsDue (suc k) ts t)
-  unfolding channelsDue channel_due fold_from
+      channels_due k (h ∷ ts) t ≡ (channel_due (bit k enable) h t || channels_due (suc k) ts t)
+  unfolding channels_due channel_due fold_from
   due-cons k h ts t =
       rw due-sooner
       (sym (or_swap (line_of h) (due (deadline_of (bit k enable) h) t) (lines (suc k) ts) (due (deadlines (suc k) ts) t)))
 
   pub channels-advance-due : (c k : ℕ) (ts : List HardwareTimer) → All GoodTimer ts → (t : ℕ) →
-      channelsDue k (advances c k ts) t ≡ channelsDue k ts (c + t)
-  unfolding channelsDue fold_from map_from
+      channels_due k (advances c k ts) t ≡ channels_due k ts (c + t)
+  unfolding channels_due fold_from map_from
   channels-advance-due c k [] g t = refl
   channels-advance-due c k (h ∷ ts) g t =
       due-cons k (advanced (bit k enable) c h) (advances c (suc k) ts) t
@@ -76,8 +76,8 @@ module _ (enable : ℕ) where
       (channels-advance-due c (suc k) ts g.1 t)
       ∙ sym (due-cons k h ts (c + t))
 
-  pub channels-line-due : (k : ℕ) (ts : List HardwareTimer) → All GoodTimer ts → lines k ts ≡ channelsDue k ts 0
-  unfolding channelsDue fold_from
+  pub channels-line-due : (k : ℕ) (ts : List HardwareTimer) → All GoodTimer ts → lines k ts ≡ channels_due k ts 0
+  unfolding channels_due fold_from
   channels-line-due k [] g = refl
   channels-line-due k (h ∷ ts) g =
       ap₂ ◌||◌ (line-due (bit k enable) h g.0.fits g.0.phase) (channels-line-due (suc k) ts g.1)

@@ -14,7 +14,7 @@ use Rattle.channel.specs.Channel.{
   disabled,
   sound_timer,
   line_of,
-  with_control as timerControl,
+  with_control as timer_control,
   with_compare,
   with_prescaler,
   with_phase,
@@ -65,7 +65,7 @@ is_none (some d) = false
 
 -- mode 0, compare 10, prescaler 2: deadline 30
 abbrev counting : HardwareTimer
-counting = timerControl 12 (with_compare 10 (with_prescaler 2 fresh_timer))
+counting = timer_control 12 (with_compare 10 (with_prescaler 2 fresh_timer))
 
 -- an armed alarm that is past: D is 1, and an advance of 0 already sets it
 abbrev past : Board

@@ -31,38 +31,38 @@ module _ {A B : Type 0} (f : ℕ → A → B) (g : B → B → B) (z : B) where
 
 module _ {A : Type 0} (f : ℕ → A → A) where
   -- the first n elements are changed; k is the index of the first
-  unfoldable pub mapTo : ℕ → ℕ → List A → List A
-  mapTo zero k xs = xs
-  mapTo (suc n) k [] = []
-  mapTo (suc n) k (x ∷ xs) = f k x ∷ mapTo n (suc k) xs
+  unfoldable pub map_to : ℕ → ℕ → List A → List A
+  map_to zero k xs = xs
+  map_to (suc n) k [] = []
+  map_to (suc n) k (x ∷ xs) = f k x ∷ map_to n (suc k) xs
 
   -- the next is not changed yet
-  pub next_is : (d : A) (n k : ℕ) (xs : List A) → get_or (mapTo n k xs) n d ≡ get_or xs n d
-  unfolding mapTo
+  pub next_is : (d : A) (n k : ℕ) (xs : List A) → get_or (map_to n k xs) n d ≡ get_or xs n d
+  unfolding map_to
   next_is d zero k xs = refl
   next_is d (suc n) k [] = refl
   next_is d (suc n) k (x ∷ xs) = next_is d n (suc k) xs
 
   set_next : (d : A) (n k : ℕ) (xs : List A) → n < length xs →
-      set (mapTo n k xs) n (f (k + n) (get_or xs n d)) ≡ mapTo (suc n) k xs
-  unfolding mapTo
+      set (map_to n k xs) n (f (k + n) (get_or xs n d)) ≡ map_to (suc n) k xs
+  unfolding map_to
   set_next d n k [] h = absurd (omega arith)
   set_next d zero k (x ∷ xs) h = ap (λ (i : ℕ). f i x ∷ xs) (omega arith)
   set_next d (suc n) k (x ∷ xs) h =
       ap (λ (l : List A). f k x ∷ l)
-      (ap (λ (i : ℕ). set (mapTo n (suc k) xs) n (f i (get_or xs n d))) (add-suc k n ∙ sym (suc-add k n))
+      (ap (λ (i : ℕ). set (map_to n (suc k) xs) n (f i (get_or xs n d))) (add-suc k n ∙ sym (suc-add k n))
       ∙ set_next d n (suc k) xs (omega arith))
 
   -- one turn: r is the next element's change
-  pub map-goes : (d : A) (i : ℕ) (xs out : List A) (r : A) → i < length xs → out ≡ mapTo i 0 xs →
+  pub map-goes : (d : A) (i : ℕ) (xs out : List A) (r : A) → i < length xs → out ≡ map_to i 0 xs →
       r ≡ f i (get_or out i d) →
-      set out i r ≡ mapTo (i + 1) 0 xs
+      set out i r ≡ map_to (i + 1) 0 xs
   map-goes d i xs out r h e q =
       rw (q, e, next_is d i 0 xs, add-one)
-      (ap (λ (n : ℕ). set (mapTo i 0 xs) i (f n (get_or xs i d))) (sym (zero-add i)) ∙ set_next d i 0 xs h)
+      (ap (λ (n : ℕ). set (map_to i 0 xs) i (f n (get_or xs i d))) (sym (zero-add i)) ∙ set_next d i 0 xs h)
 
-  pub map-ends : (n k : ℕ) (xs : List A) → length xs ≡ n → mapTo n k xs ≡ map_from f k xs
-  unfolding mapTo map_from
+  pub map-ends : (n k : ℕ) (xs : List A) → length xs ≡ n → map_to n k xs ≡ map_from f k xs
+  unfolding map_to map_from
   map-ends zero k [] e = refl
   map-ends zero k (x ∷ xs) e = absurd (omega arith)
   map-ends (suc n) k [] e = absurd (omega arith)
@@ -98,48 +98,48 @@ map_at f d z (x ∷ xs) (suc i) k h =
 
 module _ {A B : Type 0} (f : ℕ → A → B) (z : B) where
   -- what f gives of the first n elements, and z for the others; k is the index of the first
-  unfoldable pub givenTo : ℕ → ℕ → List A → List B
-  givenTo n k [] = []
-  givenTo zero k (x ∷ xs) = z ∷ givenTo zero (suc k) xs
-  givenTo (suc n) k (x ∷ xs) = f k x ∷ givenTo n (suc k) xs
+  unfoldable pub given_to : ℕ → ℕ → List A → List B
+  given_to n k [] = []
+  given_to zero k (x ∷ xs) = z ∷ given_to zero (suc k) xs
+  given_to (suc n) k (x ∷ xs) = f k x ∷ given_to n (suc k) xs
 
-  pub given-length : (n k : ℕ) (xs : List A) → length (givenTo n k xs) ≡ length xs
-  unfolding givenTo
+  pub given-length : (n k : ℕ) (xs : List A) → length (given_to n k xs) ≡ length xs
+  unfolding given_to
   given-length n k [] = refl
   given-length zero k (x ∷ xs) = ap suc (given-length zero (suc k) xs)
   given-length (suc n) k (x ∷ xs) = ap suc (given-length n (suc k) xs)
 
   -- nothing is given for the next
-  pub given-next : (n k : ℕ) (xs : List A) → get_or (givenTo n k xs) n z ≡ z
-  unfolding givenTo
+  pub given-next : (n k : ℕ) (xs : List A) → get_or (given_to n k xs) n z ≡ z
+  unfolding given_to
   given-next n k [] = refl
   given-next zero k (x ∷ xs) = refl
   given-next (suc n) k (x ∷ xs) = given-next n (suc k) xs
 
   -- nothing is given yet
-  pub given-starts : (k : ℕ) (xs : List A) → length xs ≡ 4 → z ∷ z ∷ z ∷ z ∷ [] ≡ givenTo 0 k xs
-  unfolding givenTo
-  given-starts k = by_four (λ xs. z ∷ z ∷ z ∷ z ∷ [] ≡ givenTo 0 k xs) (λ _ _ _ _. refl)
+  pub given-starts : (k : ℕ) (xs : List A) → length xs ≡ 4 → z ∷ z ∷ z ∷ z ∷ [] ≡ given_to 0 k xs
+  unfolding given_to
+  given-starts k = by_four (λ xs. z ∷ z ∷ z ∷ z ∷ [] ≡ given_to 0 k xs) (λ _ _ _ _. refl)
 
   set_given : (d : A) (n k : ℕ) (xs : List A) → n < length xs →
-      set (givenTo n k xs) n (f (k + n) (get_or xs n d)) ≡ givenTo (suc n) k xs
-  unfolding givenTo
+      set (given_to n k xs) n (f (k + n) (get_or xs n d)) ≡ given_to (suc n) k xs
+  unfolding given_to
   set_given d n k [] h = absurd (omega arith)
-  set_given d zero k (x ∷ xs) h = ap (λ (i : ℕ). f i x ∷ givenTo zero (suc k) xs) (omega arith)
+  set_given d zero k (x ∷ xs) h = ap (λ (i : ℕ). f i x ∷ given_to zero (suc k) xs) (omega arith)
   set_given d (suc n) k (x ∷ xs) h =
       ap (λ (l : List B). f k x ∷ l)
-      (ap (λ (i : ℕ). set (givenTo n (suc k) xs) n (f i (get_or xs n d))) (add-suc k n ∙ sym (suc-add k n))
+      (ap (λ (i : ℕ). set (given_to n (suc k) xs) n (f i (get_or xs n d))) (add-suc k n ∙ sym (suc-add k n))
       ∙ set_given d n (suc k) xs (omega arith))
 
   -- one turn: r is what the next element gives
-  pub given-goes : (d : A) (i : ℕ) (xs : List A) (out : List B) (r : B) → i < length xs → out ≡ givenTo i 0 xs →
-      r ≡ f i (get_or xs i d) → set out i r ≡ givenTo (i + 1) 0 xs
+  pub given-goes : (d : A) (i : ℕ) (xs : List A) (out : List B) (r : B) → i < length xs → out ≡ given_to i 0 xs →
+      r ≡ f i (get_or xs i d) → set out i r ≡ given_to (i + 1) 0 xs
   given-goes d i xs out r h e q =
       rw (q, e, add-one)
-      (ap (λ (n : ℕ). set (givenTo i 0 xs) i (f n (get_or xs i d))) (sym (zero-add i)) ∙ set_given d i 0 xs h)
+      (ap (λ (n : ℕ). set (given_to i 0 xs) i (f n (get_or xs i d))) (sym (zero-add i)) ∙ set_given d i 0 xs h)
 
-  pub given-ends : (n k : ℕ) (xs : List A) → length xs ≡ n → givenTo n k xs ≡ map_from f k xs
-  unfolding givenTo map_from
+  pub given-ends : (n k : ℕ) (xs : List A) → length xs ≡ n → given_to n k xs ≡ map_from f k xs
+  unfolding given_to map_from
   given-ends n k [] e = refl
   given-ends zero k (x ∷ xs) e = absurd (omega arith)
   given-ends (suc n) k (x ∷ xs) e = ap (λ (l : List B). f k x ∷ l) (given-ends n (suc k) xs (omega arith))

@@ -11,7 +11,7 @@ use Rattle.channel.specs.declared.HardwareTimer.{HardwareTimer}
 use Rattle.wide.proofs.Choices.{and_parts}
 use Rattle.channel.specs.Channel.{fresh_timer, divisor, sound_timer}
 use Rattle.board.specs.Channels.{all_sound}
-use Rattle.board.proofs.Loops.{all_at, mapTo, next_is}
+use Rattle.board.proofs.Loops.{all_at, map_to, next_is}
 
 pub phase_at : (ts : List HardwareTimer) (i : ℕ) → i < length ts → all_sound ts ≡ true →
     (get_or ts i fresh_timer).phase ≤ (get_or ts i fresh_timer).prescaler
@@ -24,5 +24,5 @@ phase_at ts i h e =
 
 -- the same where the channels below i are changed already
 pub phase_next : (f : ℕ → HardwareTimer → HardwareTimer) (ts out : List HardwareTimer) (i : ℕ) → i < length ts →
-    all_sound ts ≡ true → out ≡ mapTo f i 0 ts → (get_or out i fresh_timer).phase ≤ (get_or out i fresh_timer).prescaler
+    all_sound ts ≡ true → out ≡ map_to f i 0 ts → (get_or out i fresh_timer).phase ≤ (get_or out i fresh_timer).prescaler
 phase_next f ts out i h e o = rw (o, next_is f fresh_timer i 0 ts) (phase_at ts i h e)

@@ -53,7 +53,7 @@ use Rattle.board.specs.Calls.{
 use Rattle.board.specs.Demand.{PassesTime, after, adds, source3}
 use Rattle.board.proofs.FourChannels.{
   or_swap,
-  channelsDue,
+  channels_due,
   channels-advance-due,
   channels-line-due,
   channels-kept,
@@ -70,8 +70,8 @@ unfoldable pub board_due : Board → ℕ → Bool
 board_due b t = line b || due (exact_deadline b) t
 
 due_parts : (b : Board) (t : ℕ) →
-    board_due b t ≡ (channelsDue b.timer_enable 0 b.timers t || clock_due (rate_of b.clock) b.clock t)
-unfolding board_due line exact_deadline channelsDue clock_due
+    board_due b t ≡ (channels_due b.timer_enable 0 b.timers t || clock_due (rate_of b.clock) b.clock t)
+unfolding board_due line exact_deadline channels_due clock_due
 due_parts b t =
     rw due-sooner
     (or_swap (any_line b.timers) (clock_line b.clock) (due (soonest_of b.timer_enable b.timers) t)
@@ -158,11 +158,11 @@ module _ (c : ℕ) (b : Board) {rate : ℕ} (g : Good rate b) where
       first false true false l t = absurd (false≢true (sym l))
       first false false z l t = absurd (false≢true t)
 
-      from_channels : from_host b.clock.control ≡ true → channelsDue e 0 b.timers (c + 0) ≡ true
+      from_channels : from_host b.clock.control ≡ true → channels_due e 0 b.timers (c + 0) ≡ true
       from_channels h =
           rw add-zero
-          (first (channelsDue e 0 b.timers c) (clock_line b.clock) (any_line b.timers) low
-          (ap (λ v. channelsDue e 0 b.timers c || v) (sym (due-host (rate_of b.clock) b.clock c h))
+          (first (channels_due e 0 b.timers c) (clock_line b.clock) (any_line b.timers) low
+          (ap (λ v. channels_due e 0 b.timers c || v) (sym (due-host (rate_of b.clock) b.clock c h))
           ∙ sym (due_parts b c) ∙ ap (λ v. line b || v) d ∙ or-true (line b)))
 
 pub same_step : {rate : ℕ} (b : Board) → Good rate b → Step rate 0 b b
@@ -182,7 +182,7 @@ module _ (h : HostTimeOf) (b : Board) {rate : ℕ} (w : h.seconds < 2 ^ 64) (n :
   hosted-due : (t : ℕ) → board_due hosted t ≡ board_due b t
   hosted-due t =
       due_parts hosted t
-      ∙ ap (λ v. channelsDue b.timer_enable 0 b.timers t || v) (host_due (rate_of b.clock) h b.clock t)
+      ∙ ap (λ v. channels_due b.timer_enable 0 b.timers t || v) (host_due (rate_of b.clock) h b.clock t)
       ∙ sym (due_parts b t)
 
   pub host-step : Step rate 0 b (board_after (host_time_to h) b)

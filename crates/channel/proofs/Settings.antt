@@ -97,12 +97,12 @@ abbrev once_only : HardwareTimer
 once_only = with_compare 1 (with_reload largest (in_mode 1))
 
 -- mode 1: B meets 10, 14 and 18, in one advance or in parts, and has its compare point three periods further
-pub matches_of_B :
+pub matches_of_b :
     (matches_of true 19 setting_b ≡ 3)
     × (matches_by true (9 ∷ 1 ∷ 0 ∷ 9 ∷ []) setting_b ≡ 3)
     × ((advanced_by true (9 ∷ 1 ∷ 0 ∷ 9 ∷ []) setting_b).compare ≡ 10 + 3 * 4)
 unfolding matches_in points_met matches_by advanced_by advanced ticked ticked_in periodic matched reloaded enabled_of
-matches_of_B = (refl, refl, refl)
+matches_of_b = (refl, refl, refl)
 
 -- 'A count can reach 2^64', here in one advance that switches the channel off
 pub most_matches :
@@ -112,9 +112,9 @@ unfolding matches_in points_met advanced ticked ticked_in periodic matched reloa
 most_matches = (refl, refl)
 
 -- C: the match that clears enable counts too
-pub matches_of_C : (matches_of true 1 (setting_c 1) ≡ 1) × (matches_of true 1 (setting_c 4) ≡ 1)
+pub matches_of_c : (matches_of true 1 (setting_c 1) ≡ 1) × (matches_of true 1 (setting_c 4) ≡ 1)
 unfolding matches_in points_met advanced ticked ticked_in periodic matched reloaded enabled_of disabled
-matches_of_C = (refl, refl)
+matches_of_c = (refl, refl)
 
 -- 'or 1 with reload 0'
 pub matches_once :
@@ -158,12 +158,12 @@ unfolding matches_in points_met matches_by advanced ticked ticked_in one_shot pe
 matches_overdue = (refl, refl, refl, refl)
 
 -- D: none after 2^64 − 1 ticks, one at the next, and none after it
-pub matches_of_D :
+pub matches_of_d :
     (matches_of true largest setting_d ≡ 0)
     × (matches_of true 1 (advanced true largest setting_d) ≡ 1)
     × (matches_of true (2 ^ 64) (advanced true (2 ^ 64) setting_d) ≡ 0)
 unfolding matches_in points_met advanced ticked ticked_in free_running distance enabled_of
-matches_of_D = (refl, refl, refl)
+matches_of_d = (refl, refl, refl)
 
 -- 'A match is where document 01's rule sets pending, set before or not'
 pub matches_pending :

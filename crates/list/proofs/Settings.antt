@@ -10,7 +10,7 @@ use lib.Dec.{leb, eqb}
 use Rattle.wide.specs.Fields.{be_at, be, with_byte}
 use Rattle.channel.specs.declared.HardwareTimer.{HardwareTimer}
 use Rattle.channel.specs.Channel.{fresh_timer, enabled_of, irq_enabled_of, disabled, sound_timer, line_of}
-use Rattle.channel.specs.Channel.{with_control as timerControl, with_counter, with_compare, with_reload, with_prescaler}
+use Rattle.channel.specs.Channel.{with_control as timer_control, with_counter, with_compare, with_reload, with_prescaler}
 use Rattle.channel.specs.Channel.{with_flags}
 use Rattle.channel.specs.Prescaler.{advanced}
 use Rattle.channel.specs.Matches.{points_met, matches_in}
@@ -47,7 +47,7 @@ use Rattle.list.specs.Run.{result_of, stepped, Run, run_on, run_of}
 
 -- channel 0 alone runs, in a mode, with its interrupt enabled
 abbrev in_mode : ℕ → HardwareTimer
-in_mode mode = timerControl (12 + mode) fresh_timer
+in_mode mode = timer_control (12 + mode) fresh_timer
 
 abbrev running : HardwareTimer → Board
 running h = with_timer_enable 1 (with_timers (h ∷ fresh_timer ∷ fresh_timer ∷ fresh_timer ∷ []) fresh_board)
@@ -80,7 +80,7 @@ skipped compare room = run_of (away compare) (0x06 ∷ 0x00 ∷ 0x00 ∷ []) roo
 
 -- a channel's control is past its four bits
 abbrev unsound : Board
-unsound = running (timerControl 16 fresh_timer)
+unsound = running (timer_control 16 fresh_timer)
 
 -- the alarm armed and enabled
 abbrev alarmed : ℕ → Clock → Clock
@@ -150,7 +150,7 @@ low_count =
 
 -- mode 1 with its match behind it, and enable clear
 abbrev resting : HardwareTimer
-resting = timerControl 9 (with_counter 10 (with_compare 4 (with_reload 4 fresh_timer)))
+resting = timer_control 9 (with_counter 10 (with_compare 4 (with_reload 4 fresh_timer)))
 
 -- the line is high, and the pending bit of source 3 that it latched is cleared
 steady : Board

@@ -78,24 +78,24 @@ record Stands (l : List ℕ) (at : ℕ) (f : Field) : Type 0 where
   flags : flags_hold f.members (members_at l (at + header_length) (widths_of f.members)) ≡ true
 
 module _ (l : List ℕ) (at : ℕ) (f : Field) where
-  abbrev roomTest : Bool
-  roomTest = leb (at + field_length f) (length l)
+  abbrev room_test : Bool
+  room_test = leb (at + field_length f) (length l)
 
-  abbrev tagTest : Bool
-  tagTest = eqb (be_at l at 1) f.tag
+  abbrev tag_test : Bool
+  tag_test = eqb (be_at l at 1) f.tag
 
-  abbrev sizeTest : Bool
-  sizeTest = eqb (be_at l (at + 1) 2) (members_length f)
+  abbrev size_test : Bool
+  size_test = eqb (be_at l (at + 1) 2) (members_length f)
 
-  abbrev flagsTest : Bool
-  flagsTest = flags_hold f.members (members_at l (at + header_length) (widths_of f.members))
+  abbrev flags_test : Bool
+  flags_test = flags_hold f.members (members_at l (at + header_length) (widths_of f.members))
 
   stands : field_at l at f ≡ true → Stands l at f
   unfolding field_at
   stands e =
-      let p = and_parts roomTest (tagTest && (sizeTest && flagsTest)) e in
-      let q = and_parts tagTest (sizeTest && flagsTest) p.1 in
-      let r = and_parts sizeTest flagsTest q.1 in
+      let p = and_parts room_test (tag_test && (size_test && flags_test)) e in
+      let q = and_parts tag_test (size_test && flags_test) p.1 in
+      let r = and_parts size_test flags_test q.1 in
       record {
         room = leb-true (at + field_length f) (length l) p.0;
         tag = eqb-true (be_at l at 1) f.tag q.0;
@@ -106,9 +106,9 @@ module _ (l : List ℕ) (at : ℕ) (f : Field) where
   stood : Stands l at f → field_at l at f ≡ true
   unfolding field_at
   stood s =
-      and_join roomTest (tagTest && (sizeTest && flagsTest)) (le-leb (at + field_length f) (length l) s.room)
-      (and_join tagTest (sizeTest && flagsTest) (eq-eqb (be_at l at 1) f.tag s.tag)
-      (and_join sizeTest flagsTest (eq-eqb (be_at l (at + 1) 2) (members_length f) s.size) s.flags))
+      and_join room_test (tag_test && (size_test && flags_test)) (le-leb (at + field_length f) (length l) s.room)
+      (and_join tag_test (size_test && flags_test) (eq-eqb (be_at l at 1) f.tag s.tag)
+      (and_join size_test flags_test (eq-eqb (be_at l (at + 1) 2) (members_length f) s.size) s.flags))
 
 -- stored and taken out again
 module _ (f : Field) (ms : List ℕ) (fit : FieldFit f ms) (pre post : List ℕ) where

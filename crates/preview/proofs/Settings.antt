@@ -12,7 +12,7 @@ use Rattle.channel.specs.Channel.{
   disabled,
   sound_timer,
   line_of,
-  with_control as timerControl,
+  with_control as timer_control,
   with_compare,
   with_prescaler,
   with_flags,
@@ -48,7 +48,7 @@ abbrev running : HardwareTimer → Board
 running h = with_timer_enable 1 (with_timers (h ∷ fresh_timer ∷ fresh_timer ∷ fresh_timer ∷ []) fresh_board)
 
 abbrev in_mode : ℕ → HardwareTimer
-in_mode mode = timerControl (12 + mode) fresh_timer
+in_mode mode = timer_control (12 + mode) fresh_timer
 
 -- document 01's setting A: D is 30
 abbrev setting_a : Board
@@ -70,7 +70,7 @@ controlled control b = with_clock (with_control control fresh_clock) b
 
 -- a channel's control is past its four bits
 abbrev unsound : Board
-unsound = running (timerControl 16 fresh_timer)
+unsound = running (timer_control 16 fresh_timer)
 
 -- ---- the rows
 

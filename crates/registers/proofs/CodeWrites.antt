@@ -69,15 +69,15 @@ module _ (o : ℕ) where
   no_part p a k c = rw (p, ne_eqb o (last_of timer_ack_at) a, k, c)
 
   -- a channel's register is in the channels' blocks
-  isChannel : WritePart → Bool
-  isChannel Nothing = false
-  isChannel Enable = false
-  isChannel Acknowledge = false
-  isChannel Clock = false
-  isChannel Channel = true
+  is_channel : WritePart → Bool
+  is_channel Nothing = false
+  is_channel Enable = false
+  is_channel Acknowledge = false
+  is_channel Clock = false
+  is_channel Channel = true
 
   in-channels : part_of o ≡ Channel → in_channels o ≡ true
-  unfolding part_of isChannel
+  unfolding part_of is_channel
   in-channels =
       choose P (in_register timer_enable_at o) (λ _. other Enable refl)
       (λ _. choose P (eqb o (last_of timer_ack_at)) (λ _. other Acknowledge refl)
@@ -87,8 +87,8 @@ module _ (o : ℕ) where
       P : WritePart → Type 0
       P p = p ≡ Channel → in_channels o ≡ true
 
-      other : (p : WritePart) → isChannel p ≡ false → P p
-      other p n e = absurd (false≢true (sym n ∙ ap isChannel e))
+      other : (p : WritePart) → is_channel p ≡ false → P p
+      other p n e = absurd (false≢true (sym n ∙ ap is_channel e))
 
   pub channel-range : part_of o ≡ Channel → Inside channel_blocks o
   channel-range e = bounds channel_blocks o (in-channels e)

@@ -22,7 +22,7 @@ use Rattle.board.specs.Calls.{moved_board}
 use Rattle.board.specs.Channels.{all_sound, advanced_all, matches_all}
 use Rattle.channel.proofs.Law.{advanced_still}
 use Rattle.channel.proofs.Counting.{still-matches}
-use Rattle.board.proofs.Loops.{mapTo, next_is, map-goes, map-ends, givenTo, given-length, given-next, given-starts}
+use Rattle.board.proofs.Loops.{map_to, next_is, map-goes, map-ends, given_to, given-length, given-next, given-starts}
 use Rattle.board.proofs.Loops.{given-goes, given-ends}
 use Rattle.board.proofs.Phases.{phase_next}
 use Rattle.format.specs.CodeAnswers.{wides}
@@ -34,11 +34,11 @@ pub record Advancing (enable c i : ℕ) (b₀ b : Board) : Type 0 where
   pub below : i ≤ 4
   pub four : length b₀.timers ≡ 4
   pub sound : all_sound b₀.timers ≡ true
-  pub now : b ≡ with_timers (mapTo (λ k h. advanced (bit k enable) c h) i 0 b₀.timers) b₀
+  pub now : b ≡ with_timers (map_to (λ k h. advanced (bit k enable) c h) i 0 b₀.timers) b₀
 
 pub begins : (enable c : ℕ) (b : Board) → length b.timers ≡ 4 → all_sound b.timers ≡ true →
     Advancing enable c 0 b b
-unfolding mapTo
+unfolding map_to
 begins enable c b n s = record { below = omega arith; four = n; sound = s; now = refl }
 
 module _ (enable c i : ℕ) (b₀ b : Board) (a : Advancing enable c i b₀ b) where
@@ -46,7 +46,7 @@ module _ (enable c i : ℕ) (b₀ b : Board) (a : Advancing enable c i b₀ b) w
   pub still-timed : Timed (rate_of b₀.clock) b₀.clock → Timed (rate_of b.clock) b.clock
   still-timed t = rw a.now t
 
-  timers-now : b.timers ≡ mapTo (λ k h. advanced (bit k enable) c h) i 0 b₀.timers
+  timers-now : b.timers ≡ map_to (λ k h. advanced (bit k enable) c h) i 0 b₀.timers
   timers-now = ap (λ (x : Board). x.timers) a.now
 
   pub next-phase : i < 4 → (get_or b.timers i fresh_timer).phase ≤ (get_or b.timers i fresh_timer).prescaler
@@ -66,7 +66,7 @@ module _ (enable c i : ℕ) (b₀ b : Board) (a : Advancing enable c i b₀ b) w
             ap (λ (ts : List HardwareTimer). with_timers ts b)
             (map-goes (λ k t. advanced (bit k enable) c t) fresh_timer i b₀.timers b.timers m
             (omega (arith, h, a.four)) timers-now (rw e at q))
-            ∙ ap (λ (x : Board). with_timers (mapTo (λ k t. advanced (bit k enable) c t) (i + 1) 0 b₀.timers) x)
+            ∙ ap (λ (x : Board). with_timers (map_to (λ k t. advanced (bit k enable) c t) (i + 1) 0 b₀.timers) x)
             a.now;
       }
 
@@ -97,7 +97,7 @@ module _ (enable c i : ℕ) (b₀ b : Board) (a : Advancing enable c i b₀ b) w
 
 -- the counts of the channels below i, and 0 for the others
 abbrev pub counts_to : (enable c i : ℕ) → Board → List ℕ
-counts_to enable c i b = givenTo (λ k h. matches_of (bit k enable) c h) 0 i 0 b.timers
+counts_to enable c i b = given_to (λ k h. matches_of (bit k enable) c h) 0 i 0 b.timers
 
 -- the buffer has them, in the record of a pass from index at on, if it has counts
 abbrev pub Counted : (enable c i : ℕ) → Bool → ℕ → Board → List ℕ → List ℕ → Type 0

@@ -10,13 +10,13 @@ use Rattle.channel.specs.declared.HardwareTimer.{HardwareTimer}
 use Rattle.channel.specs.Channel.{fresh_timer}
 use Rattle.channel.specs.Prescaler.{advanced}
 use Rattle.channel.specs.Matches.{matches_of}
-use Rattle.board.proofs.Loops.{mapTo, next_is, map-goes, map-ends, given-starts, given-goes, given-ends}
+use Rattle.board.proofs.Loops.{map_to, next_is, map-goes, map-ends, given-starts, given-goes, given-ends}
 use Rattle.board.proofs.Phases.{phase_next}
 use Rattle.board.proofs.channels.advance_all.Invariants.{after, meets}
 use Rattle.board.proofs.channels.advance_all.Goals as goal
 
 pub loop-i-init : goal.loop-i-init
-unfolding mapTo
+unfolding map_to
 loop-i-init c =
     let a = c.args in
     let w = value_wide c.from_word-none.result 0 (omega (arith, c.from_word-none.type_inv)) c.from_word-none.ensures in (

@@ -8,7 +8,7 @@ use Rattle.wide.specs.Number.{wide_of}
 use Rattle.channel.specs.declared.HardwareTimer.{HardwareTimer}
 use Rattle.channel.specs.Prescaler.{advanced}
 use Rattle.channel.specs.Matches.{matches_of}
-use Rattle.board.proofs.Loops.{mapTo, givenTo}
+use Rattle.board.proofs.Loops.{map_to, given_to}
 use Rattle.board.proofs.channels.advance_all.Given as goal
 
 -- what becomes of a channel, and what it meets
@@ -20,8 +20,8 @@ meets enable c k h = wide_of (matches_of (bit k enable) c h)
 
 abbrev pub invariant-loop-i : goal.invariant-loop-i
 invariant-loop-i l =
-    (l.i ≤ 4) × (length l.out ≡ 4) × (length l.matches ≡ 4) × (l.out ≡ mapTo (after l.timer_enable l.cycles.0) l.i 0 l.initial.out)
-    × (l.matches ≡ givenTo (meets l.timer_enable l.cycles.0) (wide_of 0) l.i 0 l.initial.out)
+    (l.i ≤ 4) × (length l.out ≡ 4) × (length l.matches ≡ 4) × (l.out ≡ map_to (after l.timer_enable l.cycles.0) l.i 0 l.initial.out)
+    × (l.matches ≡ given_to (meets l.timer_enable l.cycles.0) (wide_of 0) l.i 0 l.initial.out)
 
 abbrev pub decreases-loop-i : goal.decreases-loop-i
 decreases-loop-i l = 4 - l.i

@@ -5,12 +5,12 @@ use native.Mathlib.Omega.{arith}
 use lib.ListN.{length, get_or}
 use Rattle.wide.specs.Bits.{bit}
 use Rattle.channel.specs.Channel.{fresh_timer}
-use Rattle.board.proofs.Loops.{mapTo, map-goes, map-ends}
+use Rattle.board.proofs.Loops.{map_to, map-goes, map-ends}
 use Rattle.board.specs.RegisterWrites.{cleared_by}
 use Rattle.regmap.proofs.writes.acknowledged.Goals as goal
 
 pub loop-i-init : goal.loop-i-init
-unfolding mapTo
+unfolding map_to
 loop-i-init c = (search rules, search rules, refl)
 
 pub loop-i-preserved : goal.loop-i-preserved

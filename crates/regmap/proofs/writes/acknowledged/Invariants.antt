@@ -6,12 +6,12 @@ use native.Mathlib.Omega.{arith}
 use lib.ListN.{length, get_or}
 use Rattle.wide.specs.Bits.{bit}
 use Rattle.channel.specs.Channel.{fresh_timer}
-use Rattle.board.proofs.Loops.{mapTo, map-goes, map-ends}
+use Rattle.board.proofs.Loops.{map_to, map-goes, map-ends}
 use Rattle.board.specs.RegisterWrites.{cleared_by}
 use Rattle.regmap.proofs.writes.acknowledged.Given as goal
 
 abbrev pub invariant-loop-i : goal.invariant-loop-i
-invariant-loop-i l = (l.i ≤ 4) × (length l.out ≡ 4) × (l.out ≡ mapTo (λ k h. cleared_by (bit k l.value) h) l.i 0 l.initial.out)
+invariant-loop-i l = (l.i ≤ 4) × (length l.out ≡ 4) × (l.out ≡ map_to (λ k h. cleared_by (bit k l.value) h) l.i 0 l.initial.out)
 
 abbrev pub decreases-loop-i : goal.decreases-loop-i
 decreases-loop-i l = 4 - l.i
