@@ -109,9 +109,9 @@ module _ (t : ℕ) (h : HardwareTimer) where
   abbrev mode : ℕ
   mode = mode_of h.control
 
-  pub no-ticks : t ≡ 0 → matches_in mode (ticked t) h ≡ 0
+  pub no_ticks : t ≡ 0 → matches_in mode (ticked t) h ≡ 0
   unfolding ticked
-  no-ticks e = unmet-by mode (ticked t) h (rw (eq-eqb t 0 e))
+  no_ticks e = unmet-by mode (ticked t) h (rw (eq-eqb t 0 e))
 
   -- the rule of the mode; k is the mode
   by_mode : (k : ℕ) → t ≢ 0 → mode ≡ k → (rule : HardwareTimer → HardwareTimer) →

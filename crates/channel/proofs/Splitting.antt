@@ -46,7 +46,7 @@ use Rattle.channel.proofs.Counting.{
   free-unmet,
   unmet-by,
   matches-same,
-  no-ticks,
+  no_ticks,
   ran-matches,
   still-matches,
 }
@@ -159,7 +159,7 @@ ticked_count : (t : ℕ) (h : HardwareTimer) → matches_in (mode_of h.control) 
 unfolding ticked
 ticked_count t h =
     choose (λ (x : ℕ). matches_in (mode_of h.control) (ticked t) h ≡ x) (eqb t 0)
-    (λ e. no-ticks t h (eqb-true t 0 e))
+    (λ e. no_ticks t h (eqb-true t 0 e))
     (λ e. matches-same mode (ticked t) h (ticked_in mode t) (rw e) (rw e) ∙ mode_count mode t h)
   where
     mode : ℕ

@@ -139,6 +139,7 @@ impl HardwareTimer {
         self.unmet()
     }
 
+    #[tactic(auto, using(crate::proofs::Counting::no_ticks), unfolding(crate::specs::Modes::ticked))]
     pub fn advance(self, ticks: Ticks) -> Advanced
         ensures { (result.timer ≡ ticked ticks.0 self)
             × (value_of result.matches ≡ matches_in (mode_of self.control) (ticked ticks.0) self) }

@@ -6,7 +6,7 @@ use mathlib.Core.Bool.{true, false, not, ◌&&◌}
 use mathlib.Core.Option.{none, some}
 use native.Mathlib.Nat.{mod-eq_of_lt, mod-lt, div-add-mod', mul-le-mul_right, le-div_iff_mul-le}
 use native.Mathlib.Omega.{arith}
-use lib.Dec.{ltb, eqb}
+use lib.Dec.{ltb, leb, eqb}
 use lib.Arith.{digits_div, digits_mod}
 use borrow.Author.Tests.{lt-ltb, le-ltb, le-leb, lt-leb, eq-eqb, ne_eqb, not-true}
 use Rattle.wide.proofs.Choices.{and_parts}
@@ -48,7 +48,8 @@ use Rattle.clock.specs.Registers.{
   cleared,
   acknowledge,
 }
-use Rattle.clock.specs.Sound.{alarm_ahead}
+use Rattle.clock.specs.Sound.{sound_rate, alarm_ahead}
+use Rattle.clock.proofs.Rate.{limit_positive, three-rate}
 
 -- ---- an advance: w whole seconds, and u cycles left
 
@@ -75,17 +76,25 @@ module _ (rate c : ℕ) (k : Clock) where
   unfolding end_advance
   end-checked e = rw e
 
--- poll: n is the sum, p what is left by the limit
+-- poll: n is the sum; below the limit it is its own rest
+module _ (rate n : ℕ) (known : sound_rate rate ≡ true) (z : n / poll_limit rate ≡ 0) where
+  poll_below : n < poll_limit rate
+  poll_below =
+      omega (
+        arith,
+        ap (λ (q : ℕ). q * poll_limit rate) z,
+        mod-lt n {m = poll_limit rate} (limit_positive rate (three-rate rate known)),
+        div-add-mod' n (poll_limit rate),
+      )
+
+  pub poll_short : leb (poll_limit rate) n ≡ false
+  poll_short = lt-leb (poll_limit rate) n poll_below
+
+  pub poll_rest : n % poll_limit rate ≡ n
+  poll_rest = mod-eq_of_lt poll_below
+
+-- p is what is left by the limit
 module _ (rate n : ℕ) (k : Clock) (pos : 0 < poll_limit rate) (p : ℕ) (e : p ≡ n % poll_limit rate) where
-  pub poll-short : n / poll_limit rate ≡ 0 → with_poll p k ≡ polled rate n k
-  poll-short z = rw (lt-leb (poll_limit rate) n below, e, mod-eq_of_lt below)
-    where
-      whole : n / poll_limit rate * poll_limit rate ≡ 0 * poll_limit rate
-      whole = ap (λ (q : ℕ). q * poll_limit rate) z
-
-      below : n < poll_limit rate
-      below = omega (arith, whole, mod-lt n {m = poll_limit rate} pos, div-add-mod' n (poll_limit rate))
-
   pub poll-reached : (n / poll_limit rate ≡ 0 → ⊥) → check_alarm rate (with_poll p k) ≡ polled rate n k
   poll-reached z = rw (le-leb (poll_limit rate) n reached, e)
     where

@@ -86,6 +86,7 @@ impl Clock {
     }
 
     // The end of an advance on a clock that runs from host time and waits for its alarm.
+    #[tactic(auto, using(crate::proofs::Branches::poll_short, crate::proofs::Branches::poll_rest))]
     fn polled(self, cycles: Cycles) -> Self
         requires { Timed (rate_of self) self }
         ensures { result ≡ polled (rate_of self) (self.poll + cycles.0) self }

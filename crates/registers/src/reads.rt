@@ -154,6 +154,7 @@ fn latch_freed(latches: Latches, offset: u32) -> Latches
 }
 
 // The latches after a read that one of them served: it is empty after byte 3.
+#[tactic(auto, unfolding(crate::specs::CodeReads::freed_at))]
 fn freed_at(latches: Latches, offset: u32) -> Latches
     ensures { result ≡ freed_at offset latches }
 {

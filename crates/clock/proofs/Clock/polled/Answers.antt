@@ -1,11 +1,11 @@
 -- `Clock::polled` meets its contract. Assumes nothing.
 use Prim.Native.Nat.{◌+◌}
-use mathlib.Core.Path.{sym, ap, ◌∙◌}
+use mathlib.Core.Path.{ap, ◌∙◌}
 use native.Mathlib.Nat.{mod-lt}
 use native.Mathlib.Omega.{arith}
 use Rattle.clock.specs.declared.Clock.{Clock}
 use Rattle.clock.proofs.Ranges.{timed_same, poll-timed}
-use Rattle.clock.proofs.Branches.{poll-short, poll-reached}
+use Rattle.clock.proofs.Branches.{poll-reached}
 use Rattle.clock.proofs.Rate.{limit_positive, three-rate, limit-period, period-fits}
 use Rattle.clock.specs.Clock.{rate_of, poll_limit, check_alarm}
 use Rattle.clock.proofs.Clock.polled.Goals as goal
@@ -24,16 +24,6 @@ overflow_cast-rest c =
     let p = limit_positive (rate_of k) (three-rate (rate_of k) known) in
     omega (arith, e.1, mod-lt n {m = limit} p, period-fits limit (limit-period (rate_of k) known))
 
-pub returns-then-whole-eq0 : goal.returns-then-whole-eq0
-returns-then-whole-eq0 c =
-    let k = c.args.self in
-    let r = c.elapsed-e in
-    let e = rw c.poll_limit.ensures at r.ensures in
-    c.with_poll-k.ensures
-    ∙ poll-short (rate_of k) (k.poll + c.args.cycles.0) k
-    (limit_positive (rate_of k) (three-rate (rate_of k) c.requires.known)) r.result.rest e.1
-    (sym e.0 ∙ c.if-whole-eq0.true)
-
 pub check_alarm-requires : goal.check_alarm-requires
 check_alarm-requires c =
     let k = c.args.self in
@@ -49,4 +39,4 @@ returns c =
     ∙ ap (λ (j : Clock). check_alarm (rate_of j) j) c.with_poll-k.ensures
     ∙ poll-reached (rate_of k) (k.poll + c.args.cycles.0) k
     (limit_positive (rate_of k) (three-rate (rate_of k) c.requires.known)) r.result.rest e.1
-    (λ z. c.if-whole-eq0.false (e.0 ∙ z))
+    (omega (arith, e.0))
