@@ -83,13 +83,15 @@ advance_refused b c n e f w q = rw (answer-refused (advance_by c) b n e f, q)
 -- the counts of four channels, one by one
 four_given : (f : ℕ → HardwareTimer → ℕ) (ts : List HardwareTimer) → length ts ≡ 4 →
     map_from (λ k h. wide_of (f k h)) 0 ts
-    ≡ wide_of (get_or (map_from f 0 ts) 0 0) ∷ wide_of (get_or (map_from f 0 ts) 1 0) ∷ wide_of (get_or (map_from f 0 ts) 2 0)
+    ≡ wide_of (get_or (map_from f 0 ts) 0 0) ∷ wide_of (get_or (map_from f 0 ts) 1 0) ∷
+    wide_of (get_or (map_from f 0 ts) 2 0)
     ∷ wide_of (get_or (map_from f 0 ts) 3 0) ∷ []
 unfolding map_from
 four_given f =
     by_four
     (λ ts. map_from (λ k h. wide_of (f k h)) 0 ts
-    ≡ wide_of (get_or (map_from f 0 ts) 0 0) ∷ wide_of (get_or (map_from f 0 ts) 1 0) ∷ wide_of (get_or (map_from f 0 ts) 2 0)
+    ≡ wide_of (get_or (map_from f 0 ts) 0 0) ∷ wide_of (get_or (map_from f 0 ts) 1 0) ∷
+    wide_of (get_or (map_from f 0 ts) 2 0)
     ∷ wide_of (get_or (map_from f 0 ts) 3 0) ∷ [])
     (λ _ _ _ _. refl)
 
@@ -123,7 +125,8 @@ pub deadline_refuses : (b : Board) (n : ℕ) (w : Wide) → n ≡ refusal_of b 0
     ≡ deadline_answer (answer_of Deadline b)
 deadline_refuses b n w e f q = rw (answer-refused Deadline b n e f, q)
 
-pub deadline_answers : (b : Board) → refusal_of b 0 ≡ 0 → (m : DeadlineMembers) → m ≡ deadline_given (exact_deadline b) →
+pub deadline_answers : (b : Board) → refusal_of b 0 ≡ 0 → (m : DeadlineMembers) → m
+    ≡ deadline_given (exact_deadline b) →
     record { board = b; refusal = 0; present = m.present; exact = m.exact; word = m.word }
     ≡ deadline_answer (answer_of Deadline b)
 deadline_answers b z m e =

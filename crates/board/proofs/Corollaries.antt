@@ -91,7 +91,8 @@ module _ (b : Board) (f : BoardFits b) (s : sound b ≡ true) (low : line b ≡ 
     (calls : List Call) (w : All PassesTime calls) where
   -- no number of cycles raises the line
   pub low-without-deadline : line (after_all calls b) ≡ false
-  low-without-deadline = line_after b f s low o calls w ∙ ap (λ (x : Option ℕ). due x (cycles_passed calls b)) none_given
+  low-without-deadline = line_after b f s low o calls w
+      ∙ ap (λ (x : Option ℕ). due x (cycles_passed calls b)) none_given
 
   -- or changes source 3's pending bit
   pub kept-without-deadline : source3 (after_all calls b) ≡ source3 b

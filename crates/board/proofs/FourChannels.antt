@@ -64,7 +64,8 @@ module _ (enable : ℕ) where
   unfolding channels_due channel_due fold_from
   due-cons k h ts t =
       rw due-sooner
-      (sym (or_swap (line_of h) (due (deadline_of (bit k enable) h) t) (lines (suc k) ts) (due (deadlines (suc k) ts) t)))
+      (sym (or_swap (line_of h) (due (deadline_of (bit k enable) h) t) (lines (suc k) ts)
+      (due (deadlines (suc k) ts) t)))
 
   pub channels-advance-due : (c k : ℕ) (ts : List HardwareTimer) → All GoodTimer ts → (t : ℕ) →
       channels_due k (advances c k ts) t ≡ channels_due k ts (c + t)

@@ -95,10 +95,13 @@ pub shut_out :
     && not (line (after_all (nine ∷ advance_by 47_999 ∷ []) hosted))))
     ≡ true
 unfolding
-    enabled_of irq_enabled_of disabled sound_timer line_of advanced ticked ticked_in one_shot ticks_to_go deadline_of shifted
-    own_nanoseconds time_of time_seconds alarm_reached check_alarm moved_time end_advance advance_clock sound_rate sound_offset
+    enabled_of irq_enabled_of disabled sound_timer line_of advanced ticked ticked_in one_shot ticks_to_go deadline_of
+    shifted
+    own_nanoseconds time_of time_seconds alarm_reached check_alarm moved_time end_advance advance_clock sound_rate
+    sound_offset
     sound_alarm sound_fields
-    alarm_ahead sound_clock clock_deadline with_bit source_set map_from fold_from line exact_deadline wired sound_parts sound
+    alarm_ahead sound_clock clock_deadline with_bit source_set map_from fold_from line exact_deadline wired
+    sound_parts sound
     moved_board advanced_board
     host_time_refusal answer_of after after_all
 shut_out = refl

@@ -21,7 +21,8 @@ module _ {A B : Type 0} (f : ℕ → A → B) (g : B → B → B) (z : B) where
   fold-starts xs n k e = rw (drop_of_length-le xs {i = n} (omega arith))
 
   -- one turn: v is what the element before i gives, and a what is joined of those from i on
-  pub fold-goes : (xs : List A) (d : A) (i : ℕ) (v a : B) → 0 < i → i ≤ length xs → v ≡ f (i - 1) (get_or xs (i - 1) d) →
+  pub fold-goes : (xs : List A) (d : A) (i : ℕ) (v a : B) → 0 < i → i ≤ length xs → v
+      ≡ f (i - 1) (get_or xs (i - 1) d) →
       a ≡ fold_from f g z i (drop i xs) → g v a ≡ fold_from f g z (i - 1) (drop (i - 1) xs)
   unfolding fold_from
   fold-goes xs d zero v a p l e h = absurd (omega arith)

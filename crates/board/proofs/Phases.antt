@@ -24,5 +24,6 @@ phase_at ts i h e =
 
 -- the same where the channels below i are changed already
 pub phase_next : (f : ℕ → HardwareTimer → HardwareTimer) (ts out : List HardwareTimer) (i : ℕ) → i < length ts →
-    all_sound ts ≡ true → out ≡ map_to f i 0 ts → (get_or out i fresh_timer).phase ≤ (get_or out i fresh_timer).prescaler
+    all_sound ts ≡ true → out ≡ map_to f i 0 ts →
+    (get_or out i fresh_timer).phase ≤ (get_or out i fresh_timer).prescaler
 phase_next f ts out i h e o = rw (o, next_is f fresh_timer i 0 ts) (phase_at ts i h e)

@@ -170,7 +170,8 @@ effect_of Deadline b =
       refusal = 0;
       board = b;
       members =
-          flag_of (is_present (exact_deadline b)) ∷ or_zero (exact_deadline b) ∷ or_zero (word_deadline (exact_deadline b))
+          flag_of (is_present (exact_deadline b)) ∷ or_zero (exact_deadline b) ∷
+          or_zero (word_deadline (exact_deadline b))
           ∷ [];
     }
 -- '06 skip: none → passed 8, line 1'

@@ -7,7 +7,8 @@ use Rattle.channel.specs.Channel.{with_flags}
 use Rattle.channel.specs.Registers.{byte_written}
 use Rattle.clock.specs.declared.Clock.{Clock}
 use Rattle.clock.specs.Clock.{rate_of}
-use Rattle.clock.specs.Registers.{merge_byte, write_control, write_seconds, write_alarm, write_alarm_enable, acknowledge}
+use Rattle.clock.specs.Registers.{merge_byte, write_control, write_seconds, write_alarm, write_alarm_enable}
+use Rattle.clock.specs.Registers.{acknowledge}
 use Rattle.board.specs.declared.Board.{Board}
 use Rattle.board.specs.Loops.{map_from}
 use Rattle.board.specs.Fields.{with_timers, with_timer_enable, with_clock, channel_at, with_channel}

@@ -1,5 +1,6 @@
 -- The compare points that an advance meets, by the rules of a channel's modes. Assumes nothing.
-use Rattle.std.proofs.Common.{◌≡◌, ℕ, ◌+◌, ◌-◌, ◌<◌, ◌≤◌, min, Bool, true, false, cond, ◌&&◌, eqb, ltb, leb, ◌≢◌, refl, ap, ◌∙◌, eq-eqb, ne_eqb, le-leb}
+use Rattle.std.proofs.Common.{◌≡◌, ℕ, ◌+◌, ◌-◌, ◌<◌, ◌≤◌, min, Bool, true, false, cond, ◌&&◌, eqb, ltb, leb, ◌≢◌}
+use Rattle.std.proofs.Common.{refl, ap, ◌∙◌, eq-eqb, ne_eqb, le-leb}
 use borrow.Author.Tests.{lt-leb}
 use Rattle.wide.specs.Number.{largest}
 use Rattle.wide.proofs.Choices.{choose}
@@ -62,7 +63,8 @@ module _ (t : ℕ) (h : HardwareTimer) where
         unmet-by 0 (one_shot t) h (rw (lt-leb h.compare h.counter ahead, lt-leb (h.compare - h.counter) t l))
 
   -- mode 1
-  pub periodic-matches : matches_in 1 (periodic t) h ≡ matches_in 1 matched (with_counter (min (h.counter + t) largest) h)
+  pub periodic-matches : matches_in 1 (periodic t) h
+      ≡ matches_in 1 matched (with_counter (min (h.counter + t) largest) h)
   unfolding matches_in periodic points_met
   periodic-matches = refl
 

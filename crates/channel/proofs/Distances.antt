@@ -1,5 +1,6 @@
 -- Laws of the distance of a free-running channel: its value, and the code's wrapped difference. Assumes nothing.
-use Rattle.std.proofs.Common.{◌≡◌, ℕ, ◌+◌, ◌-◌, ◌%◌, ◌^◌, ◌<◌, ◌≤◌, false, eqb, ltb, leb, ◌≢◌, sym, ap, arith, ltb-false, ltb-true, eqb-true}
+use Rattle.std.proofs.Common.{◌≡◌, ℕ, ◌+◌, ◌-◌, ◌%◌, ◌^◌, ◌<◌, ◌≤◌, false, eqb, ltb, leb, ◌≢◌, sym, ap, arith}
+use Rattle.std.proofs.Common.{ltb-false, ltb-true, eqb-true}
 use borrow.Author.Tests.{eqb-false, lt-leb}
 use Rattle.wide.proofs.Choices.{choose, either}
 use Rattle.channel.specs.Modes.{distance}

@@ -1,5 +1,6 @@
 -- What ticks leave of a channel, and the cases of a byte written to it. Assumes nothing.
-use Rattle.std.proofs.Common.{◌≡◌, ℕ, zero, suc, ◌+◌, ◌-◌, ◌*◌, ◌/◌, ◌%◌, ◌^◌, ◌<◌, min, Bool, true, false, ◌&&◌, eqb, ltb, leb, refl, ap, suc-le-suc, arith, ltb-false, eqb-true, leb-false}
+use Rattle.std.proofs.Common.{◌≡◌, ℕ, zero, suc, ◌+◌, ◌-◌, ◌*◌, ◌/◌, ◌%◌, ◌^◌, ◌<◌, min, Bool, true, false, ◌&&◌, eqb}
+use Rattle.std.proofs.Common.{ltb, leb, refl, ap, suc-le-suc, arith, ltb-false, eqb-true, leb-false}
 use Rattle.wide.specs.Number.{largest}
 use Rattle.wide.specs.Fields.{with_byte}
 use Rattle.wide.proofs.Choices.{choose}

@@ -1,5 +1,8 @@
 -- Laws of the prescaler: the code's quotients are the rule's, and ticks as cycles. Assumes nothing.
-use Rattle.std.proofs.Common.{◌≡◌, ℕ, zero, suc, ◌+◌, ◌-◌, ◌*◌, ◌/◌, ◌%◌, ◌^◌, ◌<◌, ◌≤◌, ltb, leb, ◌↔◌, sym, refl, ap, ◌∙◌, lt_of_lt_of_le, le_of_lt, mod-lt, mod-eq_of_lt, mul-le-mul, le-div_iff_mul-le, zero-add, div-le_self, div-one, sub-one, arith, lit≤, le-ltb, lt-ltb, leb-false, leb-true}
+use Rattle.std.proofs.Common.{◌≡◌, ℕ, zero, suc, ◌+◌, ◌-◌, ◌*◌, ◌/◌, ◌%◌, ◌^◌, ◌<◌, ◌≤◌, ltb, leb, ◌↔◌, sym, refl, ap}
+use Rattle.std.proofs.Common.{◌∙◌, lt_of_lt_of_le, le_of_lt, mod-lt, mod-eq_of_lt, mul-le-mul, le-div_iff_mul-le}
+use Rattle.std.proofs.Common.{zero-add, div-le_self, div-one, sub-one, arith, lit≤, le-ltb, lt-ltb, leb-false}
+use Rattle.std.proofs.Common.{leb-true}
 use mathlib.Core.Option.{Option, none, some}
 use native.Mathlib.Nat.{add-div_right, add-mod_right, div-eq_of_lt, mod-one}
 use Rattle.wide.proofs.Choices.{either, leb_same}
@@ -66,6 +69,7 @@ cycles-passed v p (suc n) t h k =
     back : suc n * v ≤ p + t → v - p + (suc n - 1) * v ≤ t
     back = rw sub-one (λ a. omega arith)
 
-pub due-in_cycles : (v p : ℕ) (a : Option ℕ) (t : ℕ) → p < v → Positive a → due (in_cycles v p a) t ≡ due a ((p + t) / v)
+pub due-in_cycles : (v p : ℕ) (a : Option ℕ) (t : ℕ) → p < v → Positive a → due (in_cycles v p a) t
+    ≡ due a ((p + t) / v)
 due-in_cycles v p none t h k = refl
 due-in_cycles v p (some n) t h k = cycles-passed v p n t h k

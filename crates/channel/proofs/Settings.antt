@@ -154,7 +154,8 @@ pub matches_overdue :
     × (matches_of true 1 (with_counter 5 (in_mode 0)) ≡ 1)
     × (matches_by true (1 ∷ 1 ∷ []) (with_counter 5 (in_mode 0)) ≡ 1)
     × (matches_of true 1 (with_counter 5 (with_reload 2 (in_mode 1))) ≡ 4)
-unfolding matches_in points_met matches_by advanced ticked ticked_in one_shot periodic matched reloaded enabled_of disabled
+unfolding matches_in points_met matches_by advanced ticked ticked_in one_shot periodic matched reloaded enabled_of
+    disabled
 matches_overdue = (refl, refl, refl, refl)
 
 -- D: none after 2^64 − 1 ticks, one at the next, and none after it
@@ -197,7 +198,8 @@ step_of prescaler phase c =
 
 -- prescaler 0: each cycle is a tick; a phase above 0 would add ticks, and no sound channel has one
 pub steps_by_one :
-    (step_of 0 0 0 ≡ (0, 0)) × (step_of 0 0 1 ≡ (1, 0)) × (step_of 0 0 largest ≡ (largest, 0)) × (step_of 0 5 1 ≡ (6, 0))
+    (step_of 0 0 0 ≡ (0, 0)) × (step_of 0 0 1 ≡ (1, 0)) × (step_of 0 0 largest ≡ (largest, 0))
+    × (step_of 0 5 1 ≡ (6, 0))
 steps_by_one = (refl, refl, refl, refl)
 
 -- the largest prescaler, with phase 0: none, one, a cycle less than a tick, a tick, and the largest number of cycles

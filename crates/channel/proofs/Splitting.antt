@@ -1,6 +1,9 @@
 -- An advance in parts: the counts of its parts add up to its own, and the next compare point follows from the count.
 -- Assumes nothing.
-use Rattle.std.proofs.Common.{◌≡◌, ℕ, zero, suc, ◌+◌, ◌-◌, ◌*◌, ◌/◌, ◌%◌, ◌^◌, ◌<◌, ◌≤◌, min, Bool, true, false, cond, ◌&&◌, eqb, ltb, leb, ◌≢◌, List, [], ◌∷◌, sym, refl, ap, ◌∙◌, add-zero, add_assoc, mul-le-mul, zero-add, div-le_self, div-mul-le_self, arith, ltb-true, eq-eqb, ne_eqb, eqb-true, le-leb, leb-false, leb-true}
+use Rattle.std.proofs.Common.{◌≡◌, ℕ, zero, suc, ◌+◌, ◌-◌, ◌*◌, ◌/◌, ◌%◌, ◌^◌, ◌<◌, ◌≤◌, min, Bool, true, false, cond}
+use Rattle.std.proofs.Common.{◌&&◌, eqb, ltb, leb, ◌≢◌, List, [], ◌∷◌, sym, refl, ap, ◌∙◌, add-zero, add_assoc}
+use Rattle.std.proofs.Common.{mul-le-mul, zero-add, div-le_self, div-mul-le_self, arith, ltb-true, eq-eqb, ne_eqb}
+use Rattle.std.proofs.Common.{eqb-true, le-leb, leb-false, leb-true}
 use native.Mathlib.Nat.{mul-add-div_right, div-eq_of_lt-le, div-eq_of_lt}
 use mathlib.Core.Bool.{false≢true}
 use borrow.Author.Tests.{lt-leb, eqb-false}
@@ -323,7 +326,8 @@ matches_most selected c h =
 
 module _ (selected : Bool) (c d : ℕ) (h : HardwareTimer) (f : TimerFits h) where
   -- the counts of two advances, one after the other, are the count of one
-  pub matches-add : matches_of selected c h + matches_of selected d (advanced selected c h) ≡ matches_of selected (c + d) h
+  pub matches-add : matches_of selected c h + matches_of selected d (advanced selected c h)
+      ≡ matches_of selected (c + d) h
   unfolding advanced
   matches-add =
       choose (λ (x : HardwareTimer). matches_of selected c h + matches_of selected d x ≡ matches_of selected (c + d) h)

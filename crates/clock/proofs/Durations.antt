@@ -61,7 +61,8 @@ module _ (a n b m : ℕ) (p : n < nanos_per_second) (q : m < nanos_per_second) w
   pub nothing_left : ltb (in_nanoseconds a n) (in_nanoseconds b m) ≡ true →
       DurationIs (in_nanoseconds a n - in_nanoseconds b m) (record { seconds = 0; nanoseconds = 0 })
   nothing_left h =
-      let o = ltb-true (in_nanoseconds a n) (in_nanoseconds b m) h in record { total = omega arith; small = omega arith }
+      let o = ltb-true (in_nanoseconds a n) (in_nanoseconds b m) h in
+      record { total = omega arith; small = omega arith }
 
 -- ---- the signed difference
 

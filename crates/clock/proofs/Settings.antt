@@ -121,8 +121,10 @@ settings =
     && not (signed_difference 5 5).negative)
 
 settings_hold : settings ≡ true
-unfolding settings rates_row after with_armed is_some seconds_bytes alarm_bytes f g seven nine ahead sound_rate with_byte
-    shifted own_nanoseconds time_of time_seconds alarm_reached check_alarm moved_time end_advance advance_clock clock_deadline
+unfolding settings rates_row after with_armed is_some seconds_bytes alarm_bytes f g seven nine ahead sound_rate
+    with_byte
+    shifted own_nanoseconds time_of time_seconds alarm_reached check_alarm moved_time end_advance advance_clock
+    clock_deadline
     signed_difference set_time time_kept change_control write_control marked shadow_byte offset_for commit_seconds
     write_seconds commit_alarm write_alarm time_nanoseconds
 settings_hold = refl

@@ -91,7 +91,10 @@ module _ (call : Call) (l : List ℕ) (room : ℕ) {n : Lengths} {q : Bool} (e :
     unfolding framed_as
     as-framed =
         let h = whole (tag_of call) l e p f in
-        rw ((tests (tag_of call) l e p f).0, le-ltb (length l - header_length) (value_length (tag_of call)) (omega arith))
+        rw (
+          (tests (tag_of call) l e p f).0,
+          le-ltb (length l - header_length) (value_length (tag_of call)) (omega arith),
+        )
 
     pub as_own : (own ≡ 0 → ⊥) → refused_by own ≡ here
     unfolding valued
@@ -128,7 +131,8 @@ module _ (l : List ℕ) (room : ℕ) where
   decoded-unknown h k = rw (le-ltb (length l) header_length h, k)
 
   pub as-tag : header_length ≤ length l → {tag : ℕ} → tag_at l ≡ tag → known tag ≡ true →
-      framed_as (value_length tag) (call_of tag (members_at l header_length (row_of tag).value)) l room ≡ decoded_of l room
+      framed_as (value_length tag) (call_of tag (members_at l header_length (row_of tag).value)) l room
+      ≡ decoded_of l room
   unfolding frame_refusal framed_as decoded_of
   as-tag h {tag} e k =
       rw (le-ltb (length l) header_length h, e, k)

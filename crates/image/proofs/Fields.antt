@@ -113,7 +113,8 @@ pub channels_stored : (ts : List HardwareTimer) → length ts ≡ 4 → (x y z u
     v ≡ sets u 114 (channel_bytes ts 3) → v ≡ sets x 0 (channels_bytes ts)
 unfolding fields_bytes
 channels_stored ts four x y z u v e f g h =
-    let last : v ≡ sets u 114 (channel_bytes ts 3 ++ []) = h ∙ ap (sets u 114) (sym (append-nil (channel_bytes ts 3))) in
+    let last : v ≡ sets u 114 (channel_bytes ts 3 ++ []) = h
+    ∙ ap (sets u 114) (sym (append-nil (channel_bytes ts 3))) in
     stored_then x y v 0 38 38 (channel_bytes ts 0) _ e (field-length channel_field _) refl
     (stored_then y z v 38 76 38 (channel_bytes ts 1) _ f (field-length channel_field _) refl
     (stored_then z u v 76 114 38 (channel_bytes ts 2) _ g (field-length channel_field _) refl last))

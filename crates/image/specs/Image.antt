@@ -2,7 +2,8 @@
 -- 21 timer enable to host nanoseconds, 22 latches, 23 controller. A field is tag, two-byte length, and the members in
 -- document 01's order and widths, big-endian.' S-8, 'Parked boards with a rate': this is the old form, and 'The new
 -- form begins with a field, tag 24, four bytes of rate.'
-use Rattle.std.specs.Prelude.{ℕ, ◌+◌, Bool, true, cond, ◌&&◌, ◌||◌, List, [], ◌∷◌, ◌++◌, map, length, get_or, drop, leb, eqb}
+use Rattle.std.specs.Prelude.{ℕ, ◌+◌, Bool, true, cond, ◌&&◌, ◌||◌, List, [], ◌∷◌, ◌++◌, map, length, get_or, drop}
+use Rattle.std.specs.Prelude.{leb, eqb}
 use Rattle.wide.specs.Bits.{flag_of}
 use Rattle.wide.specs.Fields.{be_at}
 use Rattle.format.specs.Format.{sum, header_length, members_at, members_bytes, record_of}

@@ -189,7 +189,8 @@ module _ (list buf₀ : List ℕ) (s₀ : Outcome) (buf : List ℕ) (b : Board) 
 
     -- the run goes on behind it
     pub goes_on : ((i : ℕ) → get_or l i 0 < 256) → (b' : Board) → b' ≡ board_after (call_at l) b → (buf' : List ℕ) →
-        buf' ≡ sets buf written (answer_record (call_at l) b) → (used' size : ℕ) → used' ≡ used + call_length (call_at l) →
+        buf' ≡ sets buf written (answer_record (call_at l) b) → (used' size : ℕ) → used' ≡ used
+        + call_length (call_at l) →
         size ≡ record_length (call_at l) → Running list buf₀ s₀ buf' (state_of b' (calls + 1) used' (written + size))
     unfolding stepped
     goes_on bytes b' e buf' w used' size p q =

@@ -10,7 +10,8 @@ use lib.Dec.{leb, eqb}
 use Rattle.wide.specs.Fields.{be_at, be, with_byte}
 use Rattle.channel.specs.declared.HardwareTimer.{HardwareTimer}
 use Rattle.channel.specs.Channel.{fresh_timer, enabled_of, irq_enabled_of, disabled, sound_timer, line_of}
-use Rattle.channel.specs.Channel.{with_control as timer_control, with_counter, with_compare, with_reload, with_prescaler}
+use Rattle.channel.specs.Channel.{with_control as timer_control, with_counter, with_compare, with_reload}
+use Rattle.channel.specs.Channel.{with_prescaler}
 use Rattle.channel.specs.Channel.{with_flags}
 use Rattle.channel.specs.Prescaler.{advanced}
 use Rattle.channel.specs.Matches.{points_met, matches_in}
@@ -33,11 +34,13 @@ use Rattle.board.specs.declared.calls.Call.TheVariants.{Read, Write, Skip, Contr
 use Rattle.board.specs.Loops.{map_from, fold_from}
 use Rattle.board.specs.Fields.{fresh_board_at, fresh_board, with_timers, with_timer_enable, with_clock}
 use Rattle.board.specs.Board.{line, exact_deadline, wired, sound_parts, sound}
-use Rattle.board.specs.Calls.{effect_of, board_after, answer_of, address_refusal, moved_board, advanced_board, advance_by}
+use Rattle.board.specs.Calls.{effect_of, board_after, answer_of, address_refusal, moved_board, advanced_board}
+use Rattle.board.specs.Calls.{advance_by}
 use Rattle.board.specs.Calls.{fresh_of}
 use Rattle.board.specs.Demand.{source3}
 use Rattle.board.specs.RegisterWords.{timer_word, clock_word, live_word}
-use Rattle.board.specs.RegisterReads.{read_live, read_count_high, read_channel, seconds_latched, read_low, read_high, read_at}
+use Rattle.board.specs.RegisterReads.{read_live, read_count_high, read_channel, seconds_latched, read_low, read_high}
+use Rattle.board.specs.RegisterReads.{read_at}
 use Rattle.board.specs.RegisterWrites.{timer_written, clock_written, written_at}
 use Rattle.format.specs.Format.{members_at, members_bytes, record_of}
 use Rattle.format.specs.Codec.{frame_refusal, call_of, refusal_at}
@@ -260,14 +263,21 @@ settings =
 
 pub settings_hold : settings ≡ true
 unfolding
-    skipped at_rate seconds setting_i setting_j low_count steady worked gives same settings be_at be with_byte enabled_of
-    irq_enabled_of disabled sound_timer line_of advanced points_met matches_in one_shot reloaded matched periodic distance
+    skipped at_rate seconds setting_i setting_j low_count steady worked gives same settings be_at be with_byte
+    enabled_of
+    irq_enabled_of disabled sound_timer line_of advanced points_met matches_in one_shot reloaded matched periodic
+    distance
     free_running ticked_in ticked ticks_to_go deadline_of word_of control_written byte_written shifted own_nanoseconds
-    time_of time_seconds alarm_reached check_alarm moved_time end_advance advance_clock sound_rate sound_offset sound_alarm
-    sound_fields alarm_ahead sound_clock clock_deadline signed_difference set_time time_kept change_control write_control
+    time_of time_seconds alarm_reached check_alarm moved_time end_advance advance_clock sound_rate sound_offset
+    sound_alarm
+    sound_fields alarm_ahead sound_clock clock_deadline signed_difference set_time time_kept change_control
+    write_control
     marked shadow_byte offset_for commit_seconds write_seconds time_nanoseconds with_bit without source_set output_of
-    lowest_from controller_written pending_cleared map_from fold_from line exact_deadline wired sound_parts sound answer_of
-    fresh_of moved_board advanced_board timer_word clock_word live_word read_live read_count_high read_channel seconds_latched
-    read_low read_high read_at timer_written clock_written written_at address_refusal members_at frame_refusal members_bytes
+    lowest_from controller_written pending_cleared map_from fold_from line exact_deadline wired sound_parts sound
+    answer_of
+    fresh_of moved_board advanced_board timer_word clock_word live_word read_live read_count_high read_channel
+    seconds_latched
+    read_low read_high read_at timer_written clock_written written_at address_refusal members_at frame_refusal
+    members_bytes
     record_of call_of refusal_at result_of stepped run_on run_of
 settings_hold = refl

@@ -30,7 +30,8 @@ skip_drop (suc k) (x ∷ l) = skip_drop k l
 
 -- a whole answer is printed, and then those behind it
 pub next_line : (l : List ℕ) → 3 + length_at l ≤ length l →
-    answer_lines l ≡ answer_line (get_or l 0 0) (take (length_at l) (drop 3 l)) ++ answer_lines (drop (3 + length_at l) l)
+    answer_lines l ≡ answer_line (get_or l 0 0) (take (length_at l) (drop 3 l))
+    ++ answer_lines (drop (3 + length_at l) l)
 unfolding lines_on
 next_line [] h = absurd (omega arith)
 next_line (x ∷ rest) h =

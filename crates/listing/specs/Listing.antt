@@ -1,5 +1,6 @@
 -- Document 01, 'The call list': the text that `listrun` prints of a run's answers and of its end.
-use Rattle.std.specs.Prelude.{ℕ, zero, suc, ◌+◌, ◌/◌, List, [], ◌∷◌, ◌++◌, true, false, cond, length, take, drop, ltb, leb}
+use Rattle.std.specs.Prelude.{ℕ, zero, suc, ◌+◌, ◌/◌, List, [], ◌∷◌, ◌++◌, true, false, cond, length, take, drop, ltb}
+use Rattle.std.specs.Prelude.{leb}
 use Prim.Native.String.{String, [] as none, ◌∷◌ as ◌then◌}
 use Prim.Native.Char.{code}
 use Rattle.wide.specs.Fields.{be_at}
@@ -64,7 +65,8 @@ answer_lines answers = lines_on 0 answers
 -- 'last `end`, calls done, refusal, list bytes used, in decimal'
 unfoldable pub end_line : ℕ → ℕ → ℕ → List ℕ
 end_line calls refusal used =
-    ascii "end " ++ decimal_text calls ++ ascii " " ++ decimal_text refusal ++ ascii " " ++ decimal_text used ++ ascii "\n"
+    ascii "end " ++ decimal_text calls ++ ascii " " ++ decimal_text refusal ++ ascii " " ++ decimal_text used
+    ++ ascii "\n"
 
 unfoldable pub listing_of : List ℕ → ℕ → ℕ → ℕ → List ℕ
 listing_of answers calls refusal used = answer_lines answers ++ end_line calls refusal used

@@ -38,8 +38,10 @@ pub example_printed :
     ∷ 0x0A ∷ 0x00 ∷ 0x00 ∷ 0xFF ∷ [])
     ≡ ascii "02 01\n04 00" ++ replicate 128 48 ++ ascii "\n0a 0000\nend 3 2 19\n"
 unfolding
-    be_at be enabled_of sound_timer line_of advanced matches_in alarm_reached check_alarm moved_time end_advance advance_clock
-    sound_rate sound_offset sound_alarm sound_fields alarm_ahead sound_clock with_bit source_set output_of lowest_from map_from
+    be_at be enabled_of sound_timer line_of advanced matches_in alarm_reached check_alarm moved_time end_advance
+    advance_clock
+    sound_rate sound_offset sound_alarm sound_fields alarm_ahead sound_clock with_bit source_set output_of lowest_from
+    map_from
     fold_from line exact_deadline wired sound_parts sound moved_board advanced_board clock_word live_word read_live
     read_at address_refusal members_at frame_refusal members_bytes record_of call_of refusal_at result_of stepped run_on
     run_of ascii places_of decimal_text bytes_text value_text answer_line lines_on end_line listing_of listed printed_of

@@ -18,4 +18,5 @@ listed run = listing_of run.answers run.outcome.calls run.outcome.refusal run.ou
 
 -- 'else prints `too long`; fresh board, answer buffer 32,768'
 unfoldable pub printed_of : List ℕ → List ℕ
-printed_of list = cond (ltb list_limit (length list)) (ascii "too long\n") (listed (run_of fresh_board list answer_room))
+printed_of list = cond (ltb list_limit (length list)) (ascii "too long\n")
+    (listed (run_of fresh_board list answer_room))

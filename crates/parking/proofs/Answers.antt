@@ -96,7 +96,8 @@ module _ (l : List ℕ) (long : length l ≡ image_length New) where
   rest-said = ap (said Old) (part_rest l 7) ∙ said-behind l 7 0 layout
 
   pub new-read : (rate : ℕ) (ahead : Bool) → rate ≡ get_or (members_in rate_field l 0) 0 0 →
-      ahead ≡ field_at l 0 rate_field → members_read New rate (ahead && formed Old rest) (said Old rest) ≡ reading_in New l
+      ahead ≡ field_at l 0 rate_field → members_read New rate (ahead && formed Old rest) (said Old rest)
+      ≡ reading_in New l
   unfolding reading_in form_refusal members_read fields_at members_from
   new-read rate ahead r e =
       ap (λ (n : ℕ). members_read New n (ahead && formed Old rest) (said Old rest)) r
@@ -236,7 +237,8 @@ new_never_16 b room =
 -- of a move: what its image is refused with is 12 or 1
 image_never : (k : ℕ) → Never k 0 → Never k 1 → Never k 12 → (f : Form) (l : List ℕ) → Never k (form_refusal f l)
 unfolding form_refusal
-image_never k p q r f l = choose (Never k) (formed f l) (λ _. choose (Never k) (sound_in f l) (λ _. p) (λ _. q)) (λ _. r)
+image_never k p q r f l = choose (Never k) (formed f l) (λ _. choose (Never k) (sound_in f l) (λ _. p) (λ _. q))
+    (λ _. r)
 
 pub move_never_15 : (to : Form) (l : List ℕ) (room : ℕ) → Never another_rate (move_refusal to l room)
 unfolding move_refusal

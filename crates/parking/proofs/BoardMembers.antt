@@ -133,7 +133,8 @@ timer-members : (ms : List ℕ) → FieldFit channel_field ms → timer_members 
 timer-members ms fit =
     rw (flag-kept channel_field ms fit 6 refl, flag-kept channel_field ms fit 7 refl) (all-kept channel_field ms fit)
 
-clock-members : (rate : ℕ) (ms : List ℕ) → FieldFit clock_field ms → clock_members (get_or ms 0 0) (clock_from rate ms) ≡ ms
+clock-members : (rate : ℕ) (ms : List ℕ) → FieldFit clock_field ms →
+    clock_members (get_or ms 0 0) (clock_from rate ms) ≡ ms
 clock-members rate ms fit =
     rw (
       flag-kept clock_field ms fit 4 refl,

@@ -152,7 +152,8 @@ move_already l room e =
 
 -- an accepted image whose rate the form takes is moved to it, where there is room
 pub move_accepted : (to : Form) (l : List ℕ) (room : ℕ) → form_refusal (other_form to) l ≡ 0 →
-    form_takes to (rate_of (board_in (other_form to) l).clock) ≡ true → image_length to ≤ room → move_refusal to l room ≡ 0
+    form_takes to (rate_of (board_in (other_form to) l).clock) ≡ true → image_length to ≤ room →
+    move_refusal to l room ≡ 0
 unfolding move_refusal
 move_accepted to l room e t h = rw (e, t, le-ltb room (image_length to) h) refl
 

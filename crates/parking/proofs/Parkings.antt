@@ -83,7 +83,8 @@ same (parking f ∷ calls) cs b g =
 
 -- the deadline that a sound board gives keeps what is promised of it, with parkings between the calls
 pub parking_demand_3 : (b : Board) → BoardFits b →
-    ParkingPromise b (is_present (exact_deadline b)) (or_zero (exact_deadline b)) (or_zero (word_deadline (exact_deadline b)))
+    ParkingPromise b (is_present (exact_deadline b)) (or_zero (exact_deadline b))
+    (or_zero (word_deadline (exact_deadline b)))
 parking_demand_3 b f s low o calls cs =
     let m = same calls cs b (good b f s) in
     subst (λ (t : ℕ). P t (after_parkings calls b)) (sym m.count)
@@ -92,5 +93,6 @@ parking_demand_3 b f s low o calls cs =
   where
     P : ℕ → Board → Type 0
     P t end =
-        PromiseAfter (is_present (exact_deadline b)) (or_zero (exact_deadline b)) (or_zero (word_deadline (exact_deadline b)))
+        PromiseAfter (is_present (exact_deadline b)) (or_zero (exact_deadline b))
+        (or_zero (word_deadline (exact_deadline b)))
         b t end

@@ -120,7 +120,8 @@ module _ (f : Form) (b : Board) (s : sound b ≡ true) (t : form_takes f (rate_o
   pub image-accepted : form_refusal f (image_of f b) ≡ 0
   image-accepted =
       no_refusal f (image_of f b) image-formed
-      (and_join (empties_in f (image_of f b)) (sound (board_in f (image_of f b))) empties-said (ap sound board-said ∙ s))
+      (and_join (empties_in f (image_of f b)) (sound (board_in f (image_of f b))) empties-said
+      (ap sound board-said ∙ s))
 
   pub read-back-in : reading_in f (image_of f b) ≡ record { board = b; form = f; refusal = 0 }
   read-back-in =

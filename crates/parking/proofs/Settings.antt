@@ -241,7 +241,8 @@ pub readings :
     × (read (fresh_in Old 48_000_000 ++ (0 ∷ [])) ≡ 0 ∷ 12 ∷ [])
 unfolding
     sound sound_parts line fold_from line_of sound_timer sound_rate sound_offset sound_alarm sound_fields alarm_ahead
-    sound_clock image_of fields_bytes field_bytes record_of members_bytes be be_at members_at flags_hold field_at fields_at
+    sound_clock image_of fields_bytes field_bytes record_of members_bytes be be_at members_at flags_hold field_at
+    fields_at
     members_from board_from form_refusal form_of reading_refusal
 readings = (refl, refl, refl, refl, refl, refl, refl, refl, refl, refl, refl, refl, refl, refl)
 
@@ -261,6 +262,7 @@ pub moves :
     × (moved_image Old (fresh_in New 48_000_000) ≡ fresh_in Old 48_000_000)
 unfolding
     sound sound_parts line fold_from line_of sound_timer sound_rate sound_offset sound_alarm sound_fields alarm_ahead
-    sound_clock image_of fields_bytes field_bytes record_of members_bytes be be_at members_at flags_hold field_at fields_at
+    sound_clock image_of fields_bytes field_bytes record_of members_bytes be be_at members_at flags_hold field_at
+    fields_at
     members_from board_from form_refusal move_refusal
 moves = (refl, refl, refl, refl, refl, refl, refl, refl, refl, refl, refl)

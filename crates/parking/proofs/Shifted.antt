@@ -51,7 +51,8 @@ module _ (l : List ℕ) (n : ℕ) where
   said-behind at [] = refl
   said-behind at (f ∷ fs) =
       ap₂ ◌∷◌ (field-behind at f)
-      (said-behind (at + field_length f) fs ∙ ap (λ (k : ℕ). members_from l k fs) (sym (add_assoc n at (field_length f))))
+      (said-behind (at + field_length f) fs
+      ∙ ap (λ (k : ℕ). members_from l k fs) (sym (add_assoc n at (field_length f))))
 
 module _ (l : List ℕ) (n : ℕ) (h : n ≤ length l) where
   stands-behind : (at : ℕ) (f : Field) → field_at (drop n l) at f ≡ field_at l (n + at) f

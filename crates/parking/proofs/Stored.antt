@@ -153,7 +153,8 @@ field_of l bytes at f s =
     let same : sum (headed f) ≡ field_length f = omega arith in
     headed_bytes f ms
     ∙ ap₂ (λ (t n : ℕ). members_bytes (headed f) (t ∷ n ∷ ms)) (sym s.tag) (sym s.size)
-    ∙ ap (λ (n : ℕ). members_bytes (headed f) (be_at l at 1 ∷ be_at l (at + 1) 2 ∷ members_at l n (widths_of f.members)))
+    ∙ ap (λ (n : ℕ). members_bytes (headed f)
+    (be_at l at 1 ∷ be_at l (at + 1) 2 ∷ members_at l n (widths_of f.members)))
     (behind at)
     ∙ members-of l bytes at (headed f) (omega (arith, s.room))
     ∙ ap (λ (n : ℕ). take n (drop at l)) same

@@ -46,4 +46,5 @@ ran_at rate l buffer = unless_refused rate (λ b. ran l (started_on b buffer)) b
 
 -- a run of a list, and then of another `times` times
 unfoldable pub repeats_at : ℕ → List ℕ → List ℕ → ℕ → List ℕ → Held
-repeats_at rate first l times buffer = unless_refused rate (λ b. repeats times l (ran first (started_on b buffer))) buffer
+repeats_at rate first l times buffer = unless_refused rate (λ b. repeats times l (ran first (started_on b buffer)))
+    buffer

@@ -102,8 +102,10 @@ pub rows :
     × (shown (controlled 5 unsound) (30 ∷ 30 ∷ 30 ∷ []) 2 ≡ 1 ∷ 7 ∷ 7 ∷ [])
     × (shown (controlled 4 setting_a) (30 ∷ 29 ∷ []) 2 ≡ 0 ∷ 1 ∷ 0 ∷ [])
 unfolding
-    enabled_of irq_enabled_of disabled sound_timer line_of advanced one_shot distance free_running ticked_in ticked shifted
-    own_nanoseconds time_of time_seconds alarm_reached check_alarm moved_time end_advance advance_clock sound_rate sound_offset
+    enabled_of irq_enabled_of disabled sound_timer line_of advanced one_shot distance free_running ticked_in ticked
+    shifted
+    own_nanoseconds time_of time_seconds alarm_reached check_alarm moved_time end_advance advance_clock sound_rate
+    sound_offset
     sound_alarm sound_fields alarm_ahead sound_clock with_bit source_set map_from fold_from line wired sound_parts sound
     moved_board advanced_board preview_refusal preview_of previewed_buffer
 rows = (refl, refl, refl, refl, refl, refl, refl, refl, refl, refl, refl, refl, refl, refl, refl, refl)

@@ -1,5 +1,6 @@
 -- Laws of what a record is compared with: the buffer after a run, and the results. Assumes nothing.
-use Rattle.std.proofs.Common.{◌≡◌, ℕ, ◌<◌, Bool, true, false, List, ◌++◌, length, take, drop, sym, refl, ap, ◌∙◌, arith, length-append, take-append-drop, eq-eqb, eqb-true}
+use Rattle.std.proofs.Common.{◌≡◌, ℕ, ◌<◌, Bool, true, false, List, ◌++◌, length, take, drop, sym, refl, ap, ◌∙◌}
+use Rattle.std.proofs.Common.{arith, length-append, take-append-drop, eq-eqb, eqb-true}
 use mathlib.Core.Bool.{false≢true}
 use lib.Seq.{take-append_seam, drop-append_seam}
 use Rattle.wide.proofs.Choices.{and_parts}

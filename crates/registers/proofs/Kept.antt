@@ -29,10 +29,13 @@ use Rattle.board.specs.declared.calls.Call.TheVariants.{HostTime, Read, Write, A
 use Rattle.board.specs.declared.calls.Call.TheVariants.{ControllerRead, ControllerWrite, Output}
 use Rattle.board.specs.Fields.{channel_at, with_channel, count_latch, with_count_latch, with_clock_latches}
 use Rattle.board.specs.Board.{held_of, LatchFits, CountFits, BoardFits, sound}
-use Rattle.board.specs.Registers.{base, timer_enable_at, timer_ack_at, clock_control_at, seconds_low_at, seconds_high_at}
-use Rattle.board.specs.Registers.{alarm_low_at, alarm_high_at, alarm_enable_at, clock_ack_at, in_register, in_timers, in_clock}
+use Rattle.board.specs.Registers.{base, timer_enable_at, timer_ack_at, clock_control_at, seconds_low_at}
+use Rattle.board.specs.Registers.{seconds_high_at}
+use Rattle.board.specs.Registers.{alarm_low_at, alarm_high_at, alarm_enable_at, clock_ack_at, in_register, in_timers}
+use Rattle.board.specs.Registers.{in_clock}
 use Rattle.board.specs.Registers.{in_channels, register_of, byte_of, channel_of, place_of}
-use Rattle.board.specs.RegisterReads.{Read as ByteRead, read_live, freed, read_count_high, read_channel, seconds_latched}
+use Rattle.board.specs.RegisterReads.{Read as ByteRead, read_live, freed, read_count_high, read_channel}
+use Rattle.board.specs.RegisterReads.{seconds_latched}
 use Rattle.board.specs.RegisterReads.{read_low, read_high, read_at}
 use Rattle.board.specs.RegisterWrites.{cleared_by, acknowledged, timer_written, clock_written, written_at}
 use Rattle.board.specs.Calls.{CallFits, answer_of}

@@ -87,7 +87,8 @@ module _ (h : HardwareTimer) (shared : ℕ) (k : Clock) (ls : Latches) (o : ℕ)
       ≡ record {
         byte = byte_of_word 0 (low_word (time_seconds (rate_of k) k));
         latches =
-            with_seconds (Held (low_word (time_seconds (rate_of k) k))) (Held (high_word (time_seconds (rate_of k) k))) ls;
+            with_seconds (Held (low_word (time_seconds (rate_of k) k)))
+            (Held (high_word (time_seconds (rate_of k) k))) ls;
         pending = k.alarm.pending;
         armed = k.alarm.armed;
         rose = false;
@@ -119,7 +120,8 @@ module _ (o : ℕ) (p : plain_at o ≡ true) where
   plain-range = bounds channel_blocks o plain_in
 
   -- neither word of a count
-  plain-not : (eqb (register_of (place_of o)) count_low_at ≡ false) × (eqb (register_of (place_of o)) count_high_at ≡ false)
+  plain-not : (eqb (register_of (place_of o)) count_low_at ≡ false)
+      × (eqb (register_of (place_of o)) count_high_at ≡ false)
   unfolding plain_at
   plain-not =
       let low = eqb (register_of (place_of o)) count_low_at in

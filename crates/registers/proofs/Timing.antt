@@ -14,7 +14,8 @@ pub sound_times : (b : Board) → ClockFits b.clock → sound b ≡ true → Tim
 sound_times b f s = clock-timed (rate_of b.clock) b.clock (sound_facts b s).rate (clock_facts b f s)
 
 -- the alarm check leaves what the time is made of
-pub check_timed : (k : Clock) → Timed (rate_of k) k → Timed (rate_of (check_alarm (rate_of k) k)) (check_alarm (rate_of k) k)
+pub check_timed : (k : Clock) → Timed (rate_of k) k →
+    Timed (rate_of (check_alarm (rate_of k) k)) (check_alarm (rate_of k) k)
 unfolding check_alarm
 check_timed k t =
     choose (λ (j : Clock). Timed (rate_of j) j) (alarm_reached (rate_of k) k)

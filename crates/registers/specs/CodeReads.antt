@@ -165,7 +165,8 @@ after_reading r b =
 unfoldable pub plain_at : ℕ → Bool
 plain_at offset =
     in_channels offset
-    && (not (eqb (register_of (place_of offset)) count_low_at) && not (eqb (register_of (place_of offset)) count_high_at))
+    && (not (eqb (register_of (place_of offset)) count_low_at)
+    && not (eqb (register_of (place_of offset)) count_high_at))
 
 -- a reading without its latches
 abbrev pub plain_of : LatchedReading → PlainReading

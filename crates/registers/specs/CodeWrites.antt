@@ -1,6 +1,6 @@
--- Not document 01's sentences: what the code computes for a write. It is the part of the board that a byte written at
--- an offset changes, and the board with that part changed. The rule is `written_at` of crates/board, and `written_is` of
--- proofs/CodeWrites.antt shows that the board here is the rule's.
+-- Not document 01's sentences: what the code computes for a write. It is the part of the board that a byte written
+-- at an offset changes, and the board with that part changed. The rule is `written_at` of crates/board, and
+-- `written_is` of proofs/CodeWrites.antt shows that the board here is the rule's.
 use Rattle.std.specs.Prelude.{ℕ, ◌%◌, Bool, true, false, cond, ltb, eqb}
 use Rattle.channel.specs.Registers.{byte_written}
 use Rattle.clock.specs.Registers.{merge_byte}

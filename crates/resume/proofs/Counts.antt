@@ -97,7 +97,8 @@ advance_counts b first one room c f bytes h z y i k =
     let at = (run_of b first room).outcome.board in
     let four = (run_fits b first room f (bytes_before first one bytes)).four in
     ap (count_in i)
-    (ap (drop (length (run_of b first room).answers)) ((run_call b first one [] room (advance_by c) f bytes h z).answer y)
+    (ap (drop (length (run_of b first room).answers))
+    ((run_call b first one [] room (advance_by c) f bytes h z).answer y)
     ∙ drop-append_seam (run_of b first room).answers (answer_record (advance_by c) at)
     ∙ sym (append-nil (answer_record (advance_by c) at)))
     ∙ counts-answered c at four [] i k

@@ -64,7 +64,8 @@ module _ (b : Board) (one : List ℕ) (room : ℕ) (call : Call) (s : sound b �
       }
   unfolding run_of run_on
   alone-done z =
-      let e : result_of b one (room - length {A = ℕ} []) ≡ done (board_after call b) (call_length call) (answer_record call b) =
+      let e : result_of b one (room - length {A = ℕ} [])
+      ≡ done (board_after call b) (call_length call) (answer_record call b) =
       all_left ∙ result-done b one room z
       ∙ ap (λ (k : Call). done (board_after k b) (call_length k) (answer_record k b)) front.1 in
       rw s
@@ -115,7 +116,8 @@ module _ (b : Board) (first one last : List ℕ) (room : ℕ) (call : Call) wher
         Alone
         ≡ record {
           outcome =
-              stepped (nothing_done AtCall 0) (done (board_after call AtCall) (call_length call) (answer_record call AtCall));
+              stepped (nothing_done AtCall 0)
+              (done (board_after call AtCall) (call_length call) (answer_record call AtCall));
           answers = answer_record call AtCall;
         }
     when-done z = alone-done AtCall one Left call s h (sym refusal_is ∙ sym same-refusal ∙ z)
@@ -188,7 +190,8 @@ module _ (b : Board) (first skip last : List ℕ) (room : ℕ) where
   abbrev AtSkip : Board
   AtSkip = BeforeSkip.outcome.board
 
-  -- every skip of a run that goes on up to it, whatever stands before it and behind it, and whatever the clock runs from
+  -- every skip of a run that goes on up to it, whatever stands before it and behind it, and whatever the clock
+  -- runs from
   pub run-skip : BoardFits b → ((i : ℕ) → get_or (first ++ skip) i 0 < 256) → ListIs skip (Skip ∷ []) →
       BeforeSkip.outcome.refusal ≡ 0 → SkipInRun b first skip last room
   run-skip f bytes h z =

@@ -33,7 +33,8 @@ use Rattle.resume.proofs.TwoRuns.{left_read}
 use Rattle.resume.proofs.Carried.{run-carries, carries-some}
 
 -- calls behind calls
-after_both : (calls others : List Call) (b : Board) → after_all (calls ++ others) b ≡ after_all others (after_all calls b)
+after_both : (calls others : List Call) (b : Board) → after_all (calls ++ others) b
+    ≡ after_all others (after_all calls b)
 unfolding after_all
 after_both [] others b = refl
 after_both (a ∷ calls) others b = after_both calls others (after a b)
@@ -149,13 +150,15 @@ module _ (image : List ℕ) (runs : List ImageRun) (image-bytes : (i : ℕ) → 
   -- with T the cycles of the advances carried out and the end the board that the last image is read as
   pub successive-demand-3 : line (reading_of image).board ≡ false →
       from_host (reading_of image).board.clock.control ≡ false → All PassesTime (carried_out runs image) →
-      PromiseAfter (is_present (exact_deadline (reading_of image).board)) (or_zero (exact_deadline (reading_of image).board))
+      PromiseAfter (is_present (exact_deadline (reading_of image).board))
+      (or_zero (exact_deadline (reading_of image).board))
       (or_zero (word_deadline (exact_deadline (reading_of image).board))) (reading_of image).board
       (cycles_passed (carried_out runs image) (reading_of image).board) (reading_of (image_after_all runs image)).board
   successive-demand-3 low o w =
       let b = (reading_of image).board in
       subst
-      (PromiseAfter (is_present (exact_deadline b)) (or_zero (exact_deadline b)) (or_zero (word_deadline (exact_deadline b))) b
+      (PromiseAfter (is_present (exact_deadline b)) (or_zero (exact_deadline b))
+      (or_zero (word_deadline (exact_deadline b))) b
       (cycles_passed (carried_out runs image) b))
       (sym (ap (λ (x : Reading). x.board) successive-read))
       (demand_3 b first_fits (accepted_sound image first-accepted) low o (carried_out runs image) w)

@@ -1,6 +1,6 @@
--- A piece of a call list inside a run, whatever stands before it and behind it. Document 01: 'calls 01 and 04 that a run
--- carries out one after another are such a list too', a list of the deadline's promise. One call refuses, changes the
--- board and answers as a direct call on the board before it; and a skip gets to the interrupt.
+-- A piece of a call list inside a run, whatever stands before it and behind it. Document 01: 'calls 01 and 04 that a
+-- run carries out one after another are such a list too', a list of the deadline's promise. One call refuses,
+-- changes the board and answers as a direct call on the board before it; and a skip gets to the interrupt.
 use Rattle.std.specs.Prelude.{ℕ, ◌-◌, ◌≡◌, ◌⊎◌, true, false, cond, List, [], ◌∷◌, ◌++◌, length, take, ltb}
 use Rattle.std.proofs.Math.Option.{none, some}
 use Rattle.wide.specs.Bits.{flag_of}

@@ -58,6 +58,11 @@ pub record Other (step : Step) : Type 0 where
   pub write : (byte offset : ℕ) → step ≡ T.Write byte offset → ⊥
   pub pass : (counted : Bool) (cycles : ℕ) → step ≡ T.Pass counted cycles → ⊥
 
+pub other_of : {step : Step} → ((refusal : ℕ) → step ≡ T.Refused refusal → ⊥) →
+    ((offset : ℕ) → step ≡ T.Read offset → ⊥) → ((byte offset : ℕ) → step ≡ T.Write byte offset → ⊥) →
+    ((counted : Bool) (cycles : ℕ) → step ≡ T.Pass counted cycles → ⊥) → Other step
+other_of r s w p = record { refused = r; read = s; write = w; pass = p }
+
 -- what a way of the code leaves of a call: the board y, on which source 3 is to be set where `moved` says so, and the
 -- buffer buf', with the call's record from index at on
 pub record Carried (call : Call) (b : Board) (at : ℕ) (buf : List ℕ) (y : Board) (moved : Bool) (buf' : List ℕ) :

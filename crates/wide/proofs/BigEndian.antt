@@ -1,5 +1,9 @@
 -- Laws of big-endian fields and of runs of stores. Assumes nothing.
-use Rattle.std.proofs.Common.{◌≡◌, ℕ, zero, suc, ◌+◌, ◌-◌, ◌*◌, ◌/◌, ◌%◌, ◌^◌, ◌<◌, ◌≤◌, List, [], ◌∷◌, ◌++◌, length, get_or, take, drop, set, sym, refl, ap, ◌∙◌, ap₂, append_assoc, add-zero, add_assoc, add-suc, mod-lt, mod-eq_of_lt, mul_comm, div-lt_iff_lt-mul, suc-add, one-mul, pow-suc, div-add-mod', zero-add, mul-suc, div-one, add-one, arith, length-drop, get_or-drop, take-suc, get_or-append-add, pow_pos, pow-add}
+use Rattle.std.proofs.Common.{◌≡◌, ℕ, zero, suc, ◌+◌, ◌-◌, ◌*◌, ◌/◌, ◌%◌, ◌^◌, ◌<◌, ◌≤◌, List, [], ◌∷◌, ◌++◌, length}
+use Rattle.std.proofs.Common.{get_or, take, drop, set, sym, refl, ap, ◌∙◌, ap₂, append_assoc, add-zero, add_assoc}
+use Rattle.std.proofs.Common.{add-suc, mod-lt, mod-eq_of_lt, mul_comm, div-lt_iff_lt-mul, suc-add, one-mul, pow-suc}
+use Rattle.std.proofs.Common.{div-add-mod', zero-add, mul-suc, div-one, add-one, arith, length-drop, get_or-drop}
+use Rattle.std.proofs.Common.{take-suc, get_or-append-add, pow_pos, pow-add}
 use mathlib.Core.Path.{subst⁻¹}
 use native.Mathlib.Nat.{pow-le-pow_right, mul-add-div, div-div-eq-div-mul}
 use lib.Arith.{digits_lt, digits_div}

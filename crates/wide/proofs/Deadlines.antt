@@ -1,5 +1,6 @@
 -- Laws of optional deadlines: what is due when. Assumes nothing.
-use Rattle.std.proofs.Common.{◌≡◌, ℕ, ◌+◌, ◌≤◌, min, true, false, ◌||◌, leb, sym, refl, ap, ◌∙◌, arith, le-leb, leb-false, leb-true}
+use Rattle.std.proofs.Common.{◌≡◌, ℕ, ◌+◌, ◌≤◌, min, true, false, ◌||◌, leb, sym, refl, ap, ◌∙◌, arith, le-leb}
+use Rattle.std.proofs.Common.{leb-false, leb-true}
 use mathlib.Core.Bool.{false≢true}
 use mathlib.Core.Option.{Option, none, some}
 use borrow.Author.Tests.{lt-leb}

@@ -1,5 +1,7 @@
 -- The product of two words by the products of their halves. Assumes nothing.
-use Rattle.std.proofs.Common.{◌≡◌, ℕ, ◌+◌, ◌-◌, ◌*◌, ◌/◌, ◌%◌, ◌^◌, ◌<◌, ◌≤◌, sym, ap, ◌∙◌, le-add_right, lt_of_le_of_lt, le_of_lt, mul-le-mul, mul-le-mul_left, mul-lt-mul_of_pos_right, div-add-mod', arith, pow_pos}
+use Rattle.std.proofs.Common.{◌≡◌, ℕ, ◌+◌, ◌-◌, ◌*◌, ◌/◌, ◌%◌, ◌^◌, ◌<◌, ◌≤◌, sym, ap, ◌∙◌, le-add_right}
+use Rattle.std.proofs.Common.{lt_of_le_of_lt, le_of_lt, mul-le-mul, mul-le-mul_left, mul-lt-mul_of_pos_right}
+use Rattle.std.proofs.Common.{div-add-mod', arith, pow_pos}
 use mathlib.Core.Path.{subst⁻¹}
 use Rattle.wide.specs.Number.{value_of}
 use Rattle.wide.proofs.TwoWords.{high_fits}

@@ -1,6 +1,8 @@
 -- Sums, differences, order and products of numbers of two words. The laws of the section hold for words of any size w.
 -- Assumes nothing.
-use Rattle.std.proofs.Common.{◌≡◌, ℕ, ◌+◌, ◌-◌, ◌*◌, ◌%◌, ◌^◌, ◌<◌, ◌≤◌, min, true, false, ltb, leb, sym, ap, ◌∙◌, mul-le-mul_right, zero-add, zero-mul, arith, ltb-false, ltb-true, le-leb, leb-false, leb-true}
+use Rattle.std.proofs.Common.{◌≡◌, ℕ, ◌+◌, ◌-◌, ◌*◌, ◌%◌, ◌^◌, ◌<◌, ◌≤◌, min, true, false, ltb, leb, sym, ap, ◌∙◌}
+use Rattle.std.proofs.Common.{mul-le-mul_right, zero-add, zero-mul, arith, ltb-false, ltb-true, le-leb, leb-false}
+use Rattle.std.proofs.Common.{leb-true}
 use borrow.Author.Tests.{lt-leb}
 use Rattle.wide.specs.declared.number.Wide.{Wide}
 use Rattle.wide.specs.Number.{value_of, largest}

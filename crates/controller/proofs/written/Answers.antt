@@ -35,4 +35,5 @@ returns-in-5 c =
 pub returns-in_default : goal.returns-in_default
 returns-in_default c =
     let a = c.args in
-    write_other a.controller a.address a.value (λ e. omega arith) (λ e. omega arith) (λ e. omega arith) (λ e. omega arith)
+    write_other a.controller a.address a.value (λ e. omega arith) (λ e. omega arith) (λ e. omega arith)
+    (λ e. omega arith)

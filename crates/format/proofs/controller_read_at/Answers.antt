@@ -25,7 +25,8 @@ returns-then-room-lengths c = c.refused.ensures
     (ap not c.if-not-framed.false) refl refl c.if-room-lengths.true
 
 pub controller_address_at-requires : goal.controller_address_at-requires
-controller_address_at-requires c = within 8 _ c.lengths_of-lengths.ensures c.framed.ensures (ap not c.if-not-framed.false) 7 refl
+controller_address_at-requires c = within 8 _ c.lengths_of-lengths.ensures c.framed.ensures
+    (ap not c.if-not-framed.false) 7 refl
 
 pub returns : goal.returns
 returns c = c.accepted.ensures

@@ -29,7 +29,8 @@ pub byte_at-requires : goal.byte_at-requires
 byte_at-requires c = within 9 _ c.lengths_of-lengths.ensures c.framed.ensures (ap not c.if-not-framed.false) 8 refl
 
 pub controller_address_at-requires : goal.controller_address_at-requires
-controller_address_at-requires c = within 9 _ c.lengths_of-lengths.ensures c.framed.ensures (ap not c.if-not-framed.false) 7 refl
+controller_address_at-requires c = within 9 _ c.lengths_of-lengths.ensures c.framed.ensures
+    (ap not c.if-not-framed.false) 7 refl
 
 pub returns : goal.returns
 returns c = c.accepted.ensures

@@ -70,4 +70,6 @@ returns-in-10 c = c.bare_at-in-10.ensures ∙ as-tag _ _ c.if-rest-lt-HEADER_LEN
 pub returns-in_default : goal.returns-in_default
 unfolding call_of members_at
 returns-in_default c = c.refused-in_default.ensures ∙ decoded-unknown _ _ c.if-rest-lt-HEADER_LENGTH.false
-    (ap (λ (n : Lengths). n.known) (sym (unknown_is (get_or c.args.rest.now 0 0) (omega arith) (omega arith) (omega arith) (omega arith) (omega arith) (omega arith) (omega arith) (omega arith) (omega arith) (omega arith))))
+    (ap (λ (n : Lengths). n.known) (sym (unknown_is (get_or c.args.rest.now 0 0) (omega arith) (omega arith)
+    (omega arith) (omega arith) (omega arith) (omega arith) (omega arith) (omega arith) (omega arith)
+    (omega arith))))

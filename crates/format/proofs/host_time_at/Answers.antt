@@ -18,7 +18,8 @@ returns-then-not-framed c = as-unframed (HostTime _ _) _ _ c.lengths_of-lengths.
     c.unframed.ensures (ap not c.if-not-framed.true)
 
 pub host_at-host-requires : goal.host_at-host-requires
-host_at-host-requires c = within 1 _ c.lengths_of-lengths.ensures c.framed.ensures (ap not c.if-not-framed.false) 15 refl
+host_at-host-requires c = within 1 _ c.lengths_of-lengths.ensures c.framed.ensures (ap not c.if-not-framed.false) 15
+    refl
 
 pub returns-then-own-ne0 : goal.returns-then-own-ne0
 returns-then-own-ne0 c = c.refused.ensures

@@ -34,4 +34,5 @@ pub returns-in-10 : goal.returns-in-10
 returns-in-10 c = rw c.in-10.is c.row-in-10.ensures
 
 pub returns-in_default : goal.returns-in_default
-returns-in_default c = unknown_is c.args.tag (omega arith) (omega arith) (omega arith) (omega arith) (omega arith) (omega arith) (omega arith) (omega arith) (omega arith) (omega arith)
+returns-in_default c = unknown_is c.args.tag (omega arith) (omega arith) (omega arith) (omega arith) (omega arith)
+    (omega arith) (omega arith) (omega arith) (omega arith) (omega arith)

@@ -18,7 +18,8 @@ returns-then-not-framed c = as-unframed (Read _) _ _ c.lengths_of-lengths.ensure
     c.unframed.ensures (ap not c.if-not-framed.true)
 
 pub address_at-address-requires : goal.address_at-address-requires
-address_at-address-requires c = within 2 _ c.lengths_of-lengths.ensures c.framed.ensures (ap not c.if-not-framed.false) 5 refl
+address_at-address-requires c = within 2 _ c.lengths_of-lengths.ensures c.framed.ensures
+    (ap not c.if-not-framed.false) 5 refl
 
 pub returns-then-own-ne0 : goal.returns-then-own-ne0
 returns-then-own-ne0 c = c.refused.ensures ∙ as_own (Read _) _ _ c.lengths_of-lengths.ensures c.framed.ensures
@@ -29,7 +30,8 @@ pub overflow_add-lengths : goal.overflow_add-lengths
 overflow_add-lengths c = omega (arith, answer-of 2 _ c.lengths_of-lengths.ensures)
 
 pub returns-then-room-lengths : goal.returns-then-room-lengths
-returns-then-room-lengths c = c.refused-then-room-lengths.ensures ∙ as_short (Read _) _ _ c.lengths_of-lengths.ensures c.framed.ensures
+returns-then-room-lengths c = c.refused-then-room-lengths.ensures
+    ∙ as_short (Read _) _ _ c.lengths_of-lengths.ensures c.framed.ensures
     (ap not c.if-not-framed.false) (c.address_refusal-own.ensures ∙ ap address_refusal c.address_at-address.ensures)
     c.if-own-ne0.false c.if-room-lengths.true
 

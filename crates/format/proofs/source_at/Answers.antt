@@ -19,10 +19,12 @@ returns-then-not-framed c = as-unframed (Source _ _) _ _ c.lengths_of-lengths.en
     c.unframed.ensures (ap not c.if-not-framed.true)
 
 pub byte_at-number-requires : goal.byte_at-number-requires
-byte_at-number-requires c = within 7 _ c.lengths_of-lengths.ensures c.framed.ensures (ap not c.if-not-framed.false) 4 refl
+byte_at-number-requires c = within 7 _ c.lengths_of-lengths.ensures c.framed.ensures (ap not c.if-not-framed.false) 4
+    refl
 
 pub byte_at-level-requires : goal.byte_at-level-requires
-byte_at-level-requires c = within 7 _ c.lengths_of-lengths.ensures c.framed.ensures (ap not c.if-not-framed.false) 5 refl
+byte_at-level-requires c = within 7 _ c.lengths_of-lengths.ensures c.framed.ensures (ap not c.if-not-framed.false) 5
+    refl
 
 pub returns-then-own-ne0 : goal.returns-then-own-ne0
 returns-then-own-ne0 c = let n = c.byte_at-number.ensures in let m = c.byte_at-level.ensures in c.refused.ensures
@@ -34,7 +36,8 @@ overflow_add-lengths c = let e = answer-of 7 _ c.lengths_of-lengths.ensures in
     omega arith
 
 pub returns-then-room-lengths : goal.returns-then-room-lengths
-returns-then-room-lengths c = let n = c.byte_at-number.ensures in let m = c.byte_at-level.ensures in c.refused-then-room-lengths.ensures
+returns-then-room-lengths c = let n = c.byte_at-number.ensures in let m = c.byte_at-level.ensures in
+    c.refused-then-room-lengths.ensures
     ∙ as_short (Source _ _) _ _ c.lengths_of-lengths.ensures c.framed.ensures (ap not c.if-not-framed.false)
     (c.source_refusal-own.ensures ∙ ap₂ source_refusal n m) c.if-own-ne0.false
     c.if-room-lengths.true

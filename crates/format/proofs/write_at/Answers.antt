@@ -18,7 +18,8 @@ returns-then-not-framed c = as-unframed (Write _ _) _ _ c.lengths_of-lengths.ens
     c.unframed.ensures (ap not c.if-not-framed.true)
 
 pub address_at-address-requires : goal.address_at-address-requires
-address_at-address-requires c = within 3 _ c.lengths_of-lengths.ensures c.framed.ensures (ap not c.if-not-framed.false) 5 refl
+address_at-address-requires c = within 3 _ c.lengths_of-lengths.ensures c.framed.ensures
+    (ap not c.if-not-framed.false) 5 refl
 
 pub returns-then-own-ne0 : goal.returns-then-own-ne0
 returns-then-own-ne0 c = c.refused.ensures ∙ as_own (Write _ _) _ _ c.lengths_of-lengths.ensures c.framed.ensures

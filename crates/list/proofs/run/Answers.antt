@@ -16,13 +16,14 @@ use Rattle.list.specs.Run.{run_of, over}
 use Rattle.steps.proofs.Advances.{begins, next-phase, advances, passed_over, still-timed, counts_begin}
 use Rattle.steps.proofs.Advances.{next-zero, counts-next, counts-passed, counts_same, all-advanced, counts_end}
 use Rattle.steps.proofs.Calls.{read_length, write_length, pass_length, pass_room, begun_room, Served, set_after}
-use Rattle.steps.proofs.Calls.{Other, plain_carried, read_carried, channel-written, write_carried, pass_carried}
+use Rattle.steps.proofs.Calls.{other_of, plain_carried, read_carried, channel-written, write_carried, pass_carried}
 use Rattle.steps.proofs.Calls.{other_carried}
 use Rattle.list.proofs.Runs.{Ran, ended, ends, rest_bytes, goes_on}
 use Rattle.list.proofs.Arms.{rest, at_step, rest_is, board_sound, timed, accepts, answer-inside}
 use Rattle.list.proofs.Arms.{other_at, other_is}
 use Rattle.list.proofs.run.Goals as goal
-use Rattle.list.proofs.run.Goals.{then-runs, else-runs, in-Read, then-plain, else-plain, in-Write, in-Nothing, in-Enable}
+use Rattle.list.proofs.run.Goals.{then-runs, else-runs, in-Read, then-plain, else-plain, in-Write, in-Nothing}
+use Rattle.list.proofs.run.Goals.{in-Enable}
 use Rattle.list.proofs.run.Goals.{in-Acknowledge, in-Clock, in-Channel, in-Pass+else-loop-i-test, in_default}
 use Rattle.list.proofs.run.Goals.{then-moved, else-moved}
 
@@ -163,13 +164,8 @@ put_passed-requires c =
 pub put_other-requires : goal.put_other-requires
 put_other-requires c =
     let u = at_step c.loop-used.invariant c.loop-used-test.true c.step_of-step.result c.step_of-step.ensures in
-    let k : Other c.step_of-step.result =
-    record {
-      refused = c.in_default.not-Refused;
-      read = c.in_default.not-Read;
-      write = c.in_default.not-Write;
-      pass = c.in_default.not-Pass;
-    } in
+    let k = other_of c.in_default.not-Refused c.in_default.not-Read c.in_default.not-Write
+    c.in_default.not-Pass in
     let d = other_is u k c.changes_of-c.result c.changes_of-c.ensures in
     omega (arith, answer-inside u (other_at u k).0, d.1.0, d.1.1)
 
@@ -186,12 +182,8 @@ accepted c =
       | in-Write w ↦ (accepts u _ w.in-Write.is).0
       | in-Pass+else-loop-i-test w ↦ (accepts u _ w.in-Pass.is).0
       | in_default w ↦ (other_at u
-          (record {
-            refused = w.in_default.not-Refused;
-            read = w.in_default.not-Read;
-            write = w.in_default.not-Write;
-            pass = w.in_default.not-Pass;
-          })).0
+          (other_of w.in_default.not-Refused w.in_default.not-Read
+          w.in_default.not-Write w.in_default.not-Pass)).0
     ]
 
 -- the board, the buffer and the numbers are those of the call
@@ -263,13 +255,8 @@ served c =
             size = w.size-is ∙ w.pass_record-size.ensures ∙ sym n.1;
           }
       | in_default w ↦
-          let k : Other c.step_of-step.result =
-          record {
-            refused = w.in_default.not-Refused;
-            read = w.in_default.not-Read;
-            write = w.in_default.not-Write;
-            pass = w.in_default.not-Pass;
-          } in
+          let k = other_of w.in_default.not-Refused w.in_default.not-Read w.in_default.not-Write
+          w.in_default.not-Pass in
           let d = other_is u k w.changes_of-c.result w.changes_of-c.ensures in
           record {
             carried =

@@ -1,3 +1,4 @@
+-- `put_answers` meets its contract. Assumes nothing.
 use native.Mathlib.Omega.{arith}
 use mathlib.Core.Path.{refl}
 use Rattle.listing.proofs.Answers.{none_listed, end-put, cut-put, line-counted, line-listed}

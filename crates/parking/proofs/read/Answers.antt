@@ -11,4 +11,5 @@ returns-then-image-eq-NEW_LENGTH c =
     c.read_fields.ensures ∙ new-read a.image.now long _ _ first.1 first.0 ∙ read-new a.image.now long
 
 pub returns-else-image-eq-NEW_LENGTH : goal.returns-else-image-eq-NEW_LENGTH
-returns-else-image-eq-NEW_LENGTH c = c.read_fields-else-image-eq-NEW_LENGTH.ensures ∙ old_read _ ∙ read-old _ c.if-image-eq-NEW_LENGTH.false
+returns-else-image-eq-NEW_LENGTH c = c.read_fields-else-image-eq-NEW_LENGTH.ensures ∙ old_read _
+    ∙ read-old _ c.if-image-eq-NEW_LENGTH.false

@@ -11,4 +11,10 @@ returns c =
     results _ _ _
     (halves _ _ _
     (ran_of _ (started a.answers.now) _ _ _ c.fresh.ensures r.value r.answers_after)) in
-    record { value = whole.0; answers_after = whole.1.0; calls_after = whole.1.1.0; used_after = whole.1.1.1.0; written_after = whole.1.1.1.1 }
+    record {
+      value = whole.0;
+      answers_after = whole.1.0;
+      calls_after = whole.1.1.0;
+      used_after = whole.1.1.1.0;
+      written_after = whole.1.1.1.1;
+    }

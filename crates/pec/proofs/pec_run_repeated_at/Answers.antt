@@ -6,4 +6,10 @@ pub returns : goal.returns
 returns c =
     let whole =
     results _ _ _ (c.repeated_at-r.ensures.value, c.repeated_at-r.ensures.answers_after) in
-    record { value = whole.0; answers_after = whole.1.0; calls_after = whole.1.1.0; used_after = whole.1.1.1.0; written_after = whole.1.1.1.1 }
+    record {
+      value = whole.0;
+      answers_after = whole.1.0;
+      calls_after = whole.1.1.0;
+      used_after = whole.1.1.1.0;
+      written_after = whole.1.1.1.1;
+    }

@@ -1,3 +1,4 @@
+-- `repeated` meets its contract. Assumes nothing.
 use mathlib.Core.Path.{refl, ◌∙◌}
 use native.Mathlib.Omega.{arith}
 use Rattle.pec.specs.Repeats.{started_on}

@@ -1,3 +1,4 @@
+-- `leading` meets its contract. Assumes nothing.
 use Rattle.std.proofs.Common.{arith}
 use Rattle.recording.proofs.leading.Goals as goal
 

@@ -27,7 +27,12 @@ returns-in-Output c = rw (c.in-Output.is, c.flag.ensures, c.output_of-o.ensures)
 
 pub returns-in-Deadline : goal.returns-in-Deadline
 unfolding members_bytes value_bytes
-returns-in-Deadline c = rw (c.in-Deadline.is, c.flag-in-Deadline.ensures, c.deadline_members-members.ensures, wide_value) (refl, refl)
+returns-in-Deadline c = rw (
+  c.in-Deadline.is,
+  c.flag-in-Deadline.ensures,
+  c.deadline_members-members.ensures,
+  wide_value,
+) (refl, refl)
 
 pub returns-in_default : goal.returns-in_default
 unfolding members_bytes value_bytes

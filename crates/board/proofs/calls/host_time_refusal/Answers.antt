@@ -6,7 +6,8 @@ use Rattle.board.proofs.calls.host_time_refusal.Goals as goal
 
 pub returns-then-nanoseconds-ge-NANOS_PER_SECOND : goal.returns-then-nanoseconds-ge-NANOS_PER_SECOND
 unfolding host_time_refusal
-returns-then-nanoseconds-ge-NANOS_PER_SECOND c = rw (le-leb nanos_per_second c.args.host.nanoseconds c.if-nanoseconds-ge-NANOS_PER_SECOND.true)
+returns-then-nanoseconds-ge-NANOS_PER_SECOND c =
+    rw (le-leb nanos_per_second c.args.host.nanoseconds c.if-nanoseconds-ge-NANOS_PER_SECOND.true)
 
 pub returns : goal.returns
 unfolding host_time_refusal

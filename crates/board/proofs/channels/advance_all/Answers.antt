@@ -1,3 +1,4 @@
+-- `channels::advance_all` meets its contract. Assumes nothing.
 use mathlib.Core.Path.{◌≡◌, refl, ◌∙◌, ap}
 use mathlib.Core.Bool.{Bool}
 use mathlib.Core.List.{List}
@@ -19,7 +20,8 @@ pub loop-i-init : goal.loop-i-init
 unfolding map_to
 loop-i-init c =
     let a = c.args in
-    let w = value_wide c.from_word-none.result 0 (omega (arith, c.from_word-none.type_inv)) c.from_word-none.ensures in (
+    let w = value_wide c.from_word-none.result 0 (omega (arith, c.from_word-none.type_inv)) c.from_word-none.ensures
+    in (
       search rules,
       search rules,
       search rules,

@@ -20,7 +20,8 @@ meets enable c k h = wide_of (matches_of (bit k enable) c h)
 
 abbrev pub invariant-loop-i : goal.invariant-loop-i
 invariant-loop-i l =
-    (l.i ≤ 4) × (length l.out ≡ 4) × (length l.matches ≡ 4) × (l.out ≡ map_to (after l.timer_enable l.cycles.0) l.i 0 l.initial.out)
+    (l.i ≤ 4) × (length l.out ≡ 4) × (length l.matches ≡ 4)
+    × (l.out ≡ map_to (after l.timer_enable l.cycles.0) l.i 0 l.initial.out)
     × (l.matches ≡ given_to (meets l.timer_enable l.cycles.0) (wide_of 0) l.i 0 l.initial.out)
 
 abbrev pub decreases-loop-i : goal.decreases-loop-i

@@ -11,7 +11,8 @@ use Rattle.board.proofs.channels.soonest.Given as goal
 
 abbrev pub invariant-loop-i : goal.invariant-loop-i
 invariant-loop-i l =
-    (l.i ≤ 4) × (number_of l.soonest ≡ fold_from (λ k h. deadline_of (bit k l.timer_enable) h) sooner none l.i (drop l.i l.timers))
+    (l.i ≤ 4) × (number_of l.soonest ≡ fold_from (λ k h. deadline_of (bit k l.timer_enable) h) sooner none l.i
+    (drop l.i l.timers))
 
 abbrev pub decreases-loop-i : goal.decreases-loop-i
 decreases-loop-i l = l.i

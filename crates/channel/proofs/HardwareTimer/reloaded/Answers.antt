@@ -23,7 +23,8 @@ returns-then-counter-gap c =
     let n = next_is h.compare h.counter h.reload c.requires
     (pos_of_ne-zero c.if-reload-eq0.false) in
     let z = ne_eqb _ _ c.if-reload-eq0.false in (
-      simp (z, lt-ltb largest (next_compare h) (omega arith)) (c.met-then-counter-gap.ensures.0 ∙ c.fired-then-counter-gap.ensures),
+      simp (z, lt-ltb largest (next_compare h) (omega arith))
+          (c.met-then-counter-gap.ensures.0 ∙ c.fired-then-counter-gap.ensures),
       rw z c.met-then-counter-gap.ensures.1,
     )
 

@@ -1,3 +1,4 @@
+-- `put::put_members` meets its contract. Assumes nothing.
 use native.Mathlib.Omega.{arith}
 use Rattle.image.proofs.Tables.{width_most, storing_begun, storing-room, storing-more, storing-ended}
 use borrow.Author.Rules.{rules}

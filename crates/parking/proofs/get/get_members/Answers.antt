@@ -1,3 +1,4 @@
+-- `get::get_members` meets its contract. Assumes nothing.
 use native.Mathlib.Omega.{arith}
 use Rattle.image.proofs.Tables.{width_most}
 use Rattle.parking.proofs.Forms.{taken_fit}

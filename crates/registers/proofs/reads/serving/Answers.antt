@@ -5,7 +5,8 @@ use Rattle.regmap.proofs.Ranges.{inside, above, before-seconds, after-seconds}
 use Prim.Native.Nat.{◌≤◌}
 use native.Mathlib.Omega.{arith}
 use Rattle.registers.proofs.reads.serving.Goals as goal
-use Rattle.registers.proofs.reads.serving.Goals.{in_default-via-then-offset-lt520, in_default-via-else-offset-lt520+else-offset-lt524+else-offset-lt528}
+use Rattle.registers.proofs.reads.serving.Goals.{in_default-via-then-offset-lt520}
+use Rattle.registers.proofs.reads.serving.Goals.{in_default-via-else-offset-lt520+else-offset-lt524+else-offset-lt528}
 
 pub returns-in-520-to-523 : goal.returns-in-520-to-523
 unfolding serving

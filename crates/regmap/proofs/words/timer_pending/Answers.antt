@@ -1,3 +1,4 @@
+-- `words::timer_pending` meets its contract. Assumes nothing.
 use mathlib.Core.Path.{◌≡◌}
 use mir.Val.{bool_byte}
 use lib.ListN.{drop, get_or}

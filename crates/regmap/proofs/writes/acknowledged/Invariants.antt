@@ -11,7 +11,8 @@ use Rattle.board.specs.RegisterWrites.{cleared_by}
 use Rattle.regmap.proofs.writes.acknowledged.Given as goal
 
 abbrev pub invariant-loop-i : goal.invariant-loop-i
-invariant-loop-i l = (l.i ≤ 4) × (length l.out ≡ 4) × (l.out ≡ map_to (λ k h. cleared_by (bit k l.value) h) l.i 0 l.initial.out)
+invariant-loop-i l = (l.i ≤ 4) × (length l.out ≡ 4)
+    × (l.out ≡ map_to (λ k h. cleared_by (bit k l.value) h) l.i 0 l.initial.out)
 
 abbrev pub decreases-loop-i : goal.decreases-loop-i
 decreases-loop-i l = 4 - l.i

@@ -1,3 +1,4 @@
+-- `fields::get` meets its contract. Assumes nothing.
 use Rattle.std.proofs.Common.{◌≡◌, refl, arith}
 use Rattle.wide.specs.Fields.{be_at}
 use Rattle.wide.proofs.BigEndian.{be_at_more, room_64, room_more}

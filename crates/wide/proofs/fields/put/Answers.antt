@@ -1,4 +1,6 @@
-use Rattle.std.proofs.Common.{◌≡◌, ℕ, zero, suc, ◌+◌, ◌-◌, ◌/◌, ◌%◌, ◌^◌, ◌<◌, List, set, refl, not-suc-le-zero, add-one, sub-one, arith, length-set}
+-- `fields::put` meets its contract. Assumes nothing.
+use Rattle.std.proofs.Common.{◌≡◌, ℕ, zero, suc, ◌+◌, ◌-◌, ◌/◌, ◌%◌, ◌^◌, ◌<◌, List, set, refl, not-suc-le-zero}
+use Rattle.std.proofs.Common.{add-one, sub-one, arith, length-set}
 use lib.Seq.{sets}
 use Rattle.wide.specs.Fields.{be}
 use Rattle.wide.proofs.fields.put.Goals as goal
