@@ -7,6 +7,7 @@ pub mod RegisterWords
 pub mod RegisterWrites
 pub mod RegisterReads
 pub mod Calls
+pub mod Refusals
 pub mod Splits
 pub mod CodeCalls
 pub mod Demand

@@ -8,9 +8,11 @@ ghost use Rattle.board.specs.Calls.{deadline_answer, skip_answer, output_answer,
 ghost use Rattle.board.specs.Calls.{host_time_refusal, address_refusal, advanced_board, skip_length, source_refusal};
 ghost use Rattle.board.specs.CodeCalls.{deadline_given, matches_given, no_advance, skip_advance_of};
 ghost use Rattle.board.specs.Demand.{Promise, SkipPromise};
+ghost use Rattle.board.specs.Refusals.{refusal_code};
 
 use crate::Board;
 use crate::channels::advance_all;
+use crate::refusal::Refusal;
 use channel::Cycles;
 use clock::{Clock, HostTime};
 use controller::SourceNumber;
@@ -434,4 +436,43 @@ pub fn source_refusal(number: SourceNumber, level: u8) -> u8
         return Board::LEVEL_TOO_LARGE;
     }
     0
+}
+
+// A host-time call's own refusal.
+#[tactic(auto, unfolding(crate::specs::Calls::host_time_refusal))]
+pub fn check_host_time(host: HostTime) -> Result<(), Refusal>
+    ensures { refusal_code result ≡ host_time_refusal host }
+{
+    if Clock::NANOS_PER_SECOND <= host.nanoseconds {
+        return Err(Refusal::NanosecondsTooLarge);
+    }
+    Ok(())
+}
+
+// A read's or a write's own refusal, by its address.
+#[tactic(auto, unfolding(crate::specs::Calls::address_refusal))]
+pub fn check_address(address: u16) -> Result<(), Refusal>
+    ensures { refusal_code result ≡ address_refusal address }
+{
+    if Board::ADDRESSES <= address {
+        return Err(Refusal::AddressTooLarge);
+    }
+    Ok(())
+}
+
+// A source call's own refusal.
+#[tactic(auto, unfolding(crate::specs::Calls::source_refusal))]
+pub fn check_source(number: SourceNumber, level: u8) -> Result<(), Refusal>
+    ensures { refusal_code result ≡ source_refusal number.0 level }
+{
+    if 15 < number.0 {
+        return Err(Refusal::SourceTooLarge);
+    }
+    if number.0 == Board::LINE_SOURCE.0 {
+        return Err(Refusal::SourceOfLine);
+    }
+    if 1 < level {
+        return Err(Refusal::LevelTooLarge);
+    }
+    Ok(())
 }

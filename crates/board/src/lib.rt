@@ -16,6 +16,7 @@ mod channels;
 mod deadline;
 mod fields;
 mod line;
+pub mod refusal;
 mod sound;
 
 // A word of a register pair that is held for the next reads.
