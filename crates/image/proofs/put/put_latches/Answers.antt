@@ -1,15 +1,10 @@
 -- `put::put_latches` meets its contract. Assumes nothing.
 use lib.ListN.{length}
-use mathlib.Core.Path.{◌≡◌, refl}
-use native.Mathlib.Omega.{arith}
+use mathlib.Core.Path.{◌≡◌}
 use Rattle.image.proofs.Fields.{latches_stored}
 use Rattle.image.specs.Image.{field_bytes}
 use borrow.Author.Rules.{rules}
 use Rattle.image.proofs.put.put_latches.Goals as goal
-
-pub put_field-requires : goal.put_field-requires
-put_field-requires c =
-    (record { most = refl; same = refl; few = omega arith }, (refl, omega (arith, c.requires)))
 
 pub returns : goal.returns
 unfolding field_bytes
@@ -24,4 +19,4 @@ returns c =
     c.held-4.ensures c.value-4.ensures
     c.held-5.ensures c.value-5.ensures
     c.held-6.ensures c.value-6.ensures
-    c.put_field.ensures
+    c.put.ensures
