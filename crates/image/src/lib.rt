@@ -9,6 +9,7 @@ ghost use Rattle.image.specs.Image.{image_length};
 use board::Board;
 use format::HEADER_LENGTH;
 
+pub mod get;
 pub mod put;
 
 // The forms of an image: S-1's, which has no rate, and S-8's, which begins with it.

@@ -19,4 +19,5 @@ loop-width-preserved c =
 pub returns : goal.returns
 returns c =
     storing-ended _ _ _ _ _ c.loop-width.invariant
-    (empty_from_Zip c.loop-width.width-iterator c.next.new.self _ c.in-None.is c.next.ensures.steps (sym c.loop-width.invariant.same)).0
+    (empty_from_Zip c.loop-width.width-iterator c.next.new.self _ c.in-None.is c.next.ensures.steps
+    (sym c.loop-width.invariant.same)).0
