@@ -6,7 +6,6 @@ ghost use Rattle.board.specs.Board.{line, wired};
 use crate::Board;
 use crate::channels::any_asserted;
 use controller::IrqController;
-use wide::flags::either;
 
 impl Board {
     // Whether the line is high.
@@ -15,7 +14,7 @@ impl Board {
     {
         let timers = self.timers;
         let clock = self.clock;
-        either(any_asserted(timers), clock.line())
+        any_asserted(timers) | clock.line()
     }
 
     // The controller with source 3 set to `line`.

@@ -4,4 +4,4 @@ use Rattle.board.proofs.Board.line.Goals as goal
 
 pub returns : goal.returns
 unfolding line
-returns c = rw (c.either.ensures, c.line.ensures, c.any_asserted.ensures)
+returns c = rw (c.line.ensures, c.any_asserted.ensures)
