@@ -9,6 +9,7 @@ use controller::IrqController;
 
 impl Board {
     // Whether the line is high.
+    #[tactic(auto, unfolding(crate::specs::Board::line))]
     pub fn line(self) -> bool
         ensures { result ≡ line self }
     {
@@ -26,6 +27,7 @@ impl Board {
     }
 
     // The end of an accepted call: source 3 is set to the line.
+    #[tactic(auto, unfolding(crate::specs::Board::wired))]
     pub fn wired(self) -> Self
         ensures { result ≡ wired self }
     {
