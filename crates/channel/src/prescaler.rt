@@ -5,7 +5,6 @@ ghost use Rattle.channel.specs.Prescaler.{ticks_of, phase_after, runs, advanced}
 ghost use Rattle.channel.specs.Matches.{matches_of};
 
 use crate::{Advanced, Cycles, HardwareTimer, Ticks};
-use wide::flags::both;
 
 // The ticks that a number of cycles gives, and the phase after them.
 #[derive(Clone, Copy)]
@@ -57,7 +56,7 @@ impl HardwareTimer {
     pub fn runs(self, selected: bool) -> bool
         ensures { result ≡ runs selected self }
     {
-        both(self.enabled(), selected)
+        self.enabled() & selected
     }
 
     // The channel after the cycles, before `advance_cycles` rebuilds it field by field.
@@ -82,11 +81,9 @@ impl HardwareTimer {
             × (value_of result.matches ≡ matches_of selected cycles.0 self) }
     {
         let a = self.advanced(selected, cycles);
-        let timer = a.timer;
-        let matches = a.matches;
         Advanced {
-            timer: timer.rebuilt(),
-            matches,
+            timer: a.timer.rebuilt(),
+            matches: a.matches,
         }
     }
 }
