@@ -1,5 +1,5 @@
 -- Laws of the distance of a free-running channel: its value, and the code's wrapped difference. Assumes nothing.
-use Rattle.std.proofs.Common.{◌≡◌, ℕ, ◌+◌, ◌-◌, ◌%◌, ◌^◌, ◌<◌, ◌≤◌, false, eqb, ltb, leb, not, ◌&&◌, ◌≢◌, sym, ap, arith}
+use Rattle.std.proofs.Common.{◌≡◌, ℕ, ◌+◌, ◌-◌, ◌%◌, ◌^◌, ◌<◌, ◌≤◌, eqb, ltb, leb, not, ◌&&◌, ◌≢◌, sym, ap, arith}
 use Rattle.std.proofs.Common.{ltb-false, ltb-true, eqb-true}
 use borrow.Author.Tests.{eqb-false, lt-leb}
 use Rattle.wide.proofs.Choices.{choose, either}
@@ -50,6 +50,6 @@ module _ (n e : ℕ) (fn : n < 2 ^ 64) (fe : e < 2 ^ 64) where
       (λ q. let z = eqb-false d 0 q in rw q (ap (λ (k : ℕ). leb k t) (sym (distance_is n e d (omega arith)))))
 
   -- the distance is one more than its wrapped difference less 1, wrapped too
-  pub one-after-is : (r : ℕ) → r ≡ ((e + (2 ^ 64 - n)) % 2 ^ 64 + (2 ^ 64 - 1)) % 2 ^ 64 →
+  pub one_after_is : (r : ℕ) → r ≡ ((e + (2 ^ 64 - n)) % 2 ^ 64 + (2 ^ 64 - 1)) % 2 ^ 64 →
       r + 1 ≡ distance n e
-  one-after-is r w = sym (distance_is n e (r + 1) (omega arith))
+  one_after_is r w = sym (distance_is n e (r + 1) (omega arith))

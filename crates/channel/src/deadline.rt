@@ -22,6 +22,7 @@ fn ticks_up(counter: u64, compare: u64) -> Option<Ticks>
 }
 
 // The ticks to the compare point in mode 2, where the counter wraps; none where the channel is not armed.
+#[tactic(auto, using(crate::proofs::Distances::one_after_is))]
 fn ticks_round(counter: u64, compare: u64, armed: bool) -> Option<Ticks>
     ensures { to_go_of result ≡ (if armed then some (distance counter compare) else none) }
 {

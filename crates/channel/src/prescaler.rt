@@ -27,6 +27,7 @@ impl HardwareTimer {
 
     // S-5: prescaler 0 comes first. With another prescaler the cycles up to the first tick are taken off and the rest
     // is divided, so that no sum is larger than a word and no number of two words is divided.
+    #[tactic(auto, using(crate::proofs::Prescaling::later_is))]
     fn scale(self, cycles: Cycles) -> Scaled
         requires { self.phase ≤ self.prescaler }
         ensures { (result.ticks.0 ≡ ticks_of cycles.0 self) × (result.phase ≡ phase_after cycles.0 self) }
@@ -60,6 +61,7 @@ impl HardwareTimer {
     }
 
     // The channel after the cycles, before `advance_cycles` rebuilds it field by field.
+    #[tactic(auto, using(crate::proofs::Counting::run_matches), unfolding(crate::specs::Prescaler::advanced))]
     fn advanced(self, selected: bool, cycles: Cycles) -> Advanced
         requires { self.phase ≤ self.prescaler }
         ensures { (result.timer ≡ advanced selected cycles.0 self)

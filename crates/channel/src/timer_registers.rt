@@ -94,6 +94,7 @@ impl HardwareTimer {
         self
     }
 
+    #[tactic(auto, using(wide::proofs::BigEndian::with_byte_fits))]
     fn write_prescaler(mut self, below: usize, value: u8) -> Self
         requires { below < 4 }
         ensures { result ≡ prescaler_written (with_byte below value self.prescaler) self }
