@@ -28,11 +28,9 @@ fn repeated(board: Board, first: &[u8], list: &[u8], times: u64, answers: &mut [
         (ran first.now (started_on board answers.old))).buffer }
 {
     let mut r = list::run(board, first, answers);
-    let mut k = 0;
-    while k < times {
+    for _ in 0..times {
         let board = r.board;
         r = list::run(board, list, answers);
-        k += 1;
     }
     r
 }
