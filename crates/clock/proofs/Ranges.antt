@@ -7,7 +7,7 @@ use Rattle.wide.proofs.Choices.{choose}
 use Rattle.clock.specs.declared.Shadow.{Shadow}
 use Rattle.clock.specs.declared.Clock.{Clock}
 use Rattle.clock.specs.Clock.{rate_of, nanos_per_second, from_host, host_nanoseconds, time_of, moved_time}
-use Rattle.clock.specs.Fields.{with_control, with_time, with_offset, with_shadow, with_poll}
+use Rattle.clock.specs.Fields.{with_control, with_time, with_offset, with_shadow}
 use Rattle.clock.specs.Registers.{signed_difference, time_kept, offset_for}
 use Rattle.clock.specs.Sound.{Timed}
 use Rattle.clock.proofs.Cases.{moved-cases, kept-cases}
@@ -38,9 +38,6 @@ module _ (rate : ℕ) (k : Clock) (t : Timed rate k) where
 
   pub shadow-timed : (s : Shadow) → Timed rate (with_shadow s k)
   shadow-timed s = timed t.own t.subsecond t.offset t.host
-
-  pub poll-timed : (n : ℕ) → Timed rate (with_poll n k)
-  poll-timed n = timed t.own t.subsecond t.offset t.host
 
   offset-timed : (a b : ℕ) → Timed rate (with_offset (signed_difference a b) k)
   offset-timed a b = timed t.own t.subsecond (signed_small a b) t.host

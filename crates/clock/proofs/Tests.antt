@@ -1,20 +1,12 @@
 -- Laws of joined tests, of the tests of control and of the alarm check. Assumes nothing.
 use Prim.Native.Nat.{ℕ, ◌≤◌, ◌<◌}
-use mathlib.Core.Path.{◌≡◌, refl, sym, ◌∙◌}
+use mathlib.Core.Path.{◌≡◌, refl, sym}
 use mathlib.Core.Bool.{Bool, true, false, not, ◌&&◌, ◌||◌}
 use lib.Dec.{leb, ltb}
 use borrow.Author.Tests.{leb-true, leb-false, not-true}
 use Rattle.wide.proofs.Choices.{and_parts}
 use Rattle.clock.specs.declared.Clock.{Clock}
 use Rattle.clock.specs.Clock.{enabled, realtime, from_host, own_time, time_seconds, alarm_reached, polls}
-
--- a conjunction with each side replaced by what it is
-pub and_is : {r a b x y : Bool} → r ≡ (a && b) → a ≡ x → b ≡ y → r ≡ (x && y)
-and_is e p q = e ∙ rw (p, q)
-
--- a test of both, told to be t
-pub both_told : {r a b x y t : Bool} → r ≡ (a && b) → a ≡ x → b ≡ y → r ≡ t → (x && y) ≡ t
-both_told e p q h = sym (and_is e p q) ∙ h
 
 pub and-false : (a : Bool) → (a && false) ≡ false
 and-false true = refl
