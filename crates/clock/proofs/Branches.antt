@@ -12,7 +12,8 @@ use Rattle.wide.proofs.Choices.{and_parts}
 use Rattle.wide.specs.Number.{largest}
 use Rattle.clock.specs.declared.Offset.{Offset}
 use Rattle.clock.specs.declared.Clock.{Clock}
-use Rattle.clock.specs.Clock.{nanos_per_second, poll_limit, from_host, in_nanoseconds, host_nanoseconds, own_nanoseconds, time_of}
+use Rattle.clock.specs.Clock.{nanos_per_second, poll_limit, from_host, in_nanoseconds, host_nanoseconds}
+use Rattle.clock.specs.Clock.{own_nanoseconds, time_of}
 use Rattle.clock.specs.Fields.{with_offset}
 use Rattle.clock.specs.Registers.{signed_difference, own_time_set, set_time, takes_host, time_kept}
 use Rattle.clock.specs.Sound.{sound_rate}

@@ -16,7 +16,7 @@ returns-then-negative c =
     let order = before_is a.seconds a.nanoseconds b.seconds b.nanoseconds (omega arith) (omega arith) in
     rw c.if-negative.true
     (since_is true (duration_of a) (duration_of b) c.minus-by.result
-    (sym order ∙ sym c.lt-negative.ensures ∙ c.if-negative.true) c.minus-by.ensures
+    (sym order ∙ sym c.if-negative.ensures) c.minus-by.ensures
     ∙ ap (λ (n : ℕ). signed_difference (duration_of a) n) (host_total b c.args.host d.ensures))
 
 pub returns-else-negative : goal.returns-else-negative
@@ -28,5 +28,5 @@ returns-else-negative c =
     let order = before_is a.seconds a.nanoseconds b.seconds b.nanoseconds (omega arith) (omega arith) in
     rw c.if-negative.false
     (since_is false (duration_of a) (duration_of b) by.result
-    (sym order ∙ sym c.lt-negative.ensures ∙ c.if-negative.false) by.ensures
+    (sym order ∙ sym c.if-negative.ensures) by.ensures
     ∙ ap (λ (n : ℕ). signed_difference (duration_of a) n) (host_total b c.args.host d.ensures))
