@@ -15,7 +15,6 @@ use clock::Clock;
 use regmap::Registers;
 use regmap::fields::{byte_of_word, channel_of, place_of};
 use regmap::words::{clock_word, timer_word};
-use wide::flags::both;
 use wide::words::{high, low};
 
 // The result of a read: the latches after it, the byte, the alarm's two flags, and whether its alarm check set pending.
@@ -43,10 +42,7 @@ pub struct PlainReading {
 fn in_channels(offset: u32) -> bool
     ensures { result ≡ in_channels offset }
 {
-    both(
-        Registers::TIMER_CHANNEL_BASE <= offset,
-        offset <= Registers::TIMER_CHANNEL_LAST,
-    )
+    (Registers::TIMER_CHANNEL_BASE <= offset) & (offset <= Registers::TIMER_CHANNEL_LAST)
 }
 
 // The number of the channel in whose block the offset is, 0 elsewhere.
@@ -264,10 +260,7 @@ pub fn plain(offset: u32) -> bool
 {
     if in_channels(offset) {
         let register = place_of(offset) / 4 * 4;
-        return both(
-            register != HardwareTimer::COUNT_LO,
-            register != HardwareTimer::COUNT_HI,
-        );
+        return (register != HardwareTimer::COUNT_LO) & (register != HardwareTimer::COUNT_HI);
     }
     false
 }
