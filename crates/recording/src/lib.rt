@@ -151,7 +151,8 @@ impl<'a> Record<'a> {
     // Whether the run of a record gives the recorded results, and in the buffer the recorded answers, then old bytes.
     pub fn agrees(self, buffer: &mut [u8], old: &[u8]) -> bool
         requires { length old.now ≡ length buffer.old }
-        ensures { Decides result (Agrees self.entry.header self.entry.list.now self.entry.answers.now buffer.old old.now) }
+        ensures { Decides result (Agrees self.entry.header self.entry.list.now self.entry.answers.now buffer.old
+            old.now) }
     {
         let r = replayed(self.header.enable, self.list, buffer);
         r == self.header.results && holds(buffer, self.answers, old)

@@ -38,7 +38,7 @@ impl Tally {
     }
 
     // The tally of these lists and of others after them.
-    pub fn and_then(self, after: Tally) -> Tally {
+    pub fn joined(self, after: Tally) -> Tally {
         let lists = self.lists;
         let later = after.first.map(|d| Disagreement {
             list: lists.wrapping_add(d.list),

@@ -18,4 +18,5 @@ pub returns-in-None : goal.returns-in-None
 unfolding over
 returns-in-None c =
     let s = strip_prefix_is Decides-eqb c.args.buffer.now c.args.answers.now _ c.strip_prefix.ensures.cases in
-    (λ e. absurd (false≢true e), λ h. absurd ((rw c.in-None.is at s) (drop (length c.args.answers.now) c.args.old.now) h))
+    let old = drop (length c.args.answers.now) c.args.old.now in
+    (λ e. absurd (false≢true e), λ h. absurd ((rw c.in-None.is at s) old h))
