@@ -9,8 +9,6 @@
 // Call 0 stands for a record or a file that cannot be read; crates/recording says when a list and a call agree.
 #![tactic(auto)]
 
-ghost use Rattle.std.specs.Prelude.{◌≤◌, length, IfSome};
-
 use recording::Record;
 use recording::tally::{Disagreement, Tally};
 use std::env::{Env, FillError};
@@ -68,26 +66,24 @@ fn replay_file(rt: &impl Files, name: &[u8]) -> Option<Tally> {
     Some(replay(&bytes[..n]))
 }
 
-// Puts an argument at the start of a buffer and gives its length, none where there is no such argument. Of one that is
-// longer than the buffer it gives the empty name, which no file has.
-fn argument(rt: &impl Env, i: usize, name: &mut [u8]) -> Option<usize>
-    ensures { IfSome result (λ n. n ≤ length name.new) }
-{
-    match rt.arg(i, name) {
-        Ok(n) => Some(n),
-        Err(FillError::TooLong) => Some(0),
+// An argument, put into a buffer; none where there is no such argument. Of one that is longer than the buffer it gives
+// the empty name, which no file has.
+fn argument<'a>(rt: &impl Env, i: usize, buf: &'a mut [u8]) -> Option<&'a [u8]> {
+    match rt.arg(i, buf) {
+        Ok(n) => Some(&buf[..n]),
+        Err(FillError::TooLong) => Some(&[]),
         Err(FillError::NotPresent) => None,
     }
 }
 
 // The tally of the file that an argument names, printed; none where there is no such argument.
 fn replay_argument(rt: &(impl Env + Files + Print), i: usize) -> Result<Option<Tally>> {
-    let mut name = [0u8; NAME_LIMIT];
-    let Some(n) = argument(rt, i, &mut name) else {
+    let mut buf = [0u8; NAME_LIMIT];
+    let Some(name) = argument(rt, i, &mut buf) else {
         return Ok(None);
     };
-    let t = replay_file(rt, &name[..n]).unwrap_or(Tally::unreadable());
-    print_counts(rt, &name[..n], t)?;
+    let t = replay_file(rt, name).unwrap_or(Tally::unreadable());
+    print_counts(rt, name, t)?;
     if let Some(first) = t.first {
         print_first(rt, first)?;
     }
