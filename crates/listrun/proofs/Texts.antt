@@ -2,12 +2,11 @@
 -- the rule. Assumes nothing.
 use Prim.Native.Nat.{ℕ, ◌≤◌, ◌<◌}
 use native.Mathlib.Omega.{arith}
-use mathlib.Core.Path.{◌≡◌, sym, ap, ◌∙◌}
-use mathlib.Core.List.{List, ◌++◌}
+use mathlib.Core.Path.{◌≡◌, ap, ◌∙◌}
+use mathlib.Core.List.{List}
 use lib.ListN.{length, take, drop, length-append}
-use lib.Seq.{take_all, take-append_seam, length-take-le}
+use lib.Seq.{take_all, take-append_seam}
 use borrow.Author.Tests.{lt-ltb, le-ltb}
-use Rattle.io.specs.Counts.{IsPrefixLen}
 use Rattle.board.specs.declared.Board.{Board}
 use Rattle.board.specs.Fields.{fresh_board}
 use Rattle.list.specs.declared.Outcome.{Outcome}
@@ -19,15 +18,10 @@ use Rattle.listrun.specs.Printed.{list_limit, answer_room, listed, printed_of}
 -- ---- a text in a buffer that has room for it
 
 pub text_is : (t p old new : List ℕ) (r : ℕ) → t ≡ p → r ≡ length t → new ≡ with_text t old → length t ≤ length old →
-    IsPrefixLen r new × (take r new ≡ p)
+    take r new ≡ p
 unfolding with_text
 text_is t p old new r q e f h =
-    let g : new ≡ t ++ drop (length t) old = f ∙ ap (λ (l : List ℕ). l ++ drop (length t) old)
-    (take_all (length old) t h) in
-    let n : r ≤ length new = omega (arith, ap length g, length-append t (drop (length t) old)) in (
-      (n, sym (length-take-le r new n)),
-      rw (g, e) (take-append_seam t (drop (length t) old) ∙ q),
-    )
+    rw (e, f, take_all (length old) t h) (take-append_seam t (drop (length t) old) ∙ q)
 
 pub with_text_is : (t p old new : List ℕ) (r : ℕ) → t ≡ p → r ≡ length t → new ≡ with_text t old →
     (r ≡ length p) × (new ≡ with_text p old)
