@@ -2,10 +2,10 @@
 -- the rule. Assumes nothing.
 use Prim.Native.Nat.{ℕ, ◌≤◌, ◌<◌}
 use native.Mathlib.Omega.{arith}
-use mathlib.Core.Path.{◌≡◌, ap, ◌∙◌}
+use mathlib.Core.Path.{◌≡◌, sym, ap, ◌∙◌}
 use mathlib.Core.List.{List}
 use lib.ListN.{length, take, drop, length-append}
-use lib.Seq.{take_all, take-append_seam}
+use lib.Seq.{take_all, take-append_seam, length-take-le}
 use borrow.Author.Tests.{lt-ltb, le-ltb}
 use Rattle.board.specs.declared.Board.{Board}
 use Rattle.board.specs.Fields.{fresh_board}
@@ -23,10 +23,6 @@ unfolding with_text
 text_is t p old new r q e f h =
     rw (e, f, take_all (length old) t h) (take-append_seam t (drop (length t) old) ∙ q)
 
-pub with_text_is : (t p old new : List ℕ) (r : ℕ) → t ≡ p → r ≡ length t → new ≡ with_text t old →
-    (r ≡ length p) × (new ≡ with_text p old)
-with_text_is t p old new r q e f = (e ∙ ap length q, f ∙ ap (λ (l : List ℕ). with_text l old) q)
-
 -- ---- the answers that a run wrote
 
 module _ (list : List ℕ) (board : Board) (before after : List ℕ) (o : Outcome) (room : ℕ) (fresh : board ≡ fresh_board)
@@ -36,17 +32,20 @@ module _ (list : List ℕ) (board : Board) (before after : List ℕ) (o : Outcom
     counted = ap (λ (q : Outcome). q.written) ran ∙ written_is board list room
 
     -- they lie within the buffer
-    pub written-fits : o.written ≤ length after
+    pub written_fits : o.written ≤ length after
     unfolding over
-    written-fits =
+    written_fits =
         let a = (run_of board list room).answers in
         omega (arith, counted, ap length wrote, length-append a (drop (length a) before))
 
+    pub written_long : o.written ≡ length (take o.written after)
+    written_long = sym (length-take-le o.written after written_fits)
+
     -- they are listed
-    pub listed-is :
+    pub listed_is :
         listing_of (take o.written after) o.calls o.refusal o.used ≡ listed (run_of fresh_board list room)
     unfolding listed over
-    listed-is =
+    listed_is =
         let a = (run_of board list room).answers in
         let front : take o.written after ≡ a = rw (counted, wrote) (take-append_seam a (drop (length a) before)) in
         ap (λ (l : List ℕ). listing_of l o.calls o.refusal o.used) front

@@ -25,6 +25,7 @@ const TEXT_ROOM: usize = 2 * ANSWER_ROOM + 67;
 
 // Runs a list over a fresh board, and writes the listing at the start of a buffer, as much of it as fits. Gives the
 // listing's length.
+#[tactic(auto, using(crate::proofs::Texts::written_fits, crate::proofs::Texts::written_long, crate::proofs::Texts::listed_is))]
 fn run_list(list: &[u8], answers: &mut [u8], text: &mut [u8]) -> usize
     ensures value { result ≡ length (listed (run_of fresh_board list.now (length answers.old))) }
     ensures text_after { text.new
