@@ -1,24 +1,20 @@
 -- The loop over the answers. Assumes nothing.
 use Prim.Native.Nat.{ℕ, ◌+◌, ◌-◌, ◌≤◌}
-use mathlib.Core.Path.{◌≡◌, refl, ap}
+use mathlib.Core.Path.{◌≡◌, ap}
 use native.Mathlib.Omega.{arith}
 use Rattle.std.proofs.lemmas.List.{length-take, get_or-take, drop-take, take_all}
 use Rattle.listing.proofs.Lines.{next_line}
-use mathlib.Core.List.{List, [], ◌++◌}
+use mathlib.Core.List.{List, ◌++◌}
 use Rattle.listing.specs.declared.Text.{Text}
 use lib.ListN.{length, get_or, take, drop}
 use Rattle.listing.specs.Listing.{answer_line, answer_lines, length_at}
 use Rattle.listing.specs.CodePuts.{Put}
-use Rattle.listing.proofs.Puts.{put_none}
 
 -- some of the answers are listed, and others left
 pub record Listed (answers : List ℕ) (old now : Text) (left : List ℕ) : Type 0 where
   pub done : List ℕ
   pub put : Put done old now
   pub all : answer_lines answers ≡ done ++ answer_lines left
-
-pub none_listed : (answers : List ℕ) (a : Text) → Listed answers a a answers
-none_listed answers a = record { done = []; put = put_none a; all = refl }
 
 -- the first record of some bytes is listed, and then those behind it
 pub next_record : (l : List ℕ) {r s : List ℕ} → 3 + length_at l ≤ length l →
