@@ -1,13 +1,20 @@
 -- Laws of the lines: the next answer's line, where the lines end, and how long they are. Assumes nothing.
 use Prim.Native.Nat.{ℕ, zero, suc, ◌+◌, ◌*◌, ◌≤◌, ◌<◌}
-use native.Mathlib.Nat.{add-zero, add_assoc}
 use native.Mathlib.Omega.{arith}
 use mathlib.Core.Path.{◌≡◌, refl, sym, ap, ◌∙◌}
 use mathlib.Core.List.{List, [], ◌∷◌, ◌++◌}
-use lib.ListN.{length, get_or, take, drop, length-append, length-drop, drop_of_length-le}
-use lib.Seq.{get_or-drop, drop-drop, drop-cons}
+use lib.ListN.{length, get_or, take, drop, length-append}
+use lib.Seq.{drop-cons}
 use borrow.Author.Tests.{le-leb, lt-leb}
+use Rattle.std.proofs.lemmas.List.{take_more, take-append-drop, length-take}
+use Rattle.listing.proofs.Numbers.{decimal-length}
+use Prim.Native.Nat.{◌^◌}
+use mathlib.Core.List.{append_assoc}
 use Rattle.wide.specs.Fields.{be_at}
+use Rattle.wide.proofs.Choices.{either}
+use lib.Dec.{leb}
+use borrow.Author.Tests.{leb-true}
+use Prim.Native.Nat.{◌-◌}
 use Rattle.listing.specs.Listing.{
   ascii,
   hex_text,
@@ -16,6 +23,7 @@ use Rattle.listing.specs.Listing.{
   answer_line,
   length_at,
   lines_on,
+  end_line,
   answer_lines,
 }
 
@@ -47,39 +55,6 @@ unfolding lines_on
 last_line [] h = refl
 last_line (x ∷ rest) h = rw (lt-leb (3 + length_at (x ∷ rest)) (length (x ∷ rest)) h)
 
--- ---- from an index on
-
-be_at-drop : (l : List ℕ) (k at n : ℕ) → be_at (drop k l) at n ≡ be_at l (k + at) n
-unfolding be_at
-be_at-drop l k at zero = refl
-be_at-drop l k at (suc n) = rw (be_at-drop l k at n, get_or-drop k l (at + n) 0, add_assoc k at n)
-
-module _ (l : List ℕ) (at size : ℕ) (told : size ≡ be_at l (at + 1) 2) where
-  size-at : length_at (drop at l) ≡ size
-  size-at = be_at-drop l at 1 2 ∙ sym told
-
-  pub line-at : at + 3 + size ≤ length l →
-      answer_lines (drop at l)
-      ≡ answer_line (get_or l at 0) (take size (drop (at + 3) l)) ++ answer_lines (drop (at + 3 + size) l)
-  line-at h =
-      let m : 3 + length_at (drop at l) ≤ length (drop at l) = omega (arith, size-at, length-drop at l) in
-      next_line (drop at l) m
-      ∙ rw (
-        size-at,
-        get_or-drop at l 0 0,
-        drop-drop 3 at l,
-        drop-drop (3 + size) at l,
-        add_assoc at 3 size,
-        add-zero at,
-      )
-
-  pub no-line-at : at ≤ length l → length l < at + 3 + size → answer_lines (drop at l) ≡ []
-  no-line-at g h = last_line (drop at l) (omega (arith, size-at, length-drop at l))
-
-pub lines_of_none : (l : List ℕ) (at : ℕ) → length l ≤ at → answer_lines (drop at l) ≡ []
-unfolding lines_on
-lines_of_none l at h = ap answer_lines (drop_of_length-le l h)
-
 -- ---- lengths
 
 bytes_length : (l : List ℕ) → length (bytes_text l) ≡ 2 * length l
@@ -96,6 +71,39 @@ pub line-length : (tag : ℕ) (value : List ℕ) → length (answer_line tag val
 unfolding answer_line ascii
 line-length tag value = simp length-append (omega (arith, value-length value))
 
+length_at-small : (l : List ℕ) → ((i : ℕ) → get_or l i 0 < 256) → length_at l < 65536
+unfolding be_at
+length_at-small l b = omega (arith, b 1, b 2)
+
+-- an answer of n bytes and three has a line of at most 2 n + 5 characters, and n is below 65,536: so the lines are
+-- fewer than twice as many characters as there are bytes, by one for every 65,538 bytes
+pub lines-length : (l : List ℕ) → ((i : ℕ) → get_or l i 0 < 256) → (k : ℕ) →
+    65538 * length (lines_on k l) ≤ 131075 * (length l - k)
+unfolding lines_on
+lines-length [] b k = omega arith
+lines-length (x ∷ rest) b (suc k) = omega (arith, lines-length rest (λ i. b (suc i)) k)
+lines-length (x ∷ rest) b zero =
+    let n = length_at (x ∷ rest) in
+    let value = take n (drop 2 rest) in
+    either (leb (3 + n) (length (x ∷ rest)))
+    (λ e. rw e (omega (
+      arith,
+      leb-true _ _ e,
+      length_at-small (x ∷ rest) b,
+      length-append (answer_line x value) (lines_on (2 + n) rest),
+      line-length x value,
+      length-take n (drop 2 rest),
+      lines-length rest (λ i. b (suc i)) (2 + n),
+    )))
+    (λ e. rw e (omega arith))
+
+-- three numbers of 64 bits take at most sixty digits
+pub end-length : (calls refusal used : ℕ) → calls < 2 ^ 64 → refusal < 2 ^ 64 → used < 2 ^ 64 →
+    length (end_line calls refusal used) ≤ 67
+unfolding end_line ascii
+end-length calls refusal used c r u =
+    simp length-append (omega (arith, decimal-length calls c, decimal-length refusal r, decimal-length used u))
+
 -- ---- a value
 
 pub value_none : (v : List ℕ) → length v ≡ 0 → ascii "-" ≡ value_text v
@@ -108,11 +116,20 @@ unfolding value_text
 value_some [] h = absurd (h refl)
 value_some (x ∷ v) h = refl
 
-pub bytes_from : (l : List ℕ) (i : ℕ) → i < length l →
-    bytes_text (drop i l) ≡ hex_text (get_or l i 0) ++ bytes_text (drop (suc i) l)
+-- bytes of two lists, one behind the other
+bytes_append : (a b : List ℕ) → bytes_text (a ++ b) ≡ bytes_text a ++ bytes_text b
 unfolding bytes_text
-bytes_from l i h = ap bytes_text (drop-cons l i 0 h)
+bytes_append [] b = refl
+bytes_append (x ∷ a) b = rw (bytes_append a b) (sym (append_assoc (hex_text x) (bytes_text a) (bytes_text b)))
 
-pub bytes_none : (l : List ℕ) (i : ℕ) → length l ≤ i → bytes_text (drop i l) ≡ []
+pub bytes_more : (l : List ℕ) (i : ℕ) → i < length l →
+    bytes_text (take (i + 1) l) ≡ bytes_text (take i l) ++ hex_text (get_or l i 0)
 unfolding bytes_text
-bytes_none l i h = ap bytes_text (drop_of_length-le l h)
+bytes_more l i h = ap bytes_text (take_more l i 0 h) ∙ bytes_append (take i l) (get_or l i 0 ∷ [])
+
+pub bytes_at : (l : List ℕ) (i : ℕ) → i < length l →
+    bytes_text l ≡ bytes_text (take i l) ++ (hex_text (get_or l i 0) ++ bytes_text (drop (suc i) l))
+unfolding bytes_text
+bytes_at l i h =
+    ap bytes_text (sym (take-append-drop i l) ∙ ap (λ (t : List ℕ). take i l ++ t) (drop-cons l i 0 h))
+    ∙ bytes_append (take i l) (get_or l i 0 ∷ drop (suc i) l)

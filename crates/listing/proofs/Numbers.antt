@@ -1,22 +1,16 @@
 -- Laws of numbers as text: the digits that the code counts are those of the rule. Assumes nothing.
-use Prim.Native.Nat.{ℕ, zero, suc, ◌-◌, ◌*◌, ◌/◌, ◌%◌, ◌^◌, ◌≤◌, ◌<◌}
+use Prim.Native.Nat.{ℕ, zero, suc, ◌*◌, ◌/◌, ◌^◌, ◌≤◌, ◌<◌}
 use native.Mathlib.Nat.{pow-suc, pow-le-pow_right}
 use native.Mathlib.Numerals.{sub-one}
 use native.Mathlib.Omega.{arith}
 use mathlib.Core.Path.{◌≡◌, refl, ap}
-use mathlib.Core.List.{List, [], ◌∷◌}
+use mathlib.Core.List.{List}
 use lib.Dec.{ltb}
-use borrow.Author.Tests.{ltb-true, ltb-false}
+use lib.ListN.{length, length-append}
+use borrow.Author.Tests.{ltb-true, ltb-false, lt-ltb}
 use Rattle.wide.proofs.Choices.{either}
-use Rattle.io.specs.Digits.{hex_digit_ascii, last_digits, IsDigitCount}
-use Rattle.listing.specs.Listing.{hex_text, places_of, decimal_text}
-
--- two digits of a byte
-pub hex_is : (byte : ℕ) → byte < 256 → (a b : ℕ) → a ≡ hex_digit_ascii (byte / 16) → b ≡ hex_digit_ascii (byte % 16) →
-    a ∷ b ∷ [] ≡ hex_text byte
-hex_is byte h a b p q =
-    let e : byte / 16 % 16 ≡ byte / 16 = omega arith in
-    rw (p, q, e)
+use Rattle.io.specs.Digits.{last_digits, IsDigitCount}
+use Rattle.listing.specs.Listing.{places_of, decimal_text}
 
 -- a number below ten has one digit
 one_place : (n k : ℕ) → n < 10 → IsDigitCount 10 1 n k → 1 ≡ k
@@ -55,12 +49,23 @@ pub decimal_is : (n k : ℕ) (text : List ℕ) → IsDigitCount 10 1 n k → tex
 unfolding decimal_text
 decimal_is n k text f e = rw (places_are n n k (omega arith) f) e
 
+-- the digits of a number below 10 ^ (k + 1), which has at most k + 1
+tenth-below : (n k : ℕ) → n < 10 ^ suc (suc k) → n / 10 < 10 ^ suc k
+tenth-below n k h = let p : n < 10 ^ suc k * 10 = rw (pow-suc 10 (suc k)) at h in omega arith
+
+places-few : (most n k : ℕ) → n < 10 ^ suc k → places_of most n ≤ suc k
+unfolding places_of
+places-few zero n k h = omega arith
+places-few (suc most) n zero h = rw (lt-ltb n 10 (omega arith), places_of) (omega arith)
+places-few (suc most) n (suc k) h =
+    let few = places-few most (n / 10) k (tenth-below n k h) in
+    either (ltb n 10) (λ e. rw (e, places_of) (omega arith)) (λ e. rw (e, places_of) (omega (arith, few)))
+
+digits-length : (k n : ℕ) → length (last_digits 10 k n) ≡ k
+digits-length zero n = refl
+digits-length (suc k) n = simp length-append (omega (arith, digits-length k (n / 10)))
+
 -- a number of 64 bits has at most twenty digits
-pub few_places : (n k : ℕ) → n < 2 ^ 64 → IsDigitCount 10 1 n k → k ≤ 20
-few_places n k h f =
-    either (ltb 20 k)
-    (λ e. let l = ltb-true 20 k e in
-    let p : 10 ^ 20 ≤ 10 ^ (k - 1) = pow-le-pow_right {n = 10} (omega arith) {i = 20} {j = k - 1} (omega arith) in
-    let q : 10 ^ (k - 1) ≤ n = f.2 (omega arith) in
-    absurd (omega arith))
-    (λ e. ltb-false 20 k e)
+pub decimal-length : (n : ℕ) → n < 2 ^ 64 → length (decimal_text n) ≤ 20
+unfolding decimal_text
+decimal-length n h = omega (arith, digits-length (places_of n n) n, places-few n n 19 (omega arith))

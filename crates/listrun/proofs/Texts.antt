@@ -3,11 +3,10 @@
 use Prim.Native.Nat.{ℕ, ◌≤◌, ◌<◌}
 use native.Mathlib.Omega.{arith}
 use mathlib.Core.Path.{◌≡◌, sym, ap, ◌∙◌}
-use mathlib.Core.List.{List, ◌++◌}
+use mathlib.Core.List.{List}
 use lib.ListN.{length, take, drop, length-append}
 use lib.Seq.{take_all, take-append_seam, length-take-le}
 use borrow.Author.Tests.{lt-ltb, le-ltb}
-use Rattle.io.specs.Counts.{IsPrefixLen}
 use Rattle.board.specs.declared.Board.{Board}
 use Rattle.board.specs.Fields.{fresh_board}
 use Rattle.list.specs.declared.Outcome.{Outcome}
@@ -19,19 +18,10 @@ use Rattle.listrun.specs.Printed.{list_limit, answer_room, listed, printed_of}
 -- ---- a text in a buffer that has room for it
 
 pub text_is : (t p old new : List ℕ) (r : ℕ) → t ≡ p → r ≡ length t → new ≡ with_text t old → length t ≤ length old →
-    IsPrefixLen r new × (take r new ≡ p)
+    take r new ≡ p
 unfolding with_text
 text_is t p old new r q e f h =
-    let g : new ≡ t ++ drop (length t) old = f ∙ ap (λ (l : List ℕ). l ++ drop (length t) old)
-    (take_all (length old) t h) in
-    let n : r ≤ length new = omega (arith, ap length g, length-append t (drop (length t) old)) in (
-      (n, sym (length-take-le r new n)),
-      rw (g, e) (take-append_seam t (drop (length t) old) ∙ q),
-    )
-
-pub with_text_is : (t p old new : List ℕ) (r : ℕ) → t ≡ p → r ≡ length t → new ≡ with_text t old →
-    (r ≡ length p) × (new ≡ with_text p old)
-with_text_is t p old new r q e f = (e ∙ ap length q, f ∙ ap (λ (l : List ℕ). with_text l old) q)
+    rw (e, f, take_all (length old) t h) (take-append_seam t (drop (length t) old) ∙ q)
 
 -- ---- the answers that a run wrote
 
@@ -42,17 +32,20 @@ module _ (list : List ℕ) (board : Board) (before after : List ℕ) (o : Outcom
     counted = ap (λ (q : Outcome). q.written) ran ∙ written_is board list room
 
     -- they lie within the buffer
-    pub written-fits : o.written ≤ length after
+    pub written_fits : o.written ≤ length after
     unfolding over
-    written-fits =
+    written_fits =
         let a = (run_of board list room).answers in
         omega (arith, counted, ap length wrote, length-append a (drop (length a) before))
 
+    pub written_long : o.written ≡ length (take o.written after)
+    written_long = sym (length-take-le o.written after written_fits)
+
     -- they are listed
-    pub listed-is :
+    pub listed_is :
         listing_of (take o.written after) o.calls o.refusal o.used ≡ listed (run_of fresh_board list room)
     unfolding listed over
-    listed-is =
+    listed_is =
         let a = (run_of board list room).answers in
         let front : take o.written after ≡ a = rw (counted, wrote) (take-append_seam a (drop (length a) before)) in
         ap (λ (l : List ℕ). listing_of l o.calls o.refusal o.used) front

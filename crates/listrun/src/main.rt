@@ -25,6 +25,7 @@ const TEXT_ROOM: usize = 2 * ANSWER_ROOM + 67;
 
 // Runs a list over a fresh board, and writes the listing at the start of a buffer, as much of it as fits. Gives the
 // listing's length.
+#[tactic(auto, using(crate::proofs::Texts::written_fits, crate::proofs::Texts::written_long, crate::proofs::Texts::listed_is))]
 fn run_list(list: &[u8], answers: &mut [u8], text: &mut [u8]) -> usize
     ensures value { result ≡ length (listed (run_of fresh_board list.now (length answers.old))) }
     ensures text_after { text.new
@@ -36,16 +37,21 @@ fn run_list(list: &[u8], answers: &mut [u8], text: &mut [u8]) -> usize
     listing::listing(&answers[..written], r.calls, r.refusal, r.used, text)
 }
 
-// Writes what is printed for a list at the start of a buffer and gives its length. A listing has at most two characters
-// for each answer byte, and 67: the buffer has room for all of it.
-fn print_list(list: &[u8], answers: &mut [u8; ANSWER_ROOM], text: &mut [u8; TEXT_ROOM]) -> usize
-    ensures prefix_len { IsPrefixLen result text.new }
-    ensures text_after { take result text.new ≡ printed_of list.now }
+// What is printed for a list, written at the start of a buffer. A listing has at most two characters for each answer
+// byte, and 67: the buffer has room for all of it.
+fn print_list<'a>(
+    list: &[u8],
+    answers: &mut [u8; ANSWER_ROOM],
+    text: &'a mut [u8; TEXT_ROOM],
+) -> &'a [u8]
+    ensures { result.now ≡ printed_of list.now }
 {
-    if LIST_LIMIT < list.len() {
-        return listing::put_text(b"too long\n", text);
-    }
-    run_list(list, answers, text)
+    let length = if LIST_LIMIT < list.len() {
+        listing::put_text(b"too long\n", text)
+    } else {
+        run_list(list, answers, text)
+    };
+    &text[..length]
 }
 
 // Says on standard error which stream failed and why. Gives the exit status that tells it, which a program that cannot
@@ -64,8 +70,7 @@ fn main(rt: HostRuntime) -> ExitCode {
     };
     let mut answers = [0u8; ANSWER_ROOM];
     let mut text = [0u8; TEXT_ROOM];
-    let length = print_list(&list[..n], &mut answers, &mut text);
-    match rt.write_all(&text[..length]) {
+    match rt.write_all(print_list(&list[..n], &mut answers, &mut text)) {
         Ok(()) => ExitCode::SUCCESS,
         Err(error) => failed(&rt, "standard output", error),
     }

@@ -1,5 +1,5 @@
 -- What a record is, and when a run agrees with it.
-use Rattle.std.specs.Prelude.{◌≡◌, ℕ, ◌+◌, ◌≤◌, Bool, true, ◌&&◌, List, length, ◌==◌, slice_index}
+use Rattle.std.specs.Prelude.{◌≡◌, ℕ, ◌+◌, ◌≤◌, List, length, slice_index}
 use Rattle.wide.specs.Fields.{be_at}
 use Rattle.board.specs.declared.Board.{Board}
 use Rattle.board.specs.Fields.{fresh_board, with_timer_enable}
@@ -7,10 +7,6 @@ use Rattle.list.specs.declared.Outcome.{Outcome}
 use Rattle.list.specs.Run.{run_of, over}
 use Rattle.recording.specs.declared.Results.{Results}
 use Rattle.recording.specs.declared.Header.{Header}
-
--- an answer that is true exactly where a fact holds
-abbrev pub Decides : Bool → Type 0 → Type 0
-Decides b P = (b ≡ true → P) × (P → b ≡ true)
 
 -- the fresh board with a timer enable
 unfoldable pub start_of : ℕ → Board
@@ -28,28 +24,21 @@ header_at s at =
       enable = slice_index s at;
       list = be_at s (at + 1) 2;
       buffer = be_at s (at + 3) 2;
-      calls = be_at s (at + 5) 2;
-      used = be_at s (at + 7) 2;
-      written = be_at s (at + 9) 2;
-      refusal = slice_index s (at + 11);
+      results = record {
+        calls = be_at s (at + 5) 2;
+        used = be_at s (at + 7) 2;
+        written = be_at s (at + 9) 2;
+        refusal = slice_index s (at + 11);
+      };
     }
-
--- the results that a record has
-abbrev pub recorded : Header → Results
-recorded h = record { calls = h.calls; used = h.used; written = h.written; refusal = h.refusal }
 
 -- a record lies within `room` bytes, and its buffer is not too long
 pub record Fits (h : Header) (room : ℕ) : Type 0 where
-  pub bytes : 12 + (h.list + h.written) ≤ room
+  pub bytes : 12 + (h.list + h.results.written) ≤ room
   pub buffer : h.buffer ≤ 32768
-
-unfoldable pub same_results : Results → Results → Bool
-same_results a b =
-    (a.calls == b.calls)
-    && (a.used == b.used && (a.written == b.written && a.refusal == b.refusal))
 
 -- the run of a record's list, by the rules, has the recorded results, and leaves in the buffer the recorded answers,
 -- then old bytes
 pub record Agrees (h : Header) (list answers buffer old : List ℕ) : Type 0 where
-  pub same-results : results_of (run_of (start_of h.enable) list (length buffer)).outcome ≡ recorded h
+  pub same-results : results_of (run_of (start_of h.enable) list (length buffer)).outcome ≡ h.results
   pub same_bytes : over (run_of (start_of h.enable) list (length buffer)).answers buffer ≡ over answers old

@@ -1,14 +1,15 @@
 // A record of the Rust's answers: its numbers, the run of its list, and whether the run agrees with it.
 #![tactic(auto)]
 
-ghost use Rattle.std.specs.Prelude.{◌≡◌, ◌+◌, ◌≤◌, length};
+ghost use Rattle.std.specs.Prelude.{◌≡◌, ◌+◌, ◌≤◌, length, take, drop, MatchOption};
+ghost use Rattle.std.specs.Bool.{Decides};
+ghost use Rattle.wide.specs.Fields.{be_at};
 ghost use Rattle.list.specs.Run.{run_of, over};
-ghost use Rattle.recording.specs.Record.{Decides, start_of, results_of, header_at, recorded};
-ghost use Rattle.recording.specs.Record.{Fits, same_results, Agrees};
+ghost use Rattle.recording.specs.Record.{start_of, results_of, header_at, Fits, Agrees};
 
 use board::Board;
+use listing::first_record;
 use wide::fields::get;
-use wide::flags::both;
 
 pub mod tally;
 
@@ -19,7 +20,7 @@ pub const RECORD_HEADER_LENGTH: usize = 12;
 pub const BUFFER_LIMIT: usize = 32768;
 
 // A run's results without the board and the answers.
-#[derive(Clone, Copy)]
+#[derive(Clone, Copy, PartialEq, Eq)]
 pub struct Results {
     pub calls: usize,
     pub used: usize,
@@ -34,25 +35,41 @@ pub struct Header {
     pub enable: u8,
     pub list: usize,
     pub buffer: usize,
-    pub calls: usize,
-    pub used: usize,
-    pub written: usize,
-    pub refusal: u8,
+    pub results: Results,
+}
+
+// A record: its numbers, its list and its answers.
+#[derive(Clone, Copy)]
+pub struct Record<'a> {
+    pub header: Header,
+    pub list: &'a [u8],
+    pub answers: &'a [u8],
+}
+
+// The number in two bytes.
+fn number_at(s: &[u8], at: usize) -> usize
+    requires { at + 2 ≤ length s.now }
+    ensures { result ≡ be_at s.now at 2 }
+{
+    get(s, at, 2) as usize
 }
 
 // The numbers of the record at an index.
+#[tactic(auto, unfolding(crate::specs::Record::header_at))]
 pub fn header_at(s: &[u8], at: usize) -> Header
     requires { at + 12 ≤ length s.now }
     ensures { result ≡ header_at s.now at }
 {
     Header {
         enable: s[at],
-        list: get(s, at + 1, 2) as usize,
-        buffer: get(s, at + 3, 2) as usize,
-        calls: get(s, at + 5, 2) as usize,
-        used: get(s, at + 7, 2) as usize,
-        written: get(s, at + 9, 2) as usize,
-        refusal: s[at + 11],
+        list: number_at(s, at + 1),
+        buffer: number_at(s, at + 3),
+        results: Results {
+            calls: number_at(s, at + 5),
+            used: number_at(s, at + 7),
+            written: number_at(s, at + 9),
+            refusal: s[at + 11],
+        },
     }
 }
 
@@ -62,16 +79,11 @@ pub fn fits(h: Header, room: usize) -> bool
     ensures { Decides result (Fits h room) }
 {
     let rest = room - RECORD_HEADER_LENGTH;
-    if rest < h.list {
-        return false;
-    }
-    if rest - h.list < h.written {
-        return false;
-    }
-    h.buffer <= BUFFER_LIMIT
+    h.list <= rest && h.results.written <= rest - h.list && h.buffer <= BUFFER_LIMIT
 }
 
 // The fresh board with a timer enable.
+#[tactic(auto, unfolding(crate::specs::Record::start_of))]
 fn start(enable: u8) -> Board
     ensures { result ≡ start_of enable }
 {
@@ -97,72 +109,68 @@ fn replayed(enable: u8, list: &[u8], answers: &mut [u8]) -> Results
     }
 }
 
-// Whether a run has the recorded results.
-fn same_results(r: Results, h: Header) -> bool
-    ensures { result ≡ same_results r (recorded h) }
-{
-    both(
-        r.calls == h.calls,
-        both(
-            r.used == h.used,
-            both(r.written == h.written, r.refusal == h.refusal),
-        ),
-    )
-}
-
 // Whether a buffer holds answers from its first byte, then old bytes.
 fn holds(buffer: &[u8], answers: &[u8], old: &[u8]) -> bool
     requires { length old.now ≡ length buffer.now }
     ensures { Decides result (buffer.now ≡ over answers.now old.now) }
 {
-    let n = answers.len();
-    if buffer.len() < n {
-        return false;
+    match buffer.strip_prefix(answers) {
+        Some(rest) => rest == &old[answers.len()..],
+        None => false,
     }
-    if !check::same(&buffer[..n], answers) {
-        return false;
-    }
-    check::same(&buffer[n..], &old[n..])
 }
 
-// Whether the run of a record gives the recorded results, and in the buffer the recorded answers, then old bytes.
-pub fn agrees(h: Header, list: &[u8], answers: &[u8], buffer: &mut [u8], old: &[u8]) -> bool
-    requires { length old.now ≡ length buffer.old }
-    ensures { Decides result (Agrees h list.now answers.now buffer.old
-        old.now) }
-{
-    let r = replayed(h.enable, list, buffer);
-    if !same_results(r, h) {
-        return false;
+impl<'a> Record<'a> {
+    // The record that some bytes begin with, and the bytes behind it; none where they begin with no record that fits.
+    pub fn first(s: &'a [u8]) -> Option<(Record<'a>, &'a [u8])>
+        ensures { MatchOption result (12 ≤ length s.now → Fits (header_at s.now 0) (length s.now) → ⊥)
+            (λ r. (12 ≤ length s.now)
+            × Fits (header_at s.now 0) (length s.now)
+            × (r.0.header ≡ header_at s.now 0)
+            × (r.0.list.now ≡ take r.0.header.list (drop 12 s.now))
+            × (r.0.answers.now ≡ take r.0.header.results.written (drop (12 + r.0.header.list) s.now))
+            × (r.1.now ≡ drop (12 + (r.0.header.list + r.0.header.results.written)) s.now)) }
+    {
+        if s.len() < RECORD_HEADER_LENGTH {
+            return None;
+        }
+        let header = header_at(s, 0);
+        if !fits(header, s.len()) {
+            return None;
+        }
+        let (list, rest) = s[RECORD_HEADER_LENGTH..].split_at(header.list);
+        let (answers, rest) = rest.split_at(header.results.written);
+        let made = Record {
+            header,
+            list,
+            answers,
+        };
+        Some((made, rest))
     }
-    holds(buffer, answers, old)
-}
 
-// Whether b has the same bytes as a from index `from` up to `to`.
-fn same_part(a: &[u8], b: &[u8], from: usize, to: usize) -> bool
-    requires { (from ≤ to) × (to ≤ length a.now) }
-{
-    if b.len() < to {
-        return false;
+    // Whether the run of a record gives the recorded results, and in the buffer the recorded answers, then old bytes.
+    pub fn agrees(self, buffer: &mut [u8], old: &[u8]) -> bool
+        requires { length old.now ≡ length buffer.old }
+        ensures { Decides result (Agrees self.entry.header self.entry.list.now self.entry.answers.now buffer.old
+            old.now) }
+    {
+        let r = replayed(self.header.enable, self.list, buffer);
+        r == self.header.results && holds(buffer, self.answers, old)
     }
-    check::same(&a[from..to], &b[from..to])
 }
 
 // How many recorded answers, header and value, a buffer holds at their place, up to the first that it does not hold.
 pub fn leading(answers: &[u8], buffer: &[u8]) -> usize {
     let mut n = 0;
-    let mut at = 0;
-    while format::HEADER_LENGTH <= answers.len() - at {
-        let size = get(answers, at + 1, 2) as usize;
-        if answers.len() - at - format::HEADER_LENGTH < size {
-            return n;
-        }
-        let to = at + format::HEADER_LENGTH + size;
-        if !same_part(answers, buffer, at, to) {
-            return n;
-        }
+    let mut left = answers;
+    let mut held = buffer;
+    while let Some((record, rest)) = first_record(left) {
+        let Some(more) = held.strip_prefix(record) else {
+            break;
+        };
         n += 1;
-        at = to;
+        left = rest;
+        held = more;
     }
     n
 }

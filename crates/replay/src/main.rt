@@ -9,9 +9,8 @@
 // Call 0 stands for a record or a file that cannot be read; crates/recording says when a list and a call agree.
 #![tactic(auto)]
 
-ghost use Rattle.std.specs.Prelude.{◌≤◌, length, IfSome};
-
-use recording::tally::{Tally, joined, none, replay_record};
+use recording::Record;
+use recording::tally::{Disagreement, Tally};
 use std::env::{Env, FillError};
 use std::fs::File;
 use std::io::Result;
@@ -25,19 +24,14 @@ const NAME_LIMIT: usize = 4096;
 
 // The tally of a file's bytes.
 fn replay(s: &[u8]) -> Tally {
-    let mut t = none(0);
-    let mut at = 0;
-    while at < s.len() {
-        let room = s.len() - at;
-        if room < recording::RECORD_HEADER_LENGTH {
-            return joined(t, none(1));
-        }
-        let h = recording::header_at(s, at);
-        if !recording::fits(h, room) {
-            return joined(t, none(1));
-        }
-        t = joined(t, replay_record(s, at, h));
-        at += recording::RECORD_HEADER_LENGTH + (h.list + h.written);
+    let mut t = Tally::default();
+    let mut left = s;
+    while !left.is_empty() {
+        let Some((next, rest)) = Record::first(left) else {
+            return t.joined(Tally::unreadable());
+        };
+        t = t.joined(next.tally());
+        left = rest;
     }
     t
 }
@@ -55,61 +49,53 @@ fn print_counts(rt: &impl Print, title: &[u8], t: Tally) -> Result<()> {
 }
 
 // Prints the first that did not agree.
-fn print_first(rt: &impl Print, t: Tally) -> Result<()> {
-    let Tally { list, call, .. } = t;
+fn print_first(rt: &impl Print, first: Disagreement) -> Result<()> {
+    let Disagreement { list, call } = first;
     println!(rt; "the first that does not agree: list {list}, call {call}")
 }
 
-// The tally of a file. A name is text, and a file of another name cannot be read.
-fn replay_file(rt: &impl Files, name: &[u8]) -> Tally {
-    let Ok(path) = str::from_utf8(name) else {
-        return none(1);
-    };
-    let Ok(mut file) = File::open(rt, path) else {
-        return none(1);
-    };
+// The tally of a file; none where it cannot be read. A name is text, and a file of another name cannot be read.
+fn replay_file(rt: &impl Files, name: &[u8]) -> Option<Tally> {
+    let path = str::from_utf8(name).ok()?;
+    let mut file = File::open(rt, path).ok()?;
     let mut bytes = [0u8; FILE_LIMIT + 1];
-    let Ok(n) = input::read_all(&mut file, &mut bytes) else {
-        return none(1);
-    };
+    let n = input::read_all(&mut file, &mut bytes).ok()?;
     if FILE_LIMIT < n {
-        return none(1);
+        return None;
     }
-    replay(&bytes[..n])
+    Some(replay(&bytes[..n]))
 }
 
-// Puts an argument at the start of a buffer and gives its length, none where there is no such argument. Of one that is
-// longer than the buffer it gives the empty name, which no file has.
-fn argument(rt: &impl Env, i: usize, name: &mut [u8]) -> Option<usize>
-    ensures { IfSome result (λ n. n ≤ length name.new) }
-{
-    match rt.arg(i, name) {
-        Ok(n) => Some(n),
-        Err(FillError::TooLong) => Some(0),
+// An argument, put into a buffer; none where there is no such argument. Of one that is longer than the buffer it gives
+// the empty name, which no file has.
+fn argument<'a>(rt: &impl Env, i: usize, buf: &'a mut [u8]) -> Option<&'a [u8]> {
+    match rt.arg(i, buf) {
+        Ok(n) => Some(&buf[..n]),
+        Err(FillError::TooLong) => Some(&[]),
         Err(FillError::NotPresent) => None,
     }
 }
 
 // The tally of the file that an argument names, printed; none where there is no such argument.
 fn replay_argument(rt: &(impl Env + Files + Print), i: usize) -> Result<Option<Tally>> {
-    let mut name = [0u8; NAME_LIMIT];
-    let Some(n) = argument(rt, i, &mut name) else {
+    let mut buf = [0u8; NAME_LIMIT];
+    let Some(name) = argument(rt, i, &mut buf) else {
         return Ok(None);
     };
-    let t = replay_file(rt, &name[..n]);
-    print_counts(rt, &name[..n], t)?;
-    if t.list != 0 {
-        print_first(rt, t)?;
+    let t = replay_file(rt, name).unwrap_or(Tally::unreadable());
+    print_counts(rt, name, t)?;
+    if let Some(first) = t.first {
+        print_first(rt, first)?;
     }
     Ok(Some(t))
 }
 
 // The tally of every file that an argument names.
 fn replay_all(rt: &(impl Env + Files + Print)) -> Result<Tally> {
-    let mut t = none(0);
+    let mut t = Tally::default();
     for i in 1..usize::MAX {
         match replay_argument(rt, i)? {
-            Some(next) => t = joined(t, next),
+            Some(next) => t = t.joined(next),
             None => break,
         }
     }
@@ -118,9 +104,8 @@ fn replay_all(rt: &(impl Env + Files + Print)) -> Result<Tally> {
 
 fn main(rt: HostRuntime) -> Result<()> {
     let t = replay_all(&rt)?;
-    if t.list == 0 {
-        print_counts(&rt, b"all agree", t)
-    } else {
-        print_counts(&rt, b"NOT ALL AGREE", t)
+    match t.first {
+        None => print_counts(&rt, b"all agree", t),
+        Some(_) => print_counts(&rt, b"NOT ALL AGREE", t),
     }
 }

@@ -1,26 +1,22 @@
--- `holds` meets its contract. Assumes nothing.
-use Rattle.std.proofs.Common.{sym, arith, length-take-le}
-use Rattle.format.proofs.Frames.{part_rest}
-use Rattle.recording.proofs.Laws.{too_short, front-differs, rest-decides}
+-- A buffer that begins with the answers holds them, then old bytes, where its rest is old, and no other does.
+use Rattle.std.proofs.Common.{drop, length}
+use mathlib.Core.Bool.{false≢true}
+use Rattle.std.proofs.lemmas.Slice.Eq.{strip_prefix_is, slice_eq-Decides}
+use Rattle.std.proofs.lemmas.Bool.Decides.{Decides-eqb}
+use Rattle.list.specs.Run.{over}
+use Rattle.std.proofs.lemmas.List.{take_rest}
+use Rattle.recording.proofs.Laws.{over_decides}
 use Rattle.recording.proofs.holds.Goals as goal
 
-pub returns-then-buffer-n : goal.returns-then-buffer-n
-returns-then-buffer-n c = too_short _ _ _ c.if-buffer-n.true
+pub returns-in-Some : goal.returns-in-Some
+returns-in-Some c =
+    let s = strip_prefix_is Decides-eqb c.args.buffer.now c.args.answers.now _ c.strip_prefix.ensures.cases in
+    let old = take_rest c.args.old.now (length c.args.answers.now) in
+    over_decides _ _ _ _ _ (rw c.in-Some.is at s) (slice_eq-Decides Decides-eqb _ _ _ (rw old at c.eq.ensures))
 
-pub slice_bounds-same-end : goal.slice_bounds-same-end
-slice_bounds-same-end c = sym (length-take-le _ _ (omega arith))
-
-pub same-requires : goal.same-requires
-same-requires c = tt
-
-pub returns-then-not-same : goal.returns-then-not-same
-returns-then-not-same c = front-differs _ _ _ _ c.same.ensures (c.if-not-same.true)
-
-pub same-requires-2 : goal.same-requires-2
-same-requires-2 c = tt
-
-pub returns : goal.returns
-returns c =
-    let front = c.same.ensures in
-    rest-decides _ _ _ _ _ front (c.if-not-same.false)
-    (simp part_rest at c.same-2.ensures)
+pub returns-in-None : goal.returns-in-None
+unfolding over
+returns-in-None c =
+    let s = strip_prefix_is Decides-eqb c.args.buffer.now c.args.answers.now _ c.strip_prefix.ensures.cases in
+    let old = drop (length c.args.answers.now) c.args.old.now in
+    (λ e. absurd (false≢true e), λ h. absurd ((rw c.in-None.is at s) old h))
