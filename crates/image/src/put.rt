@@ -1,9 +1,7 @@
 // The bytes of a board's image, field by field.
 ghost use Rattle.std.specs.Prelude.{◌≡◌, true, [], ◌∷◌, ◌+◌, ◌≤◌, length};
 ghost use Rattle.std.proofs.lemmas.List.Edits.{sets};
-ghost use Rattle.wide.specs.Bits.{flag_of};
 ghost use Rattle.format.specs.Format.{sum, members_bytes, record_of};
-ghost use Rattle.board.specs.Board.{held_of, held_value};
 ghost use Rattle.image.specs.CodeTables.{up_to_eight, channels_bytes, clock_at, latches_at, controller_at};
 ghost use Rattle.image.specs.CodeTables.{front_bytes, front_length};
 ghost use Rattle.image.specs.Image.{channel_field, clock_field, latches_field, controller_field, rate_field};
@@ -15,7 +13,7 @@ use crate::{
     CHANNEL, CHANNEL_SIZE, CLOCK, CLOCK_AT, CONTROLLER, CONTROLLER_AT, Form, LATCHES, LATCHES_AT,
     RATE, RATE_SIZE, Shape,
 };
-use board::{Board, CountLatch, Latch};
+use board::{Board, CountLatch};
 use channel::HardwareTimer;
 use clock::Clock;
 use controller::IrqController;
@@ -95,52 +93,25 @@ fn put_clock(buf: &mut [u8], timer_enable: u8, clock: Clock)
     CLOCK.put(buf, CLOCK_AT, &members);
 }
 
-// A latch's held flag.
-fn held(latch: Latch) -> u64
-    ensures { result ≡ flag_of (held_of latch) }
-{
-    match latch {
-        Latch::Empty => 0,
-        Latch::Held(_) => 1,
-    }
-}
-
-// A latch's value, 0 where it is empty.
-fn value(latch: Latch) -> u64
-    ensures { result ≡ held_value latch }
-{
-    match latch {
-        Latch::Empty => 0,
-        Latch::Held(v) => u64::from(v),
-    }
-}
-
-fn put_latches(buf: &mut [u8], counts: [CountLatch; 4], low: Latch, high: Latch)
+fn put_latches(buf: &mut [u8], counts: [CountLatch; 4], low: Option<u32>, high: Option<u32>)
     requires { controller_at ≤ length buf.old }
     ensures { buf.new ≡ sets buf.old latches_at
         (field_bytes latches_field (latches_members (record { counts = counts; low = low; high = high }))) }
 {
-    let first = counts[0];
-    let a = first.high;
-    let second = counts[1];
-    let b = second.high;
-    let third = counts[2];
-    let c = third.high;
-    let fourth = counts[3];
-    let d = fourth.high;
+    let [a, b, c, d] = counts;
     let members = [
-        held(a),
-        value(a),
-        held(b),
-        value(b),
-        held(c),
-        value(c),
-        held(d),
-        value(d),
-        held(low),
-        value(low),
-        held(high),
-        value(high),
+        u64::from(a.high.is_some()),
+        u64::from(a.high.unwrap_or(0)),
+        u64::from(b.high.is_some()),
+        u64::from(b.high.unwrap_or(0)),
+        u64::from(c.high.is_some()),
+        u64::from(c.high.unwrap_or(0)),
+        u64::from(d.high.is_some()),
+        u64::from(d.high.unwrap_or(0)),
+        u64::from(low.is_some()),
+        u64::from(low.unwrap_or(0)),
+        u64::from(high.is_some()),
+        u64::from(high.unwrap_or(0)),
     ];
     LATCHES.put(buf, LATCHES_AT, &members);
 }

@@ -6,24 +6,6 @@ use mathlib.Core.Bool.{Bool, true, false, cond, ◌&&◌, and-true}
 use Rattle.std.proofs.Common.{Some, None, Ok, Err}
 use Rattle.std.specs.Option.{ok_or}
 use Rattle.board.specs.declared.refusal.Refusal.{Refusal}
-use Rattle.board.specs.declared.refusal.Refusal.TheVariants.{
-  NotSound,
-  HeaderCut,
-  TagUnknown,
-  LengthWrong,
-  ValueCut,
-  AddressTooLarge,
-  NanosecondsTooLarge,
-  SourceTooLarge,
-  SourceOfLine,
-  LevelTooLarge,
-  BufferShort,
-  ImageMalformed,
-  DeadlineTooLarge,
-  ClockInRealtime,
-  AnotherRate,
-  RateNeedsNewForm,
-}
 use Rattle.board.specs.Refusals.{refusal_number}
 use Rattle.std.proofs.lemmas.Option.{cond_some}
 use Rattle.channel.specs.declared.HardwareTimer.{HardwareTimer}
@@ -44,7 +26,7 @@ use Rattle.board.specs.declared.Board.{Board}
 use Rattle.board.specs.Fields.{fresh_board}
 use Rattle.board.specs.Board.{sound}
 use Rattle.board.specs.Calls.{not_sound, another_rate, refusal_of}
-use Rattle.board.proofs.Answers.{accepted_sound}
+use Rattle.board.proofs.Answers.{accepted_sound, some_refusal}
 use Rattle.image.specs.Image.{
   Field,
   channel_field,
@@ -94,25 +76,6 @@ use Rattle.parking.proofs.Shifted.{said-behind, formed-behind}
 use Rattle.parking.proofs.RoundTrip.{formed_not}
 
 -- ---- refusals
-
--- each has a number that is not 0
-pub some_refusal : (x : Refusal) → eqb (refusal_number x) 0 ≡ false
-some_refusal NotSound = refl
-some_refusal HeaderCut = refl
-some_refusal TagUnknown = refl
-some_refusal LengthWrong = refl
-some_refusal ValueCut = refl
-some_refusal AddressTooLarge = refl
-some_refusal NanosecondsTooLarge = refl
-some_refusal SourceTooLarge = refl
-some_refusal SourceOfLine = refl
-some_refusal LevelTooLarge = refl
-some_refusal BufferShort = refl
-some_refusal ImageMalformed = refl
-some_refusal DeadlineTooLarge = refl
-some_refusal ClockInRealtime = refl
-some_refusal AnotherRate = refl
-some_refusal RateNeedsNewForm = refl
 
 -- a value that the code looks for: where it is not there, the test fails and the refusal is this one
 pub none_found : {A : Type 0} (v : Bool) (x : A) (e d : Refusal) → Err d ≡ ok_or (cond v (Some x) None) e →

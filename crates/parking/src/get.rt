@@ -8,7 +8,7 @@ ghost use Rattle.image.specs.Image.{timer_from, clock_from, latch_from, latches_
 ghost use Rattle.image.specs.declared.Form.TheVariants.{Old};
 ghost use Rattle.parking.specs.Parking.{said, empties_in};
 
-use board::{Board, CountLatch, Latch, Latches};
+use board::{Board, CountLatch, Latches};
 use channel::HardwareTimer;
 use clock::{Alarm, Clock, HostTime, Offset, Shadow};
 use controller::IrqController;
@@ -103,14 +103,10 @@ fn clock_in(rate: u32, image: &[u8]) -> Option<(u8, Clock)>
 }
 
 // The latch of a held flag and a value.
-fn latch_from(held: u64, value: u32) -> Latch
+fn latch_from(held: u64, value: u32) -> Option<u32>
     ensures { result ≡ latch_from held value }
 {
-    if held == 1 {
-        Latch::Held(value)
-    } else {
-        Latch::Empty
-    }
+    (held == 1).then_some(value)
 }
 
 // Whether 'an empty latch holds 0', for a held flag and a value.

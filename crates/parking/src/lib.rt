@@ -3,8 +3,6 @@
 #![tactic(auto)]
 
 ghost use Rattle.std.specs.Prelude.{◌≡◌, OnOk, length};
-ghost use Rattle.board.specs.Board.{BoardFits};
-ghost use Rattle.board.specs.Calls.{refusal_of};
 ghost use Rattle.board.specs.Refusals.{refusal_code};
 ghost use Rattle.image.specs.declared.Form.TheVariants.{Old};
 ghost use Rattle.image.specs.Image.{image_of, formed};
@@ -36,17 +34,6 @@ fn form_takes(form: Form, rate: u32) -> bool
     }
 }
 
-// Refuses a board that is not sound. The contract also says that every field is within its width.
-fn check_sound(board: Board) -> Result<(), Refusal>
-    ensures refused { refusal_code result ≡ refusal_of board 0 }
-    ensures fits { BoardFits board }
-{
-    if board.sound() {
-        return Ok(());
-    }
-    Err(Refusal::NotSound)
-}
-
 // Refuses to write a sound board at a rate in a form, to a buffer of `room` bytes.
 fn check_parking(form: Form, rate: u32, room: usize) -> Result<(), Refusal>
     ensures { refusal_code result ≡ parking_refusal form rate room }
@@ -68,7 +55,7 @@ pub fn write_in(form: Form, board: Board, buffer: &mut [u8]) -> Result<usize, Re
     ensures board_value { OnOk result
         (reading_of (image_of form board) ≡ record { board = board; form = form; refusal = 0 }) }
 {
-    check_sound(board)?;
+    board.check_sound()?;
     check_parking(form, board.clock.rate, buffer.len())?;
     image::put::put_image(buffer, form, board);
     Ok(image_length(form))
@@ -97,7 +84,7 @@ fn read_fields(form: Form, rate: u32, fields: &[u8]) -> Result<Parked, Refusal>
         return Err(Refusal::NotSound);
     }
     let board = said.board;
-    check_sound(board)?;
+    board.check_sound()?;
     Ok(Parked { board, form })
 }
 

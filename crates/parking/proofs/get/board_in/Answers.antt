@@ -22,7 +22,8 @@ returns-in_err-d c =
 
 pub returns-in_err-timer_enable : goal.returns-in_err-timer_enable
 returns-in_err-timer_enable c =
-    rw (c.from_residual-in_err-timer_enable.ensures, ← formed-is _ c.requires, not_there _ _ c.in_err-timer_enable.ensures)
+    let none = not_there _ _ c.in_err-timer_enable.ensures in
+    rw (c.from_residual-in_err-timer_enable.ensures, ← formed-is _ c.requires, none)
     (simp and-false)
 
 pub returns-in_err-said : goal.returns-in_err-said
