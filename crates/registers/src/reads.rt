@@ -7,7 +7,7 @@ ghost use Rattle.board.specs.Registers.{in_channels, register_of};
 ghost use Rattle.board.specs.RegisterWords.{timer_word};
 ghost use Rattle.registers.specs.CodeReads.{channel_index, at_count_low, at_count_high, with_count, count_filled};
 ghost use Rattle.registers.specs.CodeReads.{count_serving, serving, count_freed, latch_freed, freed_at};
-ghost use Rattle.registers.specs.CodeReads.{word_at, reading_of, offset_reading, plain_at, plain_of};
+ghost use Rattle.registers.specs.CodeReads.{word_at, reading_of, offset_reading, plain_at};
 
 use board::{Board, CountLatch, Latches};
 use channel::HardwareTimer;
@@ -17,24 +17,21 @@ use regmap::fields::{byte_of_word, channel_of, place_of};
 use regmap::words::{clock_word, timer_word};
 use wide::words::{high, low};
 
-// The result of a read: the latches after it, the byte, the alarm's two flags, and whether its alarm check set pending.
-// The latches come first, so that no padding is copied with them.
-#[derive(Clone, Copy)]
-pub struct LatchedReading {
-    pub latches: Latches,
-    pub byte: u8,
-    pub pending: bool,
-    pub armed: bool,
-    pub rose: bool,
-}
-
-// The same for a read that leaves the latches unchanged.
+// What a read that leaves the latches unchanged gives and stores: the byte, the alarm's two flags, and whether its alarm
+// check set pending.
 #[derive(Clone, Copy)]
 pub struct PlainReading {
     pub byte: u8,
     pub pending: bool,
     pub armed: bool,
     pub rose: bool,
+}
+
+// The same for every read, with the latches after it. They come first, so that no padding is copied with them.
+#[derive(Clone, Copy)]
+pub struct LatchedReading {
+    pub latches: Latches,
+    pub plain: PlainReading,
 }
 
 // ---- where the offset is
@@ -203,15 +200,17 @@ fn reading_of(
         let pending = clock.alarm.pending;
         let armed = clock.alarm.armed;
         return LatchedReading {
-            byte: byte_of_word(word, 0),
             latches: Latches {
                 low: Some(word),
                 high: Some(high(seconds)),
                 ..latches
             },
-            pending,
-            armed,
-            rose: false,
+            plain: PlainReading {
+                byte: byte_of_word(word, 0),
+                pending,
+                armed,
+                rose: false,
+            },
         };
     }
     let latch = serving(latches, offset);
@@ -222,21 +221,25 @@ fn reading_of(
         let pending = checked.alarm.pending;
         let armed = checked.alarm.armed;
         return LatchedReading {
-            byte: byte_of_word(word, offset % 4),
             latches: count_filled(latches, timer.counter, offset),
-            pending,
-            armed,
-            rose: pending != before,
+            plain: PlainReading {
+                byte: byte_of_word(word, offset % 4),
+                pending,
+                armed,
+                rose: pending != before,
+            },
         };
     };
     let pending = clock.alarm.pending;
     let armed = clock.alarm.armed;
     LatchedReading {
-        byte: byte_of_word(word, offset % 4),
         latches: freed_at(latches, offset),
-        pending,
-        armed,
-        rose: false,
+        plain: PlainReading {
+            byte: byte_of_word(word, offset % 4),
+            pending,
+            armed,
+            rose: false,
+        },
     }
 }
 
@@ -269,7 +272,7 @@ pub fn plain(offset: u32) -> bool
 pub fn plain_at(board: Board, timer: HardwareTimer, offset: u32) -> PlainReading
     requires { (plain_at offset ≡ true) × Timed (rate_of board.clock) board.clock
         × (timer ≡ channel_at (channel_index offset) board) }
-    ensures { result ≡ plain_of (offset_reading offset board) }
+    ensures { result ≡ (offset_reading offset board).plain }
 {
     let clock = board.clock;
     let before = clock.alarm.pending;
