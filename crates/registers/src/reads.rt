@@ -54,23 +54,19 @@ pub fn channel_index(offset: u32) -> usize
 }
 
 // Whether the offset is byte 0 of a count's low word.
+#[tactic(auto, using(regmap::proofs::Ranges::bounds), unfolding(crate::specs::CodeReads::at_count_low))]
 fn at_count_low(offset: u32) -> bool
     ensures { result ≡ at_count_low offset }
 {
-    if in_channels(offset) {
-        return place_of(offset) == HardwareTimer::COUNT_LO;
-    }
-    false
+    in_channels(offset) && place_of(offset) == HardwareTimer::COUNT_LO
 }
 
 // Whether the offset is in a count's high word.
+#[tactic(auto, using(regmap::proofs::Ranges::bounds), unfolding(crate::specs::CodeReads::at_count_high))]
 fn at_count_high(offset: u32) -> bool
     ensures { result ≡ at_count_high offset }
 {
-    if in_channels(offset) {
-        return place_of(offset) / 4 * 4 == HardwareTimer::COUNT_HI;
-    }
-    false
+    in_channels(offset) && place_of(offset) / 4 * 4 == HardwareTimer::COUNT_HI
 }
 
 // ---- the latches
@@ -98,10 +94,7 @@ fn count_serving(latches: Latches, offset: u32) -> Option<u32>
     ensures { result ≡ count_serving offset latches }
 {
     if at_count_high(offset) {
-        let i = channel_index(offset);
-        let count = latches.counts[i];
-        let latch = count.high;
-        return latch;
+        return latches.counts[channel_index(offset)].high;
     }
     None
 }

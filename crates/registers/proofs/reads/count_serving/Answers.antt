@@ -8,7 +8,7 @@ returns-then-at_count_high c =
     rw (
       ← c.at_count_high.ensures,
       c.if-at_count_high.true,
-      ← c.channel_index-i.ensures.0,
+      ← c.channel_index.ensures.0,
     )
 
 pub returns : goal.returns
