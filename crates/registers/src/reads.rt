@@ -43,6 +43,7 @@ fn in_channels(offset: u32) -> bool
 }
 
 // The number of the channel in whose block the offset is, 0 elsewhere.
+#[tactic(auto, using(regmap::proofs::Ranges::bounds), unfolding(crate::specs::CodeReads::channel_index))]
 pub fn channel_index(offset: u32) -> usize
     ensures { (result ≡ channel_index offset) × (result < 4) }
 {
@@ -80,6 +81,7 @@ fn with_count(mut latches: Latches, index: usize, latch: Option<u32>) -> Latches
 }
 
 // Byte 0 of a count's low word fills the latch of its high word.
+#[tactic(auto, unfolding(crate::specs::CodeReads::count_filled))]
 fn count_filled(latches: Latches, counter: u64, offset: u32) -> Latches
     ensures { result ≡ count_filled offset counter latches }
 {
@@ -90,6 +92,7 @@ fn count_filled(latches: Latches, counter: u64, offset: u32) -> Latches
 }
 
 // The latch of a count that serves an offset.
+#[tactic(auto, unfolding(crate::specs::CodeReads::count_serving))]
 fn count_serving(latches: Latches, offset: u32) -> Option<u32>
     ensures { result ≡ count_serving offset latches }
 {
@@ -100,6 +103,7 @@ fn count_serving(latches: Latches, offset: u32) -> Option<u32>
 }
 
 // The latch that serves an offset; elsewhere an empty one.
+#[tactic(auto, using(std::proofs::lemmas::Bool::Decides::nat_tests), unfolding(crate::specs::CodeReads::serving))]
 fn serving(latches: Latches, offset: u32) -> Option<u32>
     ensures { result ≡ serving offset latches }
 {
@@ -113,6 +117,7 @@ fn serving(latches: Latches, offset: u32) -> Option<u32>
 }
 
 // The latches with the latch of a count that serves an offset empty.
+#[tactic(auto, unfolding(crate::specs::CodeReads::count_freed))]
 fn count_freed(latches: Latches, offset: u32) -> Latches
     ensures { result ≡ count_freed offset latches }
 {
@@ -123,6 +128,7 @@ fn count_freed(latches: Latches, offset: u32) -> Latches
 }
 
 // The latches with the one that serves an offset empty.
+#[tactic(auto, using(std::proofs::lemmas::Bool::Decides::nat_tests), unfolding(crate::specs::CodeReads::latch_freed))]
 fn latch_freed(latches: Latches, offset: u32) -> Latches
     ensures { result ≡ latch_freed offset latches }
 {
@@ -153,6 +159,7 @@ fn freed_at(latches: Latches, offset: u32) -> Latches
 // ---- the reading
 
 // The word of the register at an offset.
+#[tactic(auto, using(std::proofs::lemmas::Bool::Decides::nat_tests), unfolding(crate::specs::CodeReads::word_at))]
 fn word_at(timer: HardwareTimer, clock: Clock, shared: u32, offset: u32) -> u32
     requires { Timed (rate_of clock) clock }
     ensures { result ≡ word_at timer clock shared offset }
@@ -251,6 +258,7 @@ pub fn reading_at(board: Board, timer: HardwareTimer, offset: u32) -> LatchedRea
 // ---- without the latches
 
 // Whether the offset is in a channel's register whose reads neither fill a latch nor use one.
+#[tactic(auto, using(regmap::proofs::Ranges::bounds), unfolding(crate::specs::CodeReads::plain_at))]
 pub fn plain(offset: u32) -> bool
     ensures { result ≡ plain_at offset }
 {
