@@ -22,8 +22,9 @@ fn after_reading(board: Board, reading: LatchedReading) -> Board
 {
     let latches = reading.latches;
     let mut after = board.with_latches(latches);
-    after.clock.alarm.pending = reading.pending;
-    after.clock.alarm.armed = reading.armed;
+    let plain = reading.plain;
+    after.clock.alarm.pending = plain.pending;
+    after.clock.alarm.armed = plain.armed;
     after
 }
 
@@ -42,7 +43,7 @@ pub fn read(board: Board, address: u16) -> Answered<u8>
     let reading = reading_at(board, timer, offset);
     Answered {
         board: after_reading(board, reading).wired(),
-        answer: Ok(reading.byte),
+        answer: Ok(reading.plain.byte),
     }
 }
 

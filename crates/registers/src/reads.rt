@@ -7,7 +7,7 @@ ghost use Rattle.board.specs.Registers.{in_channels, register_of};
 ghost use Rattle.board.specs.RegisterWords.{timer_word};
 ghost use Rattle.registers.specs.CodeReads.{channel_index, at_count_low, at_count_high, with_count, count_filled};
 ghost use Rattle.registers.specs.CodeReads.{count_serving, serving, count_freed, latch_freed, freed_at};
-ghost use Rattle.registers.specs.CodeReads.{word_at, reading_of, offset_reading, plain_at, plain_of};
+ghost use Rattle.registers.specs.CodeReads.{word_at, reading_of, offset_reading, plain_at};
 
 use board::{Board, CountLatch, Latches};
 use channel::HardwareTimer;
@@ -17,24 +17,21 @@ use regmap::fields::{byte_of_word, channel_of, place_of};
 use regmap::words::{clock_word, timer_word};
 use wide::words::{high, low};
 
-// The result of a read: the latches after it, the byte, the alarm's two flags, and whether its alarm check set pending.
-// The latches come first, so that no padding is copied with them.
-#[derive(Clone, Copy)]
-pub struct LatchedReading {
-    pub latches: Latches,
-    pub byte: u8,
-    pub pending: bool,
-    pub armed: bool,
-    pub rose: bool,
-}
-
-// The same for a read that leaves the latches unchanged.
+// What a read that leaves the latches unchanged gives and stores: the byte, the alarm's two flags, and whether its alarm
+// check set pending.
 #[derive(Clone, Copy)]
 pub struct PlainReading {
     pub byte: u8,
     pub pending: bool,
     pub armed: bool,
     pub rose: bool,
+}
+
+// The same for every read, with the latches after it. They come first, so that no padding is copied with them.
+#[derive(Clone, Copy)]
+pub struct LatchedReading {
+    pub latches: Latches,
+    pub plain: PlainReading,
 }
 
 // ---- where the offset is
@@ -46,6 +43,7 @@ fn in_channels(offset: u32) -> bool
 }
 
 // The number of the channel in whose block the offset is, 0 elsewhere.
+#[tactic(auto, using(regmap::proofs::Ranges::bounds), unfolding(crate::specs::CodeReads::channel_index))]
 pub fn channel_index(offset: u32) -> usize
     ensures { (result ≡ channel_index offset) × (result < 4) }
 {
@@ -57,23 +55,19 @@ pub fn channel_index(offset: u32) -> usize
 }
 
 // Whether the offset is byte 0 of a count's low word.
+#[tactic(auto, using(regmap::proofs::Ranges::bounds), unfolding(crate::specs::CodeReads::at_count_low))]
 fn at_count_low(offset: u32) -> bool
     ensures { result ≡ at_count_low offset }
 {
-    if in_channels(offset) {
-        return place_of(offset) == HardwareTimer::COUNT_LO;
-    }
-    false
+    in_channels(offset) && place_of(offset) == HardwareTimer::COUNT_LO
 }
 
 // Whether the offset is in a count's high word.
+#[tactic(auto, using(regmap::proofs::Ranges::bounds), unfolding(crate::specs::CodeReads::at_count_high))]
 fn at_count_high(offset: u32) -> bool
     ensures { result ≡ at_count_high offset }
 {
-    if in_channels(offset) {
-        return place_of(offset) / 4 * 4 == HardwareTimer::COUNT_HI;
-    }
-    false
+    in_channels(offset) && place_of(offset) / 4 * 4 == HardwareTimer::COUNT_HI
 }
 
 // ---- the latches
@@ -87,6 +81,7 @@ fn with_count(mut latches: Latches, index: usize, latch: Option<u32>) -> Latches
 }
 
 // Byte 0 of a count's low word fills the latch of its high word.
+#[tactic(auto, unfolding(crate::specs::CodeReads::count_filled))]
 fn count_filled(latches: Latches, counter: u64, offset: u32) -> Latches
     ensures { result ≡ count_filled offset counter latches }
 {
@@ -97,19 +92,18 @@ fn count_filled(latches: Latches, counter: u64, offset: u32) -> Latches
 }
 
 // The latch of a count that serves an offset.
+#[tactic(auto, unfolding(crate::specs::CodeReads::count_serving))]
 fn count_serving(latches: Latches, offset: u32) -> Option<u32>
     ensures { result ≡ count_serving offset latches }
 {
     if at_count_high(offset) {
-        let i = channel_index(offset);
-        let count = latches.counts[i];
-        let latch = count.high;
-        return latch;
+        return latches.counts[channel_index(offset)].high;
     }
     None
 }
 
 // The latch that serves an offset; elsewhere an empty one.
+#[tactic(auto, using(std::proofs::lemmas::Bool::Decides::nat_tests), unfolding(crate::specs::CodeReads::serving))]
 fn serving(latches: Latches, offset: u32) -> Option<u32>
     ensures { result ≡ serving offset latches }
 {
@@ -123,6 +117,7 @@ fn serving(latches: Latches, offset: u32) -> Option<u32>
 }
 
 // The latches with the latch of a count that serves an offset empty.
+#[tactic(auto, unfolding(crate::specs::CodeReads::count_freed))]
 fn count_freed(latches: Latches, offset: u32) -> Latches
     ensures { result ≡ count_freed offset latches }
 {
@@ -133,6 +128,7 @@ fn count_freed(latches: Latches, offset: u32) -> Latches
 }
 
 // The latches with the one that serves an offset empty.
+#[tactic(auto, using(std::proofs::lemmas::Bool::Decides::nat_tests), unfolding(crate::specs::CodeReads::latch_freed))]
 fn latch_freed(latches: Latches, offset: u32) -> Latches
     ensures { result ≡ latch_freed offset latches }
 {
@@ -163,6 +159,7 @@ fn freed_at(latches: Latches, offset: u32) -> Latches
 // ---- the reading
 
 // The word of the register at an offset.
+#[tactic(auto, using(std::proofs::lemmas::Bool::Decides::nat_tests), unfolding(crate::specs::CodeReads::word_at))]
 fn word_at(timer: HardwareTimer, clock: Clock, shared: u32, offset: u32) -> u32
     requires { Timed (rate_of clock) clock }
     ensures { result ≡ word_at timer clock shared offset }
@@ -203,15 +200,17 @@ fn reading_of(
         let pending = clock.alarm.pending;
         let armed = clock.alarm.armed;
         return LatchedReading {
-            byte: byte_of_word(word, 0),
             latches: Latches {
                 low: Some(word),
                 high: Some(high(seconds)),
                 ..latches
             },
-            pending,
-            armed,
-            rose: false,
+            plain: PlainReading {
+                byte: byte_of_word(word, 0),
+                pending,
+                armed,
+                rose: false,
+            },
         };
     }
     let latch = serving(latches, offset);
@@ -222,21 +221,25 @@ fn reading_of(
         let pending = checked.alarm.pending;
         let armed = checked.alarm.armed;
         return LatchedReading {
-            byte: byte_of_word(word, offset % 4),
             latches: count_filled(latches, timer.counter, offset),
-            pending,
-            armed,
-            rose: pending != before,
+            plain: PlainReading {
+                byte: byte_of_word(word, offset % 4),
+                pending,
+                armed,
+                rose: pending != before,
+            },
         };
     };
     let pending = clock.alarm.pending;
     let armed = clock.alarm.armed;
     LatchedReading {
-        byte: byte_of_word(word, offset % 4),
         latches: freed_at(latches, offset),
-        pending,
-        armed,
-        rose: false,
+        plain: PlainReading {
+            byte: byte_of_word(word, offset % 4),
+            pending,
+            armed,
+            rose: false,
+        },
     }
 }
 
@@ -255,6 +258,7 @@ pub fn reading_at(board: Board, timer: HardwareTimer, offset: u32) -> LatchedRea
 // ---- without the latches
 
 // Whether the offset is in a channel's register whose reads neither fill a latch nor use one.
+#[tactic(auto, using(regmap::proofs::Ranges::bounds), unfolding(crate::specs::CodeReads::plain_at))]
 pub fn plain(offset: u32) -> bool
     ensures { result ≡ plain_at offset }
 {
@@ -269,7 +273,7 @@ pub fn plain(offset: u32) -> bool
 pub fn plain_at(board: Board, timer: HardwareTimer, offset: u32) -> PlainReading
     requires { (plain_at offset ≡ true) × Timed (rate_of board.clock) board.clock
         × (timer ≡ channel_at (channel_index offset) board) }
-    ensures { result ≡ plain_of (offset_reading offset board) }
+    ensures { result ≡ (offset_reading offset board).plain }
 {
     let clock = board.clock;
     let before = clock.alarm.pending;

@@ -28,6 +28,7 @@ pub enum WritePart {
     Channel,
 }
 
+#[tactic(auto, using(std::proofs::lemmas::Bool::Decides::nat_tests), unfolding(crate::specs::CodeWrites::part_of))]
 pub fn part_at(offset: u32) -> WritePart
     ensures { result ≡ part_of offset }
 {
