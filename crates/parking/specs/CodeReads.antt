@@ -8,8 +8,10 @@ use Rattle.image.specs.declared.Form.{Form}
 use Rattle.image.specs.Image.{flag_is, empties_hold0, board_from}
 use Rattle.board.specs.declared.Board.{Board}
 use Rattle.board.specs.declared.refusal.Refusal.{Refusal}
-use Rattle.board.specs.Refusals.{refusal_number}
+use Rattle.board.specs.declared.calls.Answered.{Answered}
+use Rattle.board.specs.Refusals.{refusal_number, refusal_code}
 use Rattle.parking.specs.declared.Parked.{Parked}
+use Rattle.parking.specs.declared.Reading.{Reading as ReadingOf}
 use Rattle.parking.specs.Parking.{Reading, Writing, default_form, image_malformed}
 use Rattle.parking.specs.Moves.{Moved}
 
@@ -53,6 +55,13 @@ reading_said (Err refusal) = record { board = fresh_board; form = default_form; 
 abbrev pub writing_said : Board → Result ℕ Refusal → Writing
 writing_said b (Ok written) = record { board = b; refusal = 0; written = written }
 writing_said b (Err refusal) = record { board = b; refusal = refusal_number refusal; written = 0 }
+
+-- the structs that hand a board back
+abbrev pub was_read : ReadingOf → Reading
+was_read r = record { board = r.board; form = r.form; refusal = refusal_code r.end }
+
+abbrev pub written : Answered ℕ → Writing
+written a = writing_said a.board a.answer
 
 abbrev pub move_said : Result ℕ Refusal → Moved
 move_said (Ok written) = record { refusal = 0; written = written }

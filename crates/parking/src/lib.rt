@@ -8,9 +8,10 @@ ghost use Rattle.image.specs.declared.Form.TheVariants.{Old};
 ghost use Rattle.image.specs.Image.{image_of, formed};
 ghost use Rattle.parking.specs.Parking.{default_form, form_takes, parking_refusal};
 ghost use Rattle.parking.specs.Parking.{writing_of, buffer_after, said, reading_in, reading_of};
-ghost use Rattle.parking.specs.CodeReads.{members_read, reading_said, writing_said};
+ghost use Rattle.parking.specs.CodeReads.{members_read, reading_said, writing_said, was_read, written};
 
 use board::Board;
+use board::calls::Answered;
 use board::refusal::Refusal;
 use image::{Form, NEW_LENGTH, OLD_LENGTH, RATE_SIZE, image_length};
 
@@ -22,6 +23,15 @@ pub mod moves;
 pub struct Parked {
     pub board: Board,
     pub form: Form,
+}
+
+// The board that was read, the form of its image, and the refusal. Where the reading is refused, the board is a fresh
+// one, and the form is the new one.
+#[derive(Clone, Copy)]
+pub struct Reading {
+    pub board: Board,
+    pub form: Form,
+    pub end: Result<(), Refusal>,
 }
 
 // Whether a form takes boards of a rate. The old form has no rate, so it takes only boards at 48,000,000.
@@ -49,7 +59,7 @@ fn check_parking(form: Form, rate: u32, room: usize) -> Result<(), Refusal>
 
 // Writes a board's image in a form at the start of a lent buffer, and gives the number of bytes written. Where that is
 // accepted, reading the image gives the board and the form.
-pub fn write_in(form: Form, board: Board, buffer: &mut [u8]) -> Result<usize, Refusal>
+pub fn park(form: Form, board: Board, buffer: &mut [u8]) -> Result<usize, Refusal>
     ensures value { writing_said board result ≡ writing_of form board (length buffer.old) }
     ensures buffer_after { buffer.new ≡ buffer_after form board buffer.old }
     ensures board_value { OnOk result
@@ -61,11 +71,22 @@ pub fn write_in(form: Form, board: Board, buffer: &mut [u8]) -> Result<usize, Re
     Ok(image_length(form))
 }
 
+// The same, with the board handed back.
+pub fn write_in(form: Form, board: Board, buffer: &mut [u8]) -> Answered<usize>
+    ensures value { written result ≡ writing_of form board (length buffer.old) }
+    ensures buffer_after { buffer.new ≡ buffer_after form board buffer.old }
+    ensures board_value { OnOk result.answer
+        (reading_of (image_of form board) ≡ record { board = board; form = form; refusal = 0 }) }
+{
+    let answer = park(form, board, buffer);
+    Answered { board, answer }
+}
+
 // The same in the new form, which is written unless the old is chosen.
-pub fn write(board: Board, buffer: &mut [u8]) -> Result<usize, Refusal>
-    ensures value { writing_said board result ≡ writing_of default_form board (length buffer.old) }
+pub fn write(board: Board, buffer: &mut [u8]) -> Answered<usize>
+    ensures value { written result ≡ writing_of default_form board (length buffer.old) }
     ensures buffer_after { buffer.new ≡ buffer_after default_form board buffer.old }
-    ensures board_value { OnOk result
+    ensures board_value { OnOk result.answer
         (reading_of (image_of default_form board) ≡ record { board = board; form = default_form; refusal = 0 }) }
 {
     write_in(Form::New, board, buffer)
@@ -89,7 +110,7 @@ fn read_fields(form: Form, rate: u32, fields: &[u8]) -> Result<Parked, Refusal>
 }
 
 // Reads the board of an image in either form. The length tells which of the two it is.
-pub fn read(image: &[u8]) -> Result<Parked, Refusal>
+pub fn parked(image: &[u8]) -> Result<Parked, Refusal>
     ensures { reading_said result ≡ reading_of image.now }
 {
     if image.len() == NEW_LENGTH {
@@ -100,6 +121,24 @@ pub fn read(image: &[u8]) -> Result<Parked, Refusal>
     }
 }
 
+// The same; a refused reading hands back a fresh board, and the form that it would be written in.
+pub fn read(image: &[u8]) -> Reading
+    ensures { was_read result ≡ reading_of image.now }
+{
+    match parked(image) {
+        Ok(Parked { board, form }) => Reading {
+            board,
+            form,
+            end: Ok(()),
+        },
+        Err(refusal) => Reading {
+            board: Board::fresh(),
+            form: Form::New,
+            end: Err(refusal),
+        },
+    }
+}
+
 // Reads the board of an image in this form alone.
 fn read_in(form: Form, image: &[u8]) -> Result<Parked, Refusal>
     ensures { reading_said result ≡ reading_in form image.now }
@@ -107,5 +146,5 @@ fn read_in(form: Form, image: &[u8]) -> Result<Parked, Refusal>
     if image.len() != image_length(form) {
         return Err(Refusal::ImageMalformed);
     }
-    read(image)
+    parked(image)
 }

@@ -3,7 +3,7 @@ ghost use Rattle.std.specs.Prelude.{◌≡◌, length};
 ghost use Rattle.parking.specs.CodeReads.{move_said};
 ghost use Rattle.parking.specs.Moves.{other_form, move_of, moved_buffer};
 
-use crate::{read_in, write_in};
+use crate::{park, read_in};
 use board::refusal::Refusal;
 use image::Form;
 
@@ -25,5 +25,5 @@ pub fn move_image(to: Form, image: &[u8], buffer: &mut [u8]) -> Result<usize, Re
 {
     let parked = read_in(other_form(to), image)?;
     let board = parked.board;
-    write_in(to, board, buffer)
+    park(to, board, buffer)
 }

@@ -21,5 +21,5 @@ returns c =
     let moved =
     move-made a.to a.image.now a.buffer.now _
     (c.in_ok-parked.ensures ∙ ap (λ (f : Form). reading_in f a.image.now) c.other_form.ensures)
-    _ _ c.write_in.ensures.value c.write_in.ensures.buffer_after in
+    _ _ c.park.ensures.value c.park.ensures.buffer_after in
     record { value = moved.0; buffer_after = moved.1 }

@@ -1,11 +1,11 @@
--- `write_in` meets its contract. Assumes nothing.
+-- `park` meets its contract. Assumes nothing.
 use mathlib.Core.Path.{sym}
 use Rattle.std.proofs.lemmas.Result.{err_from_is_err_and}
 use Rattle.board.proofs.Answers.{accepted_sound}
 use Rattle.parking.proofs.RoundTrip.{read_back}
 use Rattle.parking.proofs.Answers.{writing-unsound, writing-own, writing-refused, buffer-left}
 use Rattle.parking.proofs.Answers.{writing-accepted, writing-rate, buffer-written}
-use Rattle.parking.proofs.write_in.Goals as goal
+use Rattle.parking.proofs.park.Goals as goal
 
 pub returns-in_err-check_sound-clause-value : goal.returns-in_err-check_sound-clause-value
 returns-in_err-check_sound-clause-value c =
