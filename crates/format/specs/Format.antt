@@ -4,25 +4,27 @@ use Rattle.std.specs.Prelude.{ℕ, ◌+◌, Bool, ◌&&◌, length, get_or, drop
 use mathlib.Core.List.{List, [], ◌∷◌, ◌++◌, foldr}
 use Rattle.wide.specs.Number.{value_of}
 use Rattle.wide.specs.Fields.{be_at, be}
+use Rattle.board.specs.declared.refusal.Refusal.TheVariants.{HeaderCut, TagUnknown, LengthWrong, ValueCut, BufferShort}
+use Rattle.board.specs.Refusals.{refusal_number}
 use Rattle.format.specs.declared.Answer.{Answer}
 use Rattle.format.specs.declared.Answer.TheVariants.{Empty, Byte, Deadline, Skip, Pair}
 
 -- ---- refusals
 
 abbrev pub header_cut : ℕ
-header_cut = 2
+header_cut = refusal_number HeaderCut
 
 abbrev pub tag_unknown : ℕ
-tag_unknown = 3
+tag_unknown = refusal_number TagUnknown
 
 abbrev pub length_wrong : ℕ
-length_wrong = 4
+length_wrong = refusal_number LengthWrong
 
 abbrev pub value_cut : ℕ
-value_cut = 5
+value_cut = refusal_number ValueCut
 
 abbrev pub answer_too_long : ℕ
-answer_too_long = 11
+answer_too_long = refusal_number BufferShort
 
 -- ---- the table of members
 
