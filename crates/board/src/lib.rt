@@ -4,8 +4,10 @@
 ghost use Rattle.std.specs.Prelude.{◌≡◌};
 ghost use Rattle.board.specs.Fields.{fresh_board_at, fresh_board};
 ghost use Rattle.board.specs.Calls.{fresh_of};
+ghost use Rattle.board.specs.CodeCalls.{answered, no_members};
 
-use crate::calls::EmptyAnswer;
+use crate::calls::Answered;
+use crate::refusal::Refusal;
 use channel::HardwareTimer;
 use clock::Clock;
 use clock::rates::sound_rate;
@@ -62,9 +64,6 @@ impl Board {
     // The controller's source that is set to the line.
     pub const LINE_SOURCE: SourceNumber = SourceNumber(3);
 
-    // The refusal of a rate that no sound board has, by the number of S-7.
-    pub const ANOTHER_RATE: u8 = 15;
-
     // The fresh board without a given rate: everything zero except clock control 1 and the rate.
     pub fn fresh() -> Self
         ensures { result ≡ fresh_board }
@@ -73,18 +72,18 @@ impl Board {
     }
 
     // A fresh board at a rate. A rate that no sound board has is refused, and the board is then that of `fresh`.
-    pub fn fresh_at(rate: u32) -> EmptyAnswer
-        ensures { result ≡ fresh_of rate }
+    pub fn fresh_at(rate: u32) -> Answered<()>
+        ensures { answered no_members result ≡ fresh_of rate }
     {
         if sound_rate(rate) {
-            return EmptyAnswer {
+            return Answered {
                 board: Self::fresh_with(rate),
-                refusal: 0,
+                answer: Ok(()),
             };
         }
-        EmptyAnswer {
+        Answered {
             board: Self::fresh(),
-            refusal: Self::ANOTHER_RATE,
+            answer: Err(Refusal::AnotherRate),
         }
     }
 
