@@ -16,8 +16,9 @@ mod calls;
 pub mod tag;
 
 use crate::tag::Tag;
-use board::calls::Call;
+use board::calls::{Call, DeadlineGiven};
 use board::refusal::Refusal;
+use channel::Cycles;
 use wide::fields;
 use wide::number::Wide;
 
@@ -35,7 +36,7 @@ pub const COUNT_LENGTH: usize = 16;
 pub enum Answer {
     Empty,
     Byte(u8),
-    Deadline(u8, Wide, u64),
+    Deadline(Option<DeadlineGiven>),
     Skip(u64, u8),
     Pair(u8, u8),
 }
@@ -89,13 +90,19 @@ fn put_byte(buf: &mut [u8], at: usize, value: u8)
     fields::put(buf, at, u64::from(value), 1);
 }
 
-fn put_deadline(buf: &mut [u8], at: usize, present: u8, exact: Wide, word: u64)
+fn put_deadline(buf: &mut [u8], at: usize, given: Option<DeadlineGiven>)
     requires { at + 25 ≤ length buf.old }
-    ensures { buf.new ≡ sets buf.old at (value_bytes (Deadline present exact word)) }
+    ensures { buf.new ≡ sets buf.old at (value_bytes (Deadline given)) }
 {
-    fields::put(buf, at, u64::from(present), 1);
+    let deadline = given.unwrap_or(DeadlineGiven {
+        exact: Wide::from_word(0),
+        word: Cycles(0),
+    });
+    let exact = deadline.exact;
+    let word = deadline.word;
+    fields::put(buf, at, u64::from(given.is_some()), 1);
     fields::put_wide(buf, at + 1, exact);
-    fields::put(buf, at + 17, word, 8);
+    fields::put(buf, at + 17, word.0, 8);
 }
 
 fn put_skip(buf: &mut [u8], at: usize, passed: u64, line: u8)
@@ -146,7 +153,7 @@ pub fn put_value(buf: &mut [u8], at: usize, answer: Answer)
     match answer {
         Answer::Empty => {}
         Answer::Byte(value) => put_byte(buf, at, value),
-        Answer::Deadline(present, exact, word) => put_deadline(buf, at, present, exact, word),
+        Answer::Deadline(given) => put_deadline(buf, at, given),
         Answer::Skip(passed, line) => put_skip(buf, at, passed, line),
         Answer::Pair(a, b) => put_pair(buf, at, a, b),
     }
