@@ -15,7 +15,6 @@ use crate::refusal::Refusal;
 use channel::Cycles;
 use clock::{Clock, HostTime};
 use controller::{IrqOutput, SourceNumber};
-use wide::deadline::Deadline;
 use wide::number::Wide;
 
 // A call, with its members. The smaller of two members comes first, which is faster to decode.
@@ -107,7 +106,7 @@ impl Board {
         requires { sound self ≡ true }
         ensures { result ≡ deadline_given (exact_deadline self) }
     {
-        let Deadline::At(exact) = self.exact_deadline() else {
+        let Some(exact) = self.exact_deadline() else {
             return None;
         };
         Some(DeadlineGiven {
@@ -126,10 +125,10 @@ impl Board {
         if controller::level_of(controller, Self::LINE_SOURCE) {
             return Ok(None);
         }
-        let Deadline::At(exact) = self.exact_deadline() else {
+        let Some(exact) = self.exact_deadline() else {
             return Ok(None);
         };
-        if exact.at_most(Wide::from_word(u64::MAX)) {
+        if exact <= Wide::from(u64::MAX) {
             return Ok(Some(Cycles(exact.capped())));
         }
         Err(Refusal::DeadlineTooLarge)

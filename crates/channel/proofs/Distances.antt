@@ -41,14 +41,14 @@ module _ (n e : ℕ) (fn : n < 2 ^ 64) (fe : e < 2 ^ 64) where
       distance_is ((n + k) % 2 ^ 64) e (distance n e - k) (omega arith))
 
   -- a wrapped difference of 0 is a distance of 2^64, and no word reaches it
-  pub far-is : (t d : ℕ) → d ≡ 0 → (d + n) % 2 ^ 64 ≡ e → t < 2 ^ 64 → false ≡ leb (distance n e) t
+  pub far-is : (t d : ℕ) → d ≡ 0 → d ≡ (e + (2 ^ 64 - n)) % 2 ^ 64 → t < 2 ^ 64 → false ≡ leb (distance n e) t
   far-is t d z w f = sym (lt-leb (distance n e) t (omega (arith, distance-below (omega arith))))
 
   -- any other is the distance
-  pub near-is : (d t : ℕ) → d < 2 ^ 64 → (d ≡ 0 → ⊥) → (d + n) % 2 ^ 64 ≡ e → leb d t ≡ leb (distance n e) t
-  near-is d t f z w = ap (λ (k : ℕ). leb k t) (sym (distance_is n e d (omega arith)))
+  pub near-is : (d t : ℕ) → (d ≡ 0 → ⊥) → d ≡ (e + (2 ^ 64 - n)) % 2 ^ 64 → leb d t ≡ leb (distance n e) t
+  near-is d t z w = ap (λ (k : ℕ). leb k t) (sym (distance_is n e d (omega arith)))
 
-  -- the distance is one more than d − 1, wrapped, of its wrapped difference d
-  pub one-after-is : (d r : ℕ) → d < 2 ^ 64 → r < 2 ^ 64 → (d + n) % 2 ^ 64 ≡ e → (r + 1) % 2 ^ 64 ≡ d →
+  -- the distance is one more than its wrapped difference less 1, wrapped too
+  pub one-after-is : (r : ℕ) → r ≡ ((e + (2 ^ 64 - n)) % 2 ^ 64 + (2 ^ 64 - 1)) % 2 ^ 64 →
       r + 1 ≡ distance n e
-  one-after-is d r f g w v = sym (distance_is n e (r + 1) (omega arith))
+  one-after-is r w = sym (distance_is n e (r + 1) (omega arith))

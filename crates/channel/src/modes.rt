@@ -1,19 +1,12 @@
 // What ticks do to a channel in each of its modes.
-ghost use Rattle.std.specs.Prelude.{◌≡◌, ◌+◌, ◌≤◌, min, nat_le};
-ghost use Rattle.wide.specs.Number.{value_of, largest};
+ghost use Rattle.std.specs.Prelude.{◌≡◌, ◌+◌, ◌≤◌, nat_le};
+ghost use Rattle.wide.specs.Number.{value_of};
 ghost use Rattle.channel.specs.Channel.{mode_of, set_pending, clear_enable};
 ghost use Rattle.channel.specs.Matches.{points_met, matches_in};
 ghost use Rattle.channel.specs.Modes.{one_shot, reloaded, matched, periodic, distance, free_running, ticked};
 
 use crate::{Advanced, HardwareTimer, Ticks};
 use wide::number::Wide;
-
-// The sum, or the largest word where it is larger.
-fn saturating_add(a: u64, b: u64) -> u64
-    ensures { result ≡ min (a + b) largest }
-{
-    if u64::MAX - a < b { u64::MAX } else { a + b }
-}
 
 impl HardwareTimer {
     // The channel with pending set and enable cleared. Enable is the bit between mode and interrupt enable.
@@ -32,7 +25,7 @@ impl HardwareTimer {
     {
         Advanced {
             timer: self,
-            matches: Wide::from_word(0),
+            matches: Wide::from(0),
         }
     }
 
@@ -42,7 +35,7 @@ impl HardwareTimer {
     {
         Advanced {
             timer: self,
-            matches: Wide::from_word(periods).sum(Wide::from_word(1)),
+            matches: Wide::from(periods).sum(Wide::from(1)),
         }
     }
 
@@ -103,8 +96,7 @@ impl HardwareTimer {
         ensures { (result.timer ≡ periodic ticks.0 self)
             × (value_of result.matches ≡ matches_in 1 (periodic ticks.0) self) }
     {
-        let counter = self.counter;
-        self.counter = saturating_add(counter, ticks.0);
+        self.counter = self.counter.saturating_add(ticks.0);
         self.matched()
     }
 
@@ -115,7 +107,7 @@ impl HardwareTimer {
         let counter = self.counter;
         let compare = self.compare;
         let t = ticks.0;
-        let distance = std::num::wrapping_sub_u64(compare, counter);
+        let distance = compare.wrapping_sub(counter);
         if distance == 0 {
             return false;
         }
@@ -128,7 +120,7 @@ impl HardwareTimer {
     {
         let counter = self.counter;
         let hit = self.reaches(ticks);
-        self.counter = std::num::wrapping_add_u64(counter, ticks.0);
+        self.counter = counter.wrapping_add(ticks.0);
         if self.armed {
             if hit {
                 self.pending = true;

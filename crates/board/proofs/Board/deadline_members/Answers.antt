@@ -10,6 +10,6 @@ returns-in_default c = rw (← c.in_default.ensures)
 
 pub returns : goal.returns
 returns c =
-    let w = c.in-At.exact in
+    let w = c.in-Some.exact in
     let e = value_wide w (value_of w) (omega arith) refl in
-    rw (← c.in-At.ensures, c.capped.ensures, ← e)
+    rw (← c.in-Some.ensures, c.capped.ensures, ← e)

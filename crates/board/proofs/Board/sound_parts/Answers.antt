@@ -1,6 +1,6 @@
 -- `Board::sound_parts` meets its contract. Assumes nothing.
 use Rattle.board.specs.Board.{sound_parts}
-use mathlib.Core.Bool.{and-true}
+use mathlib.Core.Bool.{and-true, and_assoc}
 use Rattle.board.proofs.Soundness.{latches_sound}
 use Rattle.board.proofs.Board.sound_parts.Goals as goal
 
@@ -10,10 +10,9 @@ returns c =
     rw (
       latches_sound c.args.self.latches,
       and-true,
-      c.both-3.ensures,
-      c.both-2.ensures,
-      c.both.ensures,
       c.sound.ensures,
       c.sound_rate.ensures,
       c.all_sound.ensures,
+      and_assoc,
+      and_assoc,
     )

@@ -11,7 +11,7 @@ returns-then-hit c =
     let a = c.args in
     let e = c.if-self.true in
     let h = sym c.reaches-hit.ensures ∙ c.if-hit.true in (
-      rw (e, h, ← c.wrapping_add_u64.ensures.value) c.met.ensures.0,
+      rw (e, h) c.met.ensures.0,
       c.met.ensures.1 ∙ sym (free-met a.ticks.0 a.self (rw (e, h))),
     )
 
@@ -24,6 +24,6 @@ returns c =
       | then-self+else-hit w ↦ rw w.if-self.true (sym c.reaches-hit.ensures ∙ w.if-hit.false)
       | else-self w ↦ rw w.if-self.false
     ] in (
-      rw (n, ← c.wrapping_add_u64.ensures.value) c.unmet.ensures.0,
+      rw (n) c.unmet.ensures.0,
       c.unmet.ensures.1 ∙ sym (free-unmet a.ticks.0 a.self n),
     )

@@ -20,7 +20,7 @@ returns-then-waits c =
       sym c.waits.ensures
           ∙ c.if-waits.true,
       ← c.ticks_to_go.ensures,
-      c.in-OneAfter.is,
+      c.in-Some.is,
       add-sub_cancel,
     )
     (ap some c.cycles_of.ensures)

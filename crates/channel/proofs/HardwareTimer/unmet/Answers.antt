@@ -3,4 +3,4 @@ use Rattle.std.proofs.Common.{refl}
 use Rattle.channel.proofs.HardwareTimer.unmet.Goals as goal
 
 pub returns : goal.returns
-returns c = (refl, c.from_word.ensures)
+returns c = (refl, c.from.ensures)
