@@ -21,25 +21,19 @@ mod line;
 pub mod refusal;
 mod sound;
 
-// A word of a register pair that is held for the next reads.
-#[derive(Clone, Copy)]
-pub enum Latch {
-    Empty,
-    Held(u32),
-}
-
-// The latch of a channel's high count word.
+// The latch of a channel's high count word. A latch is a word of a register pair that is held for the next reads, or
+// none.
 #[derive(Clone, Copy)]
 pub struct CountLatch {
-    pub high: Latch,
+    pub high: Option<u32>,
 }
 
 #[derive(Clone, Copy)]
 pub struct Latches {
     pub counts: [CountLatch; 4],
     // The clock's seconds.
-    pub low: Latch,
-    pub high: Latch,
+    pub low: Option<u32>,
+    pub high: Option<u32>,
 }
 
 #[derive(Clone, Copy)]
@@ -93,12 +87,12 @@ impl Board {
     {
         let t = HardwareTimer::fresh();
         let timers = [t; 4];
-        let l = CountLatch { high: Latch::Empty };
+        let l = CountLatch { high: None };
         let counts = [l; 4];
         let latches = Latches {
             counts,
-            low: Latch::Empty,
-            high: Latch::Empty,
+            low: None,
+            high: None,
         };
         let clock = Clock::fresh_at(rate);
         let controller = IrqController::new();

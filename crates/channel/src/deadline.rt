@@ -7,8 +7,7 @@ ghost use Rattle.channel.specs.Channel.{mode_of, divisor};
 ghost use Rattle.channel.specs.Modes.{distance};
 ghost use Rattle.channel.specs.Deadline.{ticks_up, ticks_to_go, to_go_of, waiting, deadline_of};
 
-use crate::{HardwareTimer, Ticks};
-use wide::flags::both;
+use crate::{HardwareTimer, Mode, Ticks};
 use wide::number::Wide;
 
 // The ticks to the compare point in modes 0 and 1; 1 where the counter has reached it.
@@ -23,6 +22,7 @@ fn ticks_up(counter: u64, compare: u64) -> Option<Ticks>
 }
 
 // The ticks to the compare point in mode 2, where the counter wraps; none where the channel is not armed.
+#[tactic(auto, using(crate::proofs::Distances::one_after_is))]
 fn ticks_round(counter: u64, compare: u64, armed: bool) -> Option<Ticks>
     ensures { to_go_of result ≡ (if armed then some (distance counter compare) else none) }
 {
@@ -35,19 +35,16 @@ fn ticks_round(counter: u64, compare: u64, armed: bool) -> Option<Ticks>
 }
 
 impl HardwareTimer {
+    #[tactic(auto, unfolding(crate::specs::Deadline::ticks_to_go))]
     fn ticks_to_go(self) -> Option<Ticks>
         ensures { to_go_of result ≡ ticks_to_go (mode_of self.control) self.counter self.compare self.armed }
     {
         let counter = self.counter;
         let compare = self.compare;
-        let control = self.control;
-        let armed = self.armed;
-        let mode = control % Self::MODES;
-        match mode {
-            Self::ONE_SHOT => ticks_up(counter, compare),
-            Self::PERIODIC => ticks_up(counter, compare),
-            Self::FREE_RUNNING => ticks_round(counter, compare, armed),
-            _ => None,
+        match self.mode() {
+            Mode::OneShot | Mode::Periodic => ticks_up(counter, compare),
+            Mode::FreeRunning => ticks_round(counter, compare, self.armed),
+            Mode::Idle => None,
         }
     }
 
@@ -67,20 +64,19 @@ impl HardwareTimer {
     fn waits(self, selected: bool) -> bool
         ensures { result ≡ waiting selected self }
     {
-        both(both(self.runs(selected), self.irq_enabled()), !self.pending)
+        self.runs(selected) & self.irq_enabled() & !self.pending
     }
 
     // The exact deadline of the channel, whose bit in timer enable is `selected`.
+    #[tactic(auto, unfolding(crate::specs::Deadline::deadline_of))]
     pub fn cycles_until_match(self, selected: bool) -> Option<Wide>
         requires { self.phase ≤ self.prescaler }
         ensures { number_of result ≡ deadline_of selected self }
     {
-        if self.waits(selected) {
-            let Some(n) = self.ticks_to_go() else {
-                return None;
-            };
-            return Some(self.cycles_of(n));
+        if !self.waits(selected) {
+            return None;
         }
-        None
+        let n = self.ticks_to_go()?;
+        Some(self.cycles_of(n))
     }
 }

@@ -5,11 +5,12 @@ ghost use Rattle.channel.specs.Channel.{mode_of, set_pending, clear_enable};
 ghost use Rattle.channel.specs.Matches.{points_met, matches_in};
 ghost use Rattle.channel.specs.Modes.{one_shot, reloaded, matched, periodic, distance, free_running, ticked};
 
-use crate::{Advanced, HardwareTimer, Ticks};
+use crate::{Advanced, HardwareTimer, Mode, Ticks};
 use wide::number::Wide;
 
 impl HardwareTimer {
     // The channel with pending set and enable cleared. Enable is the bit between mode and interrupt enable.
+    #[tactic(auto, unfolding(crate::specs::Channel::disabled))]
     fn fired(mut self) -> Self
         ensures { result ≡ clear_enable (set_pending self) }
     {
@@ -39,6 +40,7 @@ impl HardwareTimer {
         }
     }
 
+    #[tactic(auto, using(crate::proofs::Counting::one_shot_past, crate::proofs::Counting::one_shot_reached, crate::proofs::Counting::one_shot_ahead), unfolding(crate::specs::Modes::one_shot))]
     fn advance_one_shot(mut self, ticks: Ticks) -> Advanced
         ensures { (result.timer ≡ one_shot ticks.0 self)
             × (value_of result.matches ≡ matches_in 0 (one_shot ticks.0) self) }
@@ -72,14 +74,15 @@ impl HardwareTimer {
         let past = counter - compare;
         let periods = past / reload;
         let gap = reload - past % reload;
-        if u64::MAX - counter < gap {
+        let Some(next) = counter.checked_add(gap) else {
             return self.fired().met(periods);
-        }
-        self.compare = counter + gap;
+        };
+        self.compare = next;
         self.pending = true;
         self.met(periods)
     }
 
+    #[tactic(auto, using(crate::proofs::Counting::matched_past, crate::proofs::Counting::matched_ahead), unfolding(crate::specs::Modes::matched))]
     fn matched(self) -> Advanced
         ensures { (result.timer ≡ matched self) × (value_of result.matches ≡ matches_in 1 matched self) }
     {
@@ -92,6 +95,7 @@ impl HardwareTimer {
         }
     }
 
+    #[tactic(auto, using(crate::proofs::Counting::periodic_matches), unfolding(crate::specs::Modes::periodic))]
     fn advance_periodic(mut self, ticks: Ticks) -> Advanced
         ensures { (result.timer ≡ periodic ticks.0 self)
             × (value_of result.matches ≡ matches_in 1 (periodic ticks.0) self) }
@@ -101,32 +105,25 @@ impl HardwareTimer {
     }
 
     // Whether the ticks reach the compare point. A distance of 0 means 2^64, which no number of ticks reaches.
+    #[tactic(auto, using(crate::proofs::Distances::reaches_is))]
     fn reaches(self, ticks: Ticks) -> bool
         ensures { result ≡ nat_le (distance self.counter self.compare) ticks.0 }
     {
-        let counter = self.counter;
-        let compare = self.compare;
-        let t = ticks.0;
-        let distance = compare.wrapping_sub(counter);
-        if distance == 0 {
-            return false;
-        }
-        distance <= t
+        let distance = self.compare.wrapping_sub(self.counter);
+        (distance != 0) & (distance <= ticks.0)
     }
 
+    #[tactic(auto, using(crate::proofs::Counting::free_met, crate::proofs::Counting::free_unmet), unfolding(crate::specs::Modes::free_running))]
     fn advance_free_running(mut self, ticks: Ticks) -> Advanced
         ensures { (result.timer ≡ free_running ticks.0 self)
             × (value_of result.matches ≡ matches_in 2 (free_running ticks.0) self) }
     {
-        let counter = self.counter;
-        let hit = self.reaches(ticks);
-        self.counter = counter.wrapping_add(ticks.0);
-        if self.armed {
-            if hit {
-                self.pending = true;
-                self.armed = false;
-                return self.met(0);
-            }
+        let hit = self.armed & self.reaches(ticks);
+        self.counter = self.counter.wrapping_add(ticks.0);
+        if hit {
+            self.pending = true;
+            self.armed = false;
+            return self.met(0);
         }
         self.unmet()
     }
@@ -136,17 +133,14 @@ impl HardwareTimer {
         ensures { (result.timer ≡ ticked ticks.0 self)
             × (value_of result.matches ≡ matches_in (mode_of self.control) (ticked ticks.0) self) }
     {
-        let control = self.control;
-        let t = ticks.0;
-        if t == 0 {
+        if ticks.0 == 0 {
             return self.unmet();
         }
-        let mode = control % Self::MODES;
-        match mode {
-            Self::ONE_SHOT => self.advance_one_shot(ticks),
-            Self::PERIODIC => self.advance_periodic(ticks),
-            Self::FREE_RUNNING => self.advance_free_running(ticks),
-            _ => self.unmet(),
+        match self.mode() {
+            Mode::OneShot => self.advance_one_shot(ticks),
+            Mode::Periodic => self.advance_periodic(ticks),
+            Mode::FreeRunning => self.advance_free_running(ticks),
+            Mode::Idle => self.unmet(),
         }
     }
 }

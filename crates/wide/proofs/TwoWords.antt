@@ -3,7 +3,9 @@
 use Rattle.std.proofs.Common.{◌≡◌, ℕ, ◌+◌, ◌-◌, ◌*◌, ◌%◌, ◌^◌, ◌<◌, ◌≤◌, min, true, false, ltb, leb, sym, ap, ◌∙◌}
 use Rattle.std.proofs.Common.{mul-le-mul_right, zero-add, zero-mul, arith, ltb-false, ltb-true}
 use Rattle.std.proofs.lemmas.Bool.Decides.{nat_tests}
-use Rattle.std.specs.Ordering.{nat_cmp, ordering_then, ord_min, is_le, is_lt}
+use Rattle.std.specs.declared.option.Option.{Option}
+use Rattle.std.specs.declared.option.Option.TheVariants.{Some}
+use Rattle.std.specs.Ordering.{partial_ordering_then, partial_le, is_some_and, nat_cmp, ordering_then, ord_min, is_le, is_lt}
 use Rattle.std.specs.declared.cmp.Ordering.{Ordering}
 use Rattle.wide.specs.declared.number.Wide.{Wide}
 use Rattle.wide.specs.Number.{value_of, largest}
@@ -146,13 +148,20 @@ least_is x y p q =
     above : (m n : ℕ) → is_lt (nat_cmp n m) ≡ false → m ≡ min m n
     above m n e = grind (arith, nat_tests)
 
--- and `<=` compares the numbers
+-- `<=` asks the derived partial order
+abbrev pub wide_partial_cmp : Wide → Wide → Option Ordering
+wide_partial_cmp x y = partial_ordering_then (Some (nat_cmp x.high y.high)) (Some (nat_cmp x.low y.low))
+
+-- and compares the numbers
 pub at_most_is : (x y : Wide) → x.low < 2 ^ 64 → y.low < 2 ^ 64 →
-    is_le (wide_cmp x y) ≡ leb (value_of x) (value_of y)
-at_most_is x y p q = ap is_le (wide_cmp_is x y p q) ∙ numbers (value_of x) (value_of y)
+    partial_le wide_partial_cmp x y ≡ leb (value_of x) (value_of y)
+unfolding value_of
+at_most_is x y p q = words (2 ^ 64) x.high y.high x.low y.low p q
   where
-    numbers : (m n : ℕ) → is_le (nat_cmp m n) ≡ leb m n
-    numbers m n = grind (arith, nat_tests)
+    words : (w h k l m : ℕ) → l < w → m < w →
+        is_some_and is_le (partial_ordering_then (Some (nat_cmp h k)) (Some (nat_cmp l m)))
+        ≡ leb (h * w + l) (k * w + m)
+    words w h k l m p q = grind (arith, nat_tests, higher w h k l m, higher w k h m l)
 
 -- ---- one word
 

@@ -1,9 +1,5 @@
 -- `Board::skip_length` meets its contract. Assumes nothing.
-use Rattle.std.specs.Prelude.{Some}
-use Rattle.std.specs.Ordering.{is_some_and, is_le, nat_cmp, ordering_then, partial_ordering_then}
-use Rattle.std.specs.declared.cmp.Ordering.{Ordering}
-use Rattle.std.specs.declared.cmp.Ordering.TheVariants.{Less, Equal, Greater}
-use mathlib.Core.Path.{◌≡◌, refl, sym, ◌∙◌}
+use mathlib.Core.Path.{◌≡◌, sym, ◌∙◌}
 use Prim.Native.Nat.{min}
 use native.Mathlib.Omega.{arith}
 use lib.Dec.{leb}
@@ -14,13 +10,6 @@ use Rattle.wide.proofs.TwoWords.{at_most_is}
 use Rattle.wide.specs.Number.{value_of, largest}
 use Rattle.board.proofs.Soundness.{sound_facts}
 use Rattle.board.proofs.Board.skip_length.Goals as goal
-
--- `<=` compares the words as `cmp` does
-le_words : (high low : Ordering) →
-    is_some_and is_le (partial_ordering_then (Some high) (Some low)) ≡ is_le (ordering_then high low)
-le_words Less low = refl
-le_words Equal low = refl
-le_words Greater low = refl
 
 pub returns-then-level_of : goal.returns-then-level_of
 returns-then-level_of c =
@@ -37,11 +26,8 @@ pub returns-then-le : goal.returns-then-le
 returns-then-le c =
     let w = c.in-Some.exact in
     let d = value_of w in
-    let m = c.from.result in
-    let t : leb d (value_of m) ≡ true =
-    sym (at_most_is w m (search rules) (search rules))
-    ∙ sym (le_words (nat_cmp w.high m.high) (nat_cmp w.low m.low))
-    ∙ sym c.if-le.ensures in
+    let t : leb d (value_of c.from.result) ≡ true =
+    sym (at_most_is w c.from.result (search rules) (search rules)) ∙ sym c.if-le.ensures in
     let h = leb-true d largest (rw c.from.ensures at t) in
     let k : min d largest ≡ d = omega arith in
     rw (
@@ -56,11 +42,8 @@ pub returns : goal.returns
 returns c =
     let w = c.in-Some.exact in
     let d = value_of w in
-    let m = c.from.result in
-    let t : leb d (value_of m) ≡ false =
-    sym (at_most_is w m (search rules) (search rules))
-    ∙ sym (le_words (nat_cmp w.high m.high) (nat_cmp w.low m.low))
-    ∙ sym c.if-le.ensures in
+    let t : leb d (value_of c.from.result) ≡ false =
+    sym (at_most_is w c.from.result (search rules) (search rules)) ∙ sym c.if-le.ensures in
     rw (
       sym (sound_facts c.args.self c.requires).level ∙ sym c.level_of.ensures ∙ c.if-level_of.false,
       ← c.in-Some.ensures,
