@@ -14,9 +14,6 @@ use Rattle.board.specs.declared.calls.Call.{Call}
 use Rattle.board.specs.declared.calls.Call.TheVariants.{HostTime, Read, Write, Advance, Deadline, Skip, Source}
 use Rattle.board.specs.declared.calls.Call.TheVariants.{ControllerRead, ControllerWrite, Output}
 use Rattle.board.specs.Calls.{host_time_refusal, address_refusal, source_refusal, effect_of}
-use Rattle.board.specs.declared.refusal.Refusal.{Refusal}
-use Rattle.board.specs.declared.refusal.Refusal.TheVariants as R
-use Rattle.board.specs.Refusals.{refusal_number}
 use Rattle.format.specs.Format.{answer_too_long, row_of, known, value_length, header_length}
 use Rattle.format.specs.Format.{members_at}
 use Rattle.format.specs.Codec.{tag_at, frame_refusal, call_of, call_at, record_length, first_of, refusal_at}
@@ -38,25 +35,6 @@ whole value l h z =
     (λ e. either (ltb (length l - header_length) value)
     (λ f. let q : ◌≡◌ {A = ℕ} 0 5 = rw (e, f) at z in absurd (omega arith))
     (λ f. let m = ltb-false (length l - header_length) value f in omega arith))
-
--- a refusal's number is not 0
-number-some : (e : Refusal) → eqb (refusal_number e) 0 ≡ false
-number-some R.NotSound = refl
-number-some R.HeaderCut = refl
-number-some R.TagUnknown = refl
-number-some R.LengthWrong = refl
-number-some R.ValueCut = refl
-number-some R.AddressTooLarge = refl
-number-some R.NanosecondsTooLarge = refl
-number-some R.SourceTooLarge = refl
-number-some R.SourceOfLine = refl
-number-some R.LevelTooLarge = refl
-number-some R.BufferShort = refl
-number-some R.ImageMalformed = refl
-number-some R.DeadlineTooLarge = refl
-number-some R.ClockInRealtime = refl
-number-some R.AnotherRate = refl
-number-some R.RateNeedsNewForm = refl
 
 -- ---- the call at the front
 

@@ -94,8 +94,9 @@ fn put_deadline(buf: &mut [u8], at: usize, given: Option<DeadlineGiven>)
     requires { at + 25 ≤ length buf.old }
     ensures { buf.new ≡ sets buf.old at (value_bytes (Deadline given)) }
 {
+    let zero = Wide::from(0);
     let deadline = given.unwrap_or(DeadlineGiven {
-        exact: Wide::from_word(0),
+        exact: zero,
         word: Cycles(0),
     });
     let exact = deadline.exact;
@@ -126,7 +127,7 @@ pub fn put_no_counts(buf: &mut [u8], at: usize)
     requires { at + 64 ≤ length buf.old }
     ensures { buf.new ≡ sets buf.old at (wides (0 ∷ 0 ∷ 0 ∷ 0 ∷ [])) }
 {
-    let none = Wide::from_word(0);
+    let none = Wide::from(0);
     fields::put_wide(buf, at, none);
     fields::put_wide(buf, at + COUNT_LENGTH, none);
     fields::put_wide(buf, at + 2 * COUNT_LENGTH, none);

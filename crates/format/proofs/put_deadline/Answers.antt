@@ -2,7 +2,7 @@
 -- nothing.
 use Prim.Native.Nat.{ℕ}
 use mathlib.Core.Path.{◌≡◌, ◌∙◌, ap}
-use mathlib.Core.List.{List, ◌++◌, append_assoc, append-nil}
+use mathlib.Core.List.{◌++◌, append_assoc, append-nil}
 use lib.ListN.{length-append}
 use lib.Seq.{sets}
 use mir.Val.{bool_byte}
@@ -39,4 +39,4 @@ returns c = let a = c.args in
     )
     (sets_then a.buf.now a.at 17 (present ++ be 16 (value_of d.exact)) (be 8 d.word.0)
     (simp (length-append, length-be))
-    ∙ ap (sets a.buf.now a.at) (bytes a.given _ present-is _ c.from_word.ensures d c.unwrap_or-deadline.ensures))
+    ∙ ap (sets a.buf.now a.at) (bytes a.given _ present-is _ c.from-zero.ensures d c.unwrap_or-deadline.ensures))
