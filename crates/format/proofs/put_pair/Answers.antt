@@ -8,4 +8,5 @@ use Rattle.format.proofs.put_pair.Goals as goal
 pub returns : goal.returns
 unfolding members_bytes value_bytes
 returns c = let a = c.args in
-    rw (c.put-2.ensures, c.put.ensures, c.from.ensures, c.from-2.ensures, append-nil) (sets_be a.buf.now a.at 1 a.a (be 1 a.b))
+    rw (c.put-2.ensures, c.put.ensures, c.from.ensures, c.from-2.ensures, append-nil)
+    (sets_be a.buf.now a.at 1 a.a (be 1 a.b))
