@@ -110,7 +110,7 @@ fn read_fields(form: Form, rate: u32, fields: &[u8]) -> Result<Parked, Refusal>
 }
 
 // Reads the board of an image in either form. The length tells which of the two it is.
-pub fn parked(image: &[u8]) -> Result<Parked, Refusal>
+pub fn unpark(image: &[u8]) -> Result<Parked, Refusal>
     ensures { reading_said result ≡ reading_of image.now }
 {
     if image.len() == NEW_LENGTH {
@@ -125,7 +125,7 @@ pub fn parked(image: &[u8]) -> Result<Parked, Refusal>
 pub fn read(image: &[u8]) -> Reading
     ensures { was_read result ≡ reading_of image.now }
 {
-    match parked(image) {
+    match unpark(image) {
         Ok(Parked { board, form }) => Reading {
             board,
             form,
@@ -146,5 +146,5 @@ fn read_in(form: Form, image: &[u8]) -> Result<Parked, Refusal>
     if image.len() != image_length(form) {
         return Err(Refusal::ImageMalformed);
     }
-    parked(image)
+    unpark(image)
 }

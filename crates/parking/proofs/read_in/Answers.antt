@@ -14,5 +14,5 @@ returns-then-image-image_length c =
 pub returns : goal.returns
 returns c =
     let a = c.args in
-    c.parked.ensures
+    c.unpark.ensures
     ∙ read-by-length a.image.now a.form (c.if-image-image_length.false ∙ c.image_length.ensures)

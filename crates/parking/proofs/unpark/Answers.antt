@@ -1,10 +1,10 @@
--- `parked` meets its contract. Assumes nothing.
+-- `unpark` meets its contract. Assumes nothing.
 use mathlib.Core.Path.{◌∙◌}
 use Rattle.std.proofs.lemmas.Result.{err_from_is_err_and}
 use Rattle.image.specs.declared.Form.TheVariants.{New}
 use Rattle.parking.proofs.Answers.{none_found, one_found, new-read, new-missing, old_read}
 use Rattle.parking.proofs.Answers.{reading_malformed, read-new, read-old}
-use Rattle.parking.proofs.parked.Goals as goal
+use Rattle.parking.proofs.unpark.Goals as goal
 
 pub returns-in_err-rate : goal.returns-in_err-rate
 returns-in_err-rate c =
