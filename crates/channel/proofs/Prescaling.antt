@@ -20,6 +20,12 @@ at_most_is a b =
 pub by_one : (n p c : ℕ) → n ≡ 0 → 0 ≡ (p + c) % (n + 1)
 by_one n p c e = rw e (sym (mod-one (p + c)))
 
+-- and with phase p = 0 each of c cycles is a tick
+pub each_is : (n p c : ℕ) → n ≡ 0 → p ≤ n → c ≡ (p + c) / (n + 1)
+each_is n p c e h =
+    let z : p ≡ 0 = omega arith in
+    rw (e, z, zero-add c) (sym (div-one c))
+
 -- v is the divisor, p the phase and c the cycles
 module _ (v p c : ℕ) where
   -- fewer cycles than to the first tick
