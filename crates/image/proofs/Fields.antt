@@ -210,9 +210,10 @@ none = record { high = None }
 abbrev found : Latch → List ℕ
 found l = bool_byte (is_some l) ∷ unwrap_or l 0 ∷ []
 
-flag-is : (v : Bool) → bool_byte v ≡ flag_of v
-flag-is true = refl
-flag-is false = refl
+-- a flag as the byte that the code makes of it
+pub byte_flag : (v : Bool) → bool_byte v ≡ flag_of v
+byte_flag true = refl
+byte_flag false = refl
 
 value-is : (l : Latch) → unwrap_or l 0 ≡ held_value l
 value-is None = refl
@@ -225,7 +226,7 @@ pub latches_stored : (cs : List CountLatch) → length cs ≡ 4 → (low high : 
     ++ found (get_or cs 3 none).high ++ found low ++ found high)) →
     y ≡ sets x latches_at (field_bytes latches_field (latches_members (record { counts = cs; low = low; high = high })))
 latches_stored cs four low high x y e =
-    (simp (flag-is, value-is) at e)
+    (simp (byte_flag, value-is) at e)
     ∙ ap
     (λ (xs : List CountLatch).
     sets x latches_at (field_bytes latches_field (latches_members (record { counts = xs; low = low; high = high }))))
