@@ -1,5 +1,6 @@
 -- What one advance would show of a sound board whose clock does not run from host time: by its line and its deadline,
--- and by the cycles from which on the line is high. And of every sound board, what a call of advance answers. Assumes nothing.
+-- and by the cycles from which on the line is high. And of every sound board, what a call of advance answers. Assumes
+-- nothing.
 use Prim.Native.Nat.{ℕ, ◌≤◌}
 use native.Mathlib.Nat.{add-zero}
 use native.Mathlib.Omega.{arith}
