@@ -1,16 +1,17 @@
 -- The fields of an image one behind another: their lengths, and how they are stored. Assumes nothing.
-use Prim.Native.Nat.{ℕ, ◌+◌, ◌-◌, ◌≤◌}
+use Prim.Native.Nat.{ℕ, ◌+◌, ◌-◌, ◌*◌, ◌≤◌, ◌<◌}
+use native.Mathlib.Numerals.{add-one}
+use Rattle.std.proofs.lemmas.List.{length-take-le, take_all}
 use native.Mathlib.Nat.{zero-add}
 use native.Mathlib.Omega.{arith}
 use mathlib.Core.Bool.{Bool, true, false}
 use mathlib.Core.Path.{◌≡◌, refl, sym, ap, ap₂, ◌∙◌, subst}
 use mathlib.Core.List.{List, [], ◌∷◌, ◌++◌, map, append_assoc, append-nil}
 use lib.ListN.{length, get_or, take, drop, length-append, length-map, length-drop, drop_of_length-le}
-use lib.Seq.{sets, length-sets, sets-eq, drop-drop}
+use lib.Seq.{take-suc, sets, length-sets, sets-eq, drop-drop}
 use Rattle.format.specs.Format.{members_bytes}
 use Rattle.format.proofs.Frames.{part_rest, sets_then, sets_front, record-length, members-length}
 use Rattle.channel.specs.declared.HardwareTimer.{HardwareTimer}
-use Rattle.channel.specs.Channel.{fresh_timer}
 use Rattle.clock.specs.Clock.{rate_of}
 use mir.Val.{bool_byte}
 use Rattle.std.proofs.Common.{None, Some}
@@ -106,22 +107,45 @@ stored_then : (x y z : List ℕ) (a b n : ℕ) (xs ys : List ℕ) → y ≡ sets
 stored_then x y z a b n xs ys e l i f =
     f ∙ ap (λ (s : List ℕ). sets s b ys) e ∙ ap (λ (j : ℕ). sets (sets x a xs) j ys) i ∙ sets_then x a n xs ys l
 
--- a channel's field
-abbrev channel_bytes : List HardwareTimer → ℕ → List ℕ
-channel_bytes ts k = field_bytes channel_field (timer_members (get_or ts k fresh_timer))
+-- the fields of some channels
+abbrev pub timers_bytes : List HardwareTimer → List ℕ
+timers_bytes [] = []
+timers_bytes (t ∷ ts) = field_bytes channel_field (timer_members t) ++ timers_bytes ts
 
--- the fields of the four channels
-pub channels_stored : (ts : List HardwareTimer) → length ts ≡ 4 → (x y z u v : List ℕ) →
-    y ≡ sets x 0 (channel_bytes ts 0) → z ≡ sets y 38 (channel_bytes ts 1) → u ≡ sets z 76 (channel_bytes ts 2) →
-    v ≡ sets u 114 (channel_bytes ts 3) → v ≡ sets x 0 (channels_bytes ts)
+timers-length : (ts : List HardwareTimer) → length (timers_bytes ts) ≡ length ts * 38
+timers-length [] = refl
+timers-length (t ∷ ts) =
+    length-append (field_bytes channel_field (timer_members t)) (timers_bytes ts)
+    ∙ omega (arith, field-length channel_field (timer_members t), timers-length ts)
+
+timers_append : (ts : List HardwareTimer) (t : HardwareTimer) →
+    timers_bytes (ts ++ (t ∷ [])) ≡ timers_bytes ts ++ field_bytes channel_field (timer_members t)
+timers_append [] t = append-nil (field_bytes channel_field (timer_members t))
+timers_append (s ∷ ts) t =
+    ap (λ (l : List ℕ). field_bytes channel_field (timer_members s) ++ l) (timers_append ts t)
+    ∙ sym (append_assoc (field_bytes channel_field (timer_members s)) (timers_bytes ts) _)
+
+-- one field more, behind those of the channels before index i
+pub channel_stored : (ts : List HardwareTimer) (x y z : List ℕ) (i : ℕ) (d : HardwareTimer) →
+    y ≡ sets x 0 (timers_bytes (take i ts)) → i < length ts →
+    z ≡ sets y (i * 38) (field_bytes channel_field (timer_members (get_or ts i d))) →
+    z ≡ sets x 0 (timers_bytes (take (i + 1) ts))
+channel_stored ts x y z i d e l f =
+    let long : length (take i ts) ≡ i = length-take-le i ts (omega (arith, l)) in
+    let n : length (timers_bytes (take i ts)) ≡ i * 38 = timers-length (take i ts) ∙ ap (λ (k : ℕ). k * 38) long in
+    rw (add-one, take-suc ts i d l, timers_append)
+    (stored_then x y z 0 (i * 38) (i * 38) (timers_bytes (take i ts)) _ e n (sym (zero-add (i * 38))) f)
+
+-- those of all four
+four_bytes : (ts : List HardwareTimer) → length ts ≡ 4 → timers_bytes ts ≡ channels_bytes ts
 unfolding fields_bytes
-channels_stored ts four x y z u v e f g h =
-    let last : v ≡ sets u 114 (channel_bytes ts 3 ++ []) = h
-    ∙ ap (sets u 114) (sym (append-nil (channel_bytes ts 3))) in
-    stored_then x y v 0 38 38 (channel_bytes ts 0) _ e (field-length channel_field _) refl
-    (stored_then y z v 38 76 38 (channel_bytes ts 1) _ f (field-length channel_field _) refl
-    (stored_then z u v 76 114 38 (channel_bytes ts 2) _ g (field-length channel_field _) refl last))
-    ∙ ap (λ (xs : List HardwareTimer). sets x 0 (channels_bytes xs)) (sym (four_is fresh_timer ts four))
+four_bytes = by_four (λ ts. timers_bytes ts ≡ channels_bytes ts) (λ _ _ _ _. refl)
+
+pub channels_stored : (ts : List HardwareTimer) → length ts ≡ 4 → (x y : List ℕ) (i : ℕ) → 4 ≤ i →
+    y ≡ sets x 0 (timers_bytes (take i ts)) → y ≡ sets x 0 (channels_bytes ts)
+channels_stored ts four x y i h e =
+    e ∙ ap (λ (l : List HardwareTimer). sets x 0 (timers_bytes l)) (take_all i ts (omega (arith, four, h)))
+    ∙ ap (sets x 0) (four_bytes ts four)
 
 -- the image in the old form: the channels' fields, and the three behind them
 pub old_stored : (b : Board) → length b.timers ≡ 4 → (x y z u v : List ℕ) →
@@ -210,9 +234,10 @@ none = record { high = None }
 abbrev found : Latch → List ℕ
 found l = bool_byte (is_some l) ∷ unwrap_or l 0 ∷ []
 
-flag-is : (v : Bool) → bool_byte v ≡ flag_of v
-flag-is true = refl
-flag-is false = refl
+-- a flag as the byte that the code makes of it
+pub byte_flag : (v : Bool) → bool_byte v ≡ flag_of v
+byte_flag true = refl
+byte_flag false = refl
 
 value-is : (l : Latch) → unwrap_or l 0 ≡ held_value l
 value-is None = refl
@@ -225,7 +250,7 @@ pub latches_stored : (cs : List CountLatch) → length cs ≡ 4 → (low high : 
     ++ found (get_or cs 3 none).high ++ found low ++ found high)) →
     y ≡ sets x latches_at (field_bytes latches_field (latches_members (record { counts = cs; low = low; high = high })))
 latches_stored cs four low high x y e =
-    (simp (flag-is, value-is) at e)
+    (simp (byte_flag, value-is) at e)
     ∙ ap
     (λ (xs : List CountLatch).
     sets x latches_at (field_bytes latches_field (latches_members (record { counts = xs; low = low; high = high }))))

@@ -130,14 +130,13 @@ fn put_controller(buf: &mut [u8], controller: IrqController)
     CONTROLLER.put(buf, CONTROLLER_AT, &members);
 }
 
-fn put_channels(buf: &mut [u8], timers: [HardwareTimer; 4])
+fn put_channels(buf: &mut [u8], timers: &[HardwareTimer; 4])
     requires { clock_at ≤ length buf.old }
-    ensures { buf.new ≡ sets buf.old 0 (channels_bytes timers) }
+    ensures { buf.new ≡ sets buf.old 0 (channels_bytes timers.now) }
 {
-    put_channel(buf, 0, timers[0]);
-    put_channel(buf, CHANNEL_SIZE, timers[1]);
-    put_channel(buf, 2 * CHANNEL_SIZE, timers[2]);
-    put_channel(buf, 3 * CHANNEL_SIZE, timers[3]);
+    for (i, timer) in timers.iter().enumerate() {
+        put_channel(buf, i * CHANNEL_SIZE, *timer);
+    }
 }
 
 // Writes the image of a board in the old form.
@@ -145,8 +144,7 @@ fn put_old(buf: &mut [u8], board: Board)
     requires { image_length Old ≤ length buf.old }
     ensures { buf.new ≡ sets buf.old 0 (image_of Old board) }
 {
-    let timers = board.timers;
-    put_channels(buf, timers);
+    put_channels(buf, &board.timers);
     let clock = board.clock;
     put_clock(buf, board.timer_enable, clock);
     let latches = board.latches;

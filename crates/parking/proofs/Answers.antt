@@ -26,7 +26,7 @@ use Rattle.board.specs.declared.Board.{Board}
 use Rattle.board.specs.Fields.{fresh_board}
 use Rattle.board.specs.Board.{sound}
 use Rattle.board.specs.Calls.{not_sound, another_rate, refusal_of}
-use Rattle.board.proofs.Answers.{accepted_sound, some_refusal}
+use Rattle.board.proofs.Answers.{accepted_sound, some_refusal, unsound_first}
 use Rattle.image.specs.Image.{
   Field,
   channel_field,
@@ -244,7 +244,7 @@ module _ (f : Form) (b : Board) (old : List ℕ) where
   -- 1 comes first
   pub writing-unsound : (d : Refusal) → refusal_number d ≡ refusal_of b 0 →
       refusal_number d ≡ writing_refusal f b (length old)
-  writing-unsound d e = let u = unsound_found b d e in u.1 ∙ rw u.0 refl
+  writing-unsound d e = unsound_first b _ d e
 
   -- then what refuses a sound board
   pub writing-own : sound b ≡ true → (r : ℕ) → r ≡ parking_refusal f (rate_of b.clock) (length old) →

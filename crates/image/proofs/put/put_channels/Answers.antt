@@ -1,15 +1,13 @@
 -- `put::put_channels` meets its contract. Assumes nothing.
-use mathlib.Core.Path.{◌≡◌}
-use lib.ListN.{length}
-use Rattle.image.proofs.Fields.{channels_stored}
-use borrow.Author.Rules.{rules}
+use native.Mathlib.Omega.{arith}
+use Rattle.image.proofs.Fields.{channel_stored, channels_stored}
 use Rattle.image.proofs.put.put_channels.Goals as goal
+
+pub loop-i-preserved : goal.loop-i-preserved
+loop-i-preserved c =
+    channel_stored c.args.timers.now _ _ _ _ _ c.loop-i.invariant (omega (arith, c.told-timers, c.loop-i-test.true))
+    c.put_channel.ensures
 
 pub returns : goal.returns
 returns c =
-    let ts = c.args.timers in
-    let four : length ts ≡ 4 = search rules in
-    channels_stored ts four _ _ _ _ _ c.put_channel.ensures
-    c.put_channel-2.ensures
-    c.put_channel-3.ensures
-    c.put_channel-4.ensures
+    channels_stored c.args.timers.now c.told-timers _ _ _ c.loop-i-test.false c.loop-i.invariant
