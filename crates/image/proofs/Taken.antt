@@ -1,15 +1,37 @@
 -- The loop over a table of widths that takes members out. Assumes nothing.
-use Prim.Native.Nat.{ℕ, suc, ◌+◌, ◌≤◌, ◌<◌}
+use Prim.Native.Nat.{ℕ, zero, suc, ◌+◌, ◌^◌, ◌≤◌, ◌<◌}
+use native.Mathlib.Nat.{zero-add}
 use native.Mathlib.Numerals.{add-one}
 use native.Mathlib.Omega.{arith}
 use mathlib.Core.Path.{◌≡◌, refl, sym, ap, ◌∙◌}
 use mathlib.Core.List.{List, [], ◌∷◌, ◌++◌, append-nil}
-use lib.ListN.{length, get_or, set, drop, length-set}
+use lib.ListN.{length, get_or, set, drop, length-set, drop_of_length-le}
+use lib.Dec.{leb}
+use borrow.Author.Tests.{leb-true}
+use mathlib.Core.Bool.{true}
+use Rattle.wide.proofs.Choices.{and_parts}
+use Rattle.image.specs.CodeTables.{up_to_eight, FitFrom}
 use lib.Seq.{sets, drop-cons}
 use Rattle.wide.specs.Fields.{be_at}
 use Rattle.format.specs.Format.{sum, members_at}
-use Rattle.format.proofs.Frames.{sets_front}
-use Rattle.image.proofs.Tables.{left, none_left}
+use Rattle.format.proofs.Frames.{sets_front, members_below}
+
+-- ---- widths that are left
+
+-- before the width of index i
+left : (ws : List ℕ) (i : ℕ) → i < length ws → sum (drop i ws) ≡ get_or ws i 0 + sum (drop (suc i) ws)
+left ws i h = ap sum (drop-cons ws i 0 h)
+
+none_left : (ws : List ℕ) (i : ℕ) → length ws ≤ i → drop i ws ≡ []
+none_left ws i h = drop_of_length-le ws h
+
+-- each width of a table
+pub width_most : (ws : List ℕ) → up_to_eight ws ≡ true → (i : ℕ) → get_or ws i 0 ≤ 8
+width_most [] e i = omega arith
+width_most (w ∷ ws) e zero = leb-true w 8 (and_parts (leb w 8) (up_to_eight ws) e).0
+width_most (w ∷ ws) e (suc i) = width_most ws (and_parts (leb w 8) (up_to_eight ws) e).1 i
+
+-- ---- taking
 
 -- there are as many members as widths
 pub members_count : (l : List ℕ) (at : ℕ) (ws : List ℕ) → length (members_at l at ws) ≡ length ws
@@ -65,3 +87,13 @@ module _ (l ws : List ℕ) (at : ℕ) (ms : List ℕ) (p i : ℕ) (t : Taking l 
   unfolding members_at
   taking-ended h =
       ap (λ (x : List ℕ). sets ms i (members_at l p x)) (sym (none_left ws i h)) ∙ t.stores
+
+-- members that were taken out of bytes fit their widths
+pub taken_fit : (l ms : List ℕ) (at : ℕ) (ws : List ℕ) → ((i : ℕ) → get_or l i 0 < 256) → ms ≡ members_at l at ws →
+    FitFrom 0 ws ms
+taken_fit l ms at ws bytes e =
+    from 0 ws (λ i j p. rw (e, p, zero-add) (members_below l bytes at ws i))
+  where
+    from : (k : ℕ) (vs : List ℕ) → ((i j : ℕ) → j ≡ k + i → get_or ms j 0 < 256 ^ get_or vs i 0) → FitFrom k vs ms
+    from k [] h = tt
+    from k (v ∷ vs) h = (h 0 k (omega arith), from (suc k) vs (λ i j p. h (suc i) j (omega (arith, p))))
