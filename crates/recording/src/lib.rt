@@ -87,9 +87,10 @@ pub fn fits(h: Header, room: usize) -> bool
 fn start(enable: u8) -> Board
     ensures { result ≡ start_of enable }
 {
-    let mut board = Board::fresh();
-    board.timer_enable = enable;
-    board
+    Board {
+        timer_enable: enable,
+        ..Board::fresh()
+    }
 }
 
 // Runs a list on that board.
