@@ -25,7 +25,6 @@ use Rattle.board.specs.declared.Board.{Board}
 use Rattle.board.specs.declared.calls.Call.{Call}
 use Rattle.board.specs.declared.calls.Call.TheVariants.{Deadline, Skip, Source, ControllerRead}
 use Rattle.board.specs.declared.calls.Call.TheVariants.{ControllerWrite, Output}
-use Rattle.board.specs.declared.calls.EmptyAnswer.{EmptyAnswer}
 use Rattle.board.specs.Loops.{fold_from}
 use Rattle.board.specs.Channels.{advanced_all}
 use Rattle.board.specs.Fields.{fresh_board_at, fresh_board, with_controller}
@@ -105,7 +104,7 @@ fresh-sound = good-sound (fresh_good fresh_rate refl)
 pub made_sound : (rate : ℕ) → sound (fresh_of rate).board ≡ true
 unfolding fresh_of
 made_sound rate =
-    choose (λ (a : EmptyAnswer). sound a.board ≡ true) (sound_rate rate) (λ e. good-sound (fresh_good rate e))
+    choose (λ (a : DirectAnswer). sound a.board ≡ true) (sound_rate rate) (λ e. good-sound (fresh_good rate e))
     (λ _. fresh-sound)
 
 -- ---- each call

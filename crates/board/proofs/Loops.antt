@@ -1,11 +1,11 @@
 -- Laws of the two kinds of a loop over a list: one that changes each element or gives something for it, from the first
 -- on, and one that joins what the elements give, from the last back. Assumes nothing.
-use Prim.Native.Nat.{ℕ, zero, suc, ◌+◌, ◌-◌, ◌≤◌, ◌<◌}
+use Prim.Native.Nat.{ℕ, zero, suc, ◌+◌, ◌≤◌, ◌<◌}
 use mathlib.Core.Path.{◌≡◌, refl, sym, ap, ◌∙◌}
 use mathlib.Core.Bool.{Bool, true, ◌&&◌}
 use mathlib.Core.List.{List, [], ◌∷◌}
 use native.Mathlib.Nat.{zero-add, add-zero, suc-add, add-suc}
-use native.Mathlib.Numerals.{add-one, sub-one}
+use native.Mathlib.Numerals.{add-one}
 use native.Mathlib.Omega.{arith}
 use lib.ListN.{length, get_or, drop, set, drop_of_length-le}
 use lib.Seq.{drop-cons}
@@ -15,18 +15,30 @@ use Rattle.board.specs.Loops.{All, map_from, fold_from}
 -- ---- joining
 
 module _ {A B : Type 0} (f : ℕ → A → B) (g : B → B → B) (z : B) where
-  -- nothing is left past the end
-  pub fold-starts : (xs : List A) (n k : ℕ) → length xs ≡ n → z ≡ fold_from f g z k (drop n xs)
+  -- the element i and those behind it
+  pub fold-next : (xs : List A) (d : A) (i : ℕ) → i < length xs →
+      fold_from f g z i (drop i xs) ≡ g (f i (get_or xs i d)) (fold_from f g z (i + 1) (drop (i + 1) xs))
   unfolding fold_from
-  fold-starts xs n k e = rw (drop_of_length-le xs {i = n} (omega arith))
+  fold-next xs d i h = rw (add-one, drop-cons xs i d h)
 
-  -- one turn: v is what the element before i gives, and a what is joined of those from i on
-  pub fold-goes : (xs : List A) (d : A) (i : ℕ) (v a : B) → 0 < i → i ≤ length xs → v
-      ≡ f (i - 1) (get_or xs (i - 1) d) →
-      a ≡ fold_from f g z i (drop i xs) → g v a ≡ fold_from f g z (i - 1) (drop (i - 1) xs)
+  -- nothing is left behind the last
+  pub fold-past : (xs : List A) (i : ℕ) → length xs ≤ i → fold_from f g z i (drop i xs) ≡ z
   unfolding fold_from
-  fold-goes xs d zero v a p l e h = absurd (omega arith)
-  fold-goes xs d (suc i) v a p l e h = rw (sub-one, drop-cons xs i d l, ← h) (ap (λ (w : B). g w a) (rw sub-one at e))
+  fold-past xs i h = rw (drop_of_length-le xs {i = i} h)
+
+  -- what a loop that joins from the first on keeps: a is what is joined of the elements below i, and with what is
+  -- joined of those behind it is what is joined of all
+  abbrev pub Joined : List A → ℕ → B → Type 0
+  Joined xs i a = g a (fold_from f g z i (drop i xs)) ≡ fold_from f g z 0 xs
+
+  -- one turn: v is what the element i gives
+  pub fold-goes : ((a b c : B) → g (g a b) c ≡ g a (g b c)) → (xs : List A) (d : A) (i : ℕ) (a v : B) → i < length xs →
+      v ≡ f i (get_or xs i d) → Joined xs i a → Joined xs (i + 1) (g a v)
+  fold-goes joins xs d i a v h e t = rw e (joins a (f i (get_or xs i d)) _ ∙ rw (fold-next xs d i h) at t)
+
+  pub fold-ends : ((a : B) → g a z ≡ a) → (xs : List A) (i : ℕ) (a : B) → length xs ≤ i → Joined xs i a →
+      a ≡ fold_from f g z 0 xs
+  fold-ends alone xs i a h t = sym (alone a) ∙ rw (fold-past xs i h) at t
 
 -- ---- changing each
 

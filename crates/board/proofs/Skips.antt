@@ -12,12 +12,11 @@ use Rattle.wide.proofs.Choices.{either}
 use Rattle.wide.proofs.Forms.{flag_back}
 use Rattle.board.specs.declared.Board.{Board}
 use Rattle.board.specs.declared.calls.Call.TheVariants.{Skip}
-use Rattle.board.specs.declared.calls.SkipAnswer.{SkipAnswer}
 use Rattle.board.specs.Board.{BoardFits, line, exact_deadline}
 use Rattle.board.specs.Calls.{
+  DirectAnswer,
   refusal_of,
   answer_of,
-  skip_answer,
   advanced_board,
   moved_board,
   moved_by,
@@ -51,11 +50,11 @@ skip_none b (inl high) = rw high
 skip_none b (inr e) = either (line b) (λ h. rw h) (λ l. rw (l, e))
 
 -- what is promised, by the answer
-pub skip_reaches : (b : Board) → BoardFits b → (r : SkipAnswer) → r ≡ skip_answer (answer_of Skip b) →
+pub skip_reaches : (b : Board) → BoardFits b → (r : DirectAnswer) → r ≡ answer_of Skip b →
     SkipPromise b r
 skip_reaches b f r e z =
     let n : refusal_of b (skip_refusal b) ≡ 0 =
-    sym (answered-refusal Skip b) ∙ ap (λ (a : SkipAnswer). a.refusal) (sym e) ∙ z in
+    sym (answered-refusal Skip b) ∙ ap (λ (a : DirectAnswer). a.refusal) (sym e) ∙ z in
     let a = answer-accepted Skip b n in
     let s = accepted_sound b (skip_refusal b) n in
     record {

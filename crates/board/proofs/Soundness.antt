@@ -12,8 +12,8 @@ use Rattle.clock.specs.Clock.{rate_of}
 use Rattle.clock.specs.Sound.{ClockFits, sound_rate, sound_clock}
 use Rattle.clock.proofs.Soundness.{GoodClock, clock-good}
 use Rattle.controller.proofs.Laws.{level_set, steady}
-use Rattle.board.specs.declared.Latch.{Latch}
-use Rattle.board.specs.declared.Latch.TheVariants.{Empty, Held}
+use Rattle.board.specs.Fields.{Latch}
+use Rattle.std.specs.Prelude.{None, Some}
 use Rattle.board.specs.declared.CountLatch.{CountLatch}
 use Rattle.board.specs.declared.Latches.{Latches}
 use Rattle.board.specs.declared.Board.{Board}
@@ -24,8 +24,8 @@ use Rattle.board.specs.Board.{sound_latch, sound_latches, sound_parts, sound_lev
 -- ---- latches: an empty one has no value but 0
 
 latch_sound : (l : Latch) → sound_latch l ≡ true
-latch_sound Empty = refl
-latch_sound (Held v) = refl
+latch_sound None = refl
+latch_sound (Some v) = refl
 
 counts_sound : (k : ℕ) (ls : List CountLatch) → fold_from (λ _ l. sound_latch l.high) ◌&&◌ true k ls ≡ true
 unfolding fold_from

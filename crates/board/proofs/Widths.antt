@@ -7,20 +7,21 @@ use mathlib.Core.List.{List, [], ◌∷◌}
 use lib.ListN.{length}
 use mir.Val.{Val}
 use denote.Shadow.{shadow}
+use denote.Builtin.{u32}
 use denote.Laws.{Is}
 use denote.Array.{each, Array}
 use denote.RattleType.{RattleType}
 use Rattle.channel.specs.contracts.HardwareTimer.{the_row as timer-row}
 use Rattle.channel.specs.declared.HardwareTimer.{HardwareTimer}
 use Rattle.channel.specs.Channel.{TimerFits}
-use Rattle.board.specs.declared.Latch.{Latch}
-use Rattle.board.specs.declared.Latch.TheVariants.{Empty, Held}
+use Rattle.board.specs.Fields.{Latch}
+use Rattle.std.specs.Prelude.{None, Some}
 use Rattle.board.specs.declared.CountLatch.{CountLatch}
 use Rattle.board.specs.declared.Latches.{Latches}
 use Rattle.board.specs.declared.Board.{Board}
 use Rattle.board.specs.Loops.{All}
 use Rattle.board.specs.Board.{LatchFits, CountFits, LatchesFit, BoardFits}
-use Rattle.board.specs.contracts.Latch.{the_row as latch-row}
+use Rattle.std.specs.contracts.option.Option.{the_row as option-row}
 use Rattle.board.specs.contracts.CountLatch.{the_row as count-row}
 use Rattle.board.specs.contracts.Latches.{the_row as latches-row}
 use Rattle.board.specs.contracts.Board.{the_row as board-row}
@@ -39,9 +40,9 @@ timer_fits : (t : HardwareTimer) (vs : List Val) → Is timer-row t vs → Timer
 timer_fits t vs h =
     record { counter = omega arith; compare = omega arith; reload = omega arith; prescaler = omega arith }
 
-latch_fits : (l : Latch) (vs : List Val) → Is latch-row l vs → LatchFits l
-latch_fits Empty vs h = omega arith
-latch_fits (Held v) vs h = omega arith
+latch_fits : (l : Latch) (vs : List Val) → Is (option-row u32) l vs → LatchFits l
+latch_fits None vs h = omega arith
+latch_fits (Some v) vs h = omega arith
 
 count_fits : (c : CountLatch) (vs : List Val) → Is count-row c vs → CountFits c
 count_fits c vs h = latch_fits c.high h.0.0 h.1.1.0

@@ -11,8 +11,8 @@ use Rattle.clock.specs.Clock.{rate_of}
 use Rattle.clock.specs.Sound.{ClockFits, sound_rate, sound_clock}
 use Rattle.clock.specs.Deadline.{clock_line, clock_deadline}
 use Rattle.controller.specs.Controller.{ControllerFits, source_set}
-use Rattle.board.specs.declared.Latch.{Latch}
-use Rattle.board.specs.declared.Latch.TheVariants.{Empty, Held}
+use Rattle.board.specs.Fields.{Latch}
+use Rattle.std.specs.Prelude.{None, Some}
 use Rattle.board.specs.declared.CountLatch.{CountLatch}
 use Rattle.board.specs.declared.Latches.{Latches}
 use Rattle.board.specs.declared.Board.{Board}
@@ -22,12 +22,12 @@ use Rattle.board.specs.Fields.{with_controller}
 
 -- a latch as document 01's 'held flag, value'
 abbrev pub held_of : Latch → Bool
-held_of Empty = false
-held_of (Held v) = true
+held_of None = false
+held_of (Some v) = true
 
 abbrev pub held_value : Latch → ℕ
-held_value Empty = 0
-held_value (Held v) = v
+held_value None = 0
+held_value (Some v) = v
 
 -- ---- the widths of the fields, as the code's types have them
 

@@ -4,7 +4,7 @@
 use Rattle.std.specs.Prelude.{ℕ, ◌+◌, ◌^◌, ◌<◌, Bool, true, false, cond, List, [], ◌∷◌, get_or, leb, ltb, eqb}
 use Rattle.std.proofs.Math.Option.{Option, none, some}
 use Rattle.wide.specs.Bits.{flag_of}
-use Rattle.wide.specs.Number.{wide_of, largest}
+use Rattle.wide.specs.Number.{largest}
 use Rattle.clock.specs.declared.HostTime.{HostTime as HostTimeOf}
 use Rattle.clock.specs.Clock.{rate_of, nanos_per_second, advance_clock}
 use Rattle.clock.specs.Sound.{sound_rate}
@@ -24,12 +24,6 @@ use Rattle.board.specs.declared.calls.Call.TheVariants.{
   ControllerWrite,
   Output,
 }
-use Rattle.board.specs.declared.calls.EmptyAnswer.{EmptyAnswer}
-use Rattle.board.specs.declared.calls.AdvanceAnswer.{AdvanceAnswer}
-use Rattle.board.specs.declared.calls.DeadlineAnswer.{DeadlineAnswer}
-use Rattle.board.specs.declared.calls.SkipAnswer.{SkipAnswer}
-use Rattle.board.specs.declared.calls.ByteAnswer.{ByteAnswer}
-use Rattle.board.specs.declared.calls.OutputAnswer.{OutputAnswer}
 use Rattle.board.specs.Channels.{advanced_all, matches_all}
 use Rattle.board.specs.Fields.{fresh_board_at, fresh_board, with_timers, with_clock, with_controller}
 use Rattle.board.specs.Board.{line, exact_deadline, word_deadline, wired, sound}
@@ -241,53 +235,13 @@ answer_of call b =
     (record { board = board_after call b; refusal = 0; members = (effect_of call b).members })
     (record { board = b; refusal = refusal_of b (effect_of call b).refusal; members = [] })
 
--- ---- an answer as the struct that a direct call gives
+-- ---- a member of an answer, by its place, 0 where it is missing
 
 abbrev pub member_at : ℕ → DirectAnswer → ℕ
 member_at k a = get_or a.members k 0
 
 abbrev pub flag_at : ℕ → DirectAnswer → Bool
 flag_at k a = eqb (member_at k a) 1
-
--- '→ none'
-abbrev pub empty_answer : DirectAnswer → EmptyAnswer
-empty_answer a = record { board = a.board; refusal = a.refusal }
-
--- '→ 1'
-abbrev pub byte_answer : DirectAnswer → ByteAnswer
-byte_answer a = record { board = a.board; refusal = a.refusal; byte = member_at 0 a }
-
--- '→ line 1', and by S-4 'four 16-byte counts, channel 0 first'
-abbrev pub advance_answer : DirectAnswer → AdvanceAnswer
-advance_answer a =
-    record {
-      board = a.board;
-      refusal = a.refusal;
-      line = flag_at 0 a;
-      matches =
-          wide_of (member_at 1 a) ∷ wide_of (member_at 2 a) ∷ wide_of (member_at 3 a) ∷ wide_of (member_at 4 a) ∷ [];
-    }
-
--- '→ present 1, D 16, 64-bit deadline 8'
-abbrev pub deadline_answer : DirectAnswer → DeadlineAnswer
-deadline_answer a =
-    record {
-      board = a.board;
-      refusal = a.refusal;
-      present = flag_at 0 a;
-      exact = wide_of (member_at 1 a);
-      word = record { 0 = member_at 2 a };
-    }
-
--- '→ passed 8, line 1'
-abbrev pub skip_answer : DirectAnswer → SkipAnswer
-skip_answer a =
-    record { board = a.board; refusal = a.refusal; passed = record { 0 = member_at 0 a }; line = flag_at 1 a }
-
--- '→ valid, number'
-abbrev pub output_answer : DirectAnswer → OutputAnswer
-output_answer a =
-    record { board = a.board; refusal = a.refusal; valid = flag_at 0 a; number = record { 0 = member_at 1 a } }
 
 -- ---- a board is made
 
@@ -297,7 +251,7 @@ another_rate = 15
 
 -- S-7: 'A fresh board takes its rate, one of these or 48,000,000, and the board carries it. .. 15, another rate, before
 -- all else when a board is made (a fresh board is handed back)'
-unfoldable pub fresh_of : ℕ → EmptyAnswer
+unfoldable pub fresh_of : ℕ → DirectAnswer
 fresh_of rate =
-    cond (sound_rate rate) (record { board = fresh_board_at rate; refusal = 0 })
-    (record { board = fresh_board; refusal = another_rate })
+    cond (sound_rate rate) (record { board = fresh_board_at rate; refusal = 0; members = [] })
+    (record { board = fresh_board; refusal = another_rate; members = [] })

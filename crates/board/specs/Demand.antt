@@ -7,7 +7,6 @@ use Rattle.wide.specs.Bits.{bit}
 use Rattle.wide.specs.Number.{largest}
 use Rattle.clock.specs.Clock.{from_host}
 use Rattle.board.specs.declared.Board.{Board}
-use Rattle.board.specs.declared.calls.SkipAnswer.{SkipAnswer}
 use Rattle.board.specs.Board.{line, exact_deadline, sound}
 use Rattle.board.specs.declared.calls.Call.{Call}
 use Rattle.board.specs.declared.calls.Call.TheVariants.{
@@ -23,7 +22,7 @@ use Rattle.board.specs.declared.calls.Call.TheVariants.{
   Output,
 }
 use Rattle.board.specs.Loops.{All}
-use Rattle.board.specs.Calls.{answer_of}
+use Rattle.board.specs.Calls.{DirectAnswer, answer_of, member_at, flag_at}
 
 -- a call of the promise's lists: an advance, or a host-time call
 abbrev pub PassesTime : Call → Type 0
@@ -100,15 +99,17 @@ Promise b present d word =
 
 -- ---- skip
 
--- what an accepted skip does, whatever the clock runs from: b is the board before it, r the answer
-pub record Skipped (b : Board) (r : SkipAnswer) : Type 0 where
+-- what an accepted skip does, whatever the clock runs from: b is the board before it, r the answer, whose members are
+-- 'passed 8, line 1'
+pub record Skipped (b : Board) (r : DirectAnswer) : Type 0 where
   -- S-2: 'every accepted skip with a D ends with the line high'
-  pub reaches : (d : ℕ) → exact_deadline b ≡ some d → (r.line ≡ true) × (line r.board ≡ true)
+  pub reaches : (d : ℕ) → exact_deadline b ≡ some d → (flag_at 1 r ≡ true) × (line r.board ≡ true)
   -- and where the line was low it passes D
-  pub passes : (d : ℕ) → exact_deadline b ≡ some d → line b ≡ false → r.passed.0 ≡ d
+  pub passes : (d : ℕ) → exact_deadline b ≡ some d → line b ≡ false → member_at 0 r ≡ d
   -- 'with the line high or no D, it makes no advance, changes nothing and passes 0'
-  pub stays : (line b ≡ true) ⊎ (exact_deadline b ≡ none) → (r.passed.0 ≡ 0) × (r.board ≡ b) × (r.line ≡ line b)
+  pub stays : (line b ≡ true) ⊎ (exact_deadline b ≡ none) →
+      (member_at 0 r ≡ 0) × (r.board ≡ b) × (flag_at 1 r ≡ line b)
 
 -- the promise of a skip
-abbrev pub SkipPromise : Board → SkipAnswer → Type 0
+abbrev pub SkipPromise : Board → DirectAnswer → Type 0
 SkipPromise b r = r.refusal ≡ 0 → Skipped b r

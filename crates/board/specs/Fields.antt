@@ -1,16 +1,19 @@
 -- Document 01, 'An advance arrives at the board': the fresh board, and a board with one of its fields changed. Every
 -- rule that changes a board does so by these.
-use Rattle.std.specs.Prelude.{ℕ, List, [], ◌∷◌, get_or, set}
+use Rattle.std.specs.Prelude.{ℕ, Option, List, [], ◌∷◌, get_or, set}
 use Rattle.channel.specs.declared.HardwareTimer.{HardwareTimer}
 use Rattle.channel.specs.Channel.{fresh_timer}
 use Rattle.clock.specs.declared.Clock.{Clock}
 use Rattle.clock.specs.Fields.{fresh_rate, fresh_clock_at}
 use Rattle.controller.specs.declared.IrqController.{IrqController}
 use Rattle.controller.specs.Controller.{fresh}
-use Rattle.board.specs.declared.Latch.{Latch}
-use Rattle.board.specs.declared.Latch.TheVariants.{Empty}
+use Rattle.std.specs.Prelude.{None}
 use Rattle.board.specs.declared.Latches.{Latches}
 use Rattle.board.specs.declared.Board.{Board}
+
+-- a latch, as the code has it: the word that it holds, or none
+abbrev pub Latch : Type 0
+Latch = Option ℕ
 
 abbrev four : {A : Type 0} → A → List A
 four a = a ∷ a ∷ a ∷ a ∷ []
@@ -23,7 +26,7 @@ fresh_board_at rate =
       timers = four fresh_timer;
       timer_enable = 0;
       clock = fresh_clock_at rate;
-      latches = record { counts = four (record { high = Empty }); low = Empty; high = Empty };
+      latches = record { counts = four (record { high = None }); low = None; high = None };
       controller = fresh;
     }
 
@@ -93,7 +96,7 @@ with_channel n h b = with_timers (set b.timers n h) b
 
 -- the latch of channel n's count
 abbrev pub count_latch : ℕ → Board → Latch
-count_latch n b = (get_or b.latches.counts n (record { high = Empty })).high
+count_latch n b = (get_or b.latches.counts n (record { high = None })).high
 
 abbrev pub with_count_latch : ℕ → Latch → Board → Board
 with_count_latch n l b =

@@ -3,8 +3,8 @@ use Rattle.std.specs.Prelude.{ℕ, cond, eqb}
 use Rattle.wide.specs.Words.{low_word, high_word}
 use Rattle.channel.specs.Registers.{count_low_at, count_high_at}
 use Rattle.clock.specs.Clock.{rate_of, time_seconds, check_alarm}
-use Rattle.board.specs.declared.Latch.{Latch}
-use Rattle.board.specs.declared.Latch.TheVariants.{Empty, Held}
+use Rattle.board.specs.Fields.{Latch}
+use Rattle.std.specs.Prelude.{None, Some}
 use Rattle.board.specs.declared.Board.{Board}
 use Rattle.board.specs.Fields.{with_clock, channel_at, count_latch, with_count_latch, with_clock_latches}
 use Rattle.board.specs.Board.{held_of, held_value}
@@ -41,13 +41,13 @@ read_live offset b = read_byte offset (live_word offset (checked b)) (checked b)
 
 -- 'freed after byte 3'
 abbrev pub freed : ℕ → Latch → Latch
-freed offset l = cond (eqb (byte_of offset) 3) Empty l
+freed offset l = cond (eqb (byte_of offset) 3) None l
 
 -- ---- a count
 
 -- the board with the channel's high count word latched
 abbrev pub count_held : ℕ → Board → Board
-count_held n b = with_count_latch n (Held (high_word (channel_at n b).counter)) b
+count_held n b = with_count_latch n (Some (high_word (channel_at n b).counter)) b
 
 -- 'freed after byte 3 of the high word. .. Where a latch is empty the live register is read instead.'
 unfoldable pub read_count_high : ℕ → Board → Read
@@ -70,8 +70,8 @@ read_channel offset b =
 unfoldable pub seconds_latched : ℕ → Board → Board
 seconds_latched offset b =
     cond (eqb offset seconds_low_at)
-    (with_clock_latches (Held (low_word (time_seconds (rate_of b.clock) b.clock)))
-    (Held (high_word (time_seconds (rate_of b.clock) b.clock))) b)
+    (with_clock_latches (Some (low_word (time_seconds (rate_of b.clock) b.clock)))
+    (Some (high_word (time_seconds (rate_of b.clock) b.clock))) b)
     b
 
 -- 'each freed after its own byte 3'

@@ -6,18 +6,15 @@ ghost use Rattle.board.specs.CodeCalls.{matches_given};
 
 use crate::Board;
 use channel::{ChannelNumber, Cycles, HardwareTimer};
-use wide::deadline::Deadline;
+use wide::deadline::sooner;
 use wide::number::Wide;
 
 pub fn all_sound(timers: [HardwareTimer; 4]) -> bool
     ensures { result ≡ all_sound timers }
 {
     let mut all = true;
-    let mut i = Board::CHANNELS;
-    while 0 < i {
-        i -= 1;
-        let t = timers[i];
-        all = wide::flags::both(t.sound(), all);
+    for t in &timers {
+        all &= t.sound();
     }
     all
 }
@@ -26,26 +23,20 @@ pub fn any_asserted(timers: [HardwareTimer; 4]) -> bool
     ensures { result ≡ any_line timers }
 {
     let mut any = false;
-    let mut i = Board::CHANNELS;
-    while 0 < i {
-        i -= 1;
-        let t = timers[i];
-        any = wide::flags::either(t.asserted(), any);
+    for t in &timers {
+        any |= t.asserted();
     }
     any
 }
 
-pub fn soonest(timers: [HardwareTimer; 4], timer_enable: u8) -> Deadline
+pub fn soonest(timers: [HardwareTimer; 4], timer_enable: u8) -> Option<Wide>
     requires { all_sound timers ≡ true }
     ensures { number_of result ≡ soonest_of timer_enable timers }
 {
-    let mut soonest = Deadline::Never;
-    let mut i = Board::CHANNELS;
-    while 0 < i {
-        i -= 1;
-        let t = timers[i];
+    let mut soonest = None;
+    for (i, t) in timers.iter().enumerate() {
         let selected = ChannelNumber(i as u8).selected(timer_enable);
-        soonest = t.cycles_until_match(selected).sooner(soonest);
+        soonest = sooner(soonest, t.cycles_until_match(selected));
     }
     soonest
 }
@@ -63,18 +54,12 @@ pub fn advance_all(timers: [HardwareTimer; 4], timer_enable: u8, cycles: Cycles)
         × (result.matches ≡ matches_given timer_enable cycles.0 timers) }
 {
     let mut out = timers;
-    let none = Wide::from_word(0);
-    let mut matches = [none; 4];
-    let mut i = 0;
-    while i < Board::CHANNELS {
-        let t = out[i];
+    let mut matches = [Wide::from(0); 4];
+    for i in 0..Board::CHANNELS {
         let selected = ChannelNumber(i as u8).selected(timer_enable);
-        let after = t.advance_cycles(selected, cycles);
-        let timer = after.timer;
-        out[i] = timer;
-        let met = after.matches;
-        matches[i] = met;
-        i += 1;
+        let after = out[i].advance_cycles(selected, cycles);
+        out[i] = after.timer;
+        matches[i] = after.matches;
     }
     AdvancedChannels {
         timers: out,

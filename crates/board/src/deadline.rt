@@ -5,16 +5,17 @@ ghost use Rattle.board.specs.Board.{sound, exact_deadline};
 
 use crate::Board;
 use crate::channels::soonest;
-use wide::deadline::Deadline;
+use wide::deadline::sooner;
+use wide::number::Wide;
 
 impl Board {
-    pub fn exact_deadline(self) -> Deadline
+    pub fn exact_deadline(self) -> Option<Wide>
         requires { sound self ≡ true }
         ensures { number_of result ≡ exact_deadline self }
     {
         let timers = self.timers;
         let timer_enable = self.timer_enable;
         let clock = self.clock;
-        soonest(timers, timer_enable).sooner(clock.deadline())
+        sooner(soonest(timers, timer_enable), clock.deadline())
     }
 }

@@ -4,8 +4,10 @@
 ghost use Rattle.std.specs.Prelude.{◌≡◌};
 ghost use Rattle.board.specs.Fields.{fresh_board_at, fresh_board};
 ghost use Rattle.board.specs.Calls.{fresh_of};
+ghost use Rattle.board.specs.CodeCalls.{answered, no_members};
 
-use crate::calls::EmptyAnswer;
+use crate::calls::Answered;
+use crate::refusal::Refusal;
 use channel::HardwareTimer;
 use clock::Clock;
 use clock::rates::sound_rate;
@@ -19,25 +21,19 @@ mod line;
 pub mod refusal;
 mod sound;
 
-// A word of a register pair that is held for the next reads.
-#[derive(Clone, Copy)]
-pub enum Latch {
-    Empty,
-    Held(u32),
-}
-
-// The latch of a channel's high count word.
+// The latch of a channel's high count word. A latch is a word of a register pair that is held for the next reads, or
+// none.
 #[derive(Clone, Copy)]
 pub struct CountLatch {
-    pub high: Latch,
+    pub high: Option<u32>,
 }
 
 #[derive(Clone, Copy)]
 pub struct Latches {
     pub counts: [CountLatch; 4],
     // The clock's seconds.
-    pub low: Latch,
-    pub high: Latch,
+    pub low: Option<u32>,
+    pub high: Option<u32>,
 }
 
 #[derive(Clone, Copy)]
@@ -62,9 +58,6 @@ impl Board {
     // The controller's source that is set to the line.
     pub const LINE_SOURCE: SourceNumber = SourceNumber(3);
 
-    // The refusal of a rate that no sound board has, by the number of S-7.
-    pub const ANOTHER_RATE: u8 = 15;
-
     // The fresh board without a given rate: everything zero except clock control 1 and the rate.
     pub fn fresh() -> Self
         ensures { result ≡ fresh_board }
@@ -73,18 +66,18 @@ impl Board {
     }
 
     // A fresh board at a rate. A rate that no sound board has is refused, and the board is then that of `fresh`.
-    pub fn fresh_at(rate: u32) -> EmptyAnswer
-        ensures { result ≡ fresh_of rate }
+    pub fn fresh_at(rate: u32) -> Answered<()>
+        ensures { answered no_members result ≡ fresh_of rate }
     {
         if sound_rate(rate) {
-            return EmptyAnswer {
+            return Answered {
                 board: Self::fresh_with(rate),
-                refusal: 0,
+                answer: Ok(()),
             };
         }
-        EmptyAnswer {
+        Answered {
             board: Self::fresh(),
-            refusal: Self::ANOTHER_RATE,
+            answer: Err(Refusal::AnotherRate),
         }
     }
 
@@ -94,12 +87,12 @@ impl Board {
     {
         let t = HardwareTimer::fresh();
         let timers = [t; 4];
-        let l = CountLatch { high: Latch::Empty };
+        let l = CountLatch { high: None };
         let counts = [l; 4];
         let latches = Latches {
             counts,
-            low: Latch::Empty,
-            high: Latch::Empty,
+            low: None,
+            high: None,
         };
         let clock = Clock::fresh_at(rate);
         let controller = IrqController::new();

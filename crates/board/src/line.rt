@@ -6,16 +6,16 @@ ghost use Rattle.board.specs.Board.{line, wired};
 use crate::Board;
 use crate::channels::any_asserted;
 use controller::IrqController;
-use wide::flags::either;
 
 impl Board {
     // Whether the line is high.
+    #[tactic(auto, unfolding(crate::specs::Board::line))]
     pub fn line(self) -> bool
         ensures { result ≡ line self }
     {
         let timers = self.timers;
         let clock = self.clock;
-        either(any_asserted(timers), clock.line())
+        any_asserted(timers) | clock.line()
     }
 
     // The controller with source 3 set to `line`.
@@ -27,6 +27,7 @@ impl Board {
     }
 
     // The end of an accepted call: source 3 is set to the line.
+    #[tactic(auto, unfolding(crate::specs::Board::wired))]
     pub fn wired(self) -> Self
         ensures { result ≡ wired self }
     {

@@ -5,7 +5,6 @@ ghost use Rattle.board.specs.Board.{BoardFits, sound_parts, sound};
 use crate::Board;
 use crate::channels::all_sound;
 use clock::rates::sound_rate;
-use wide::flags::{both, same};
 
 impl Board {
     fn sound_parts(self) -> bool
@@ -14,13 +13,10 @@ impl Board {
         let timers = self.timers;
         let timer_enable = self.timer_enable;
         let clock = self.clock;
-        both(
-            all_sound(timers),
-            both(
-                timer_enable < Self::TIMER_ENABLE_VALUES,
-                both(sound_rate(clock.rate), clock.sound()),
-            ),
-        )
+        all_sound(timers)
+            & (timer_enable < Self::TIMER_ENABLE_VALUES)
+            & sound_rate(clock.rate)
+            & clock.sound()
     }
 
     // Whether the board is sound. The contract also says that every field is within its width, which the promise of the
@@ -30,6 +26,6 @@ impl Board {
     {
         let controller = self.controller;
         let level = controller::level_of(controller, Self::LINE_SOURCE);
-        both(self.sound_parts(), same(level, self.line()))
+        self.sound_parts() & (level == self.line())
     }
 }

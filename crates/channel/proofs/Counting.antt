@@ -47,39 +47,39 @@ module _ (mode : ℕ) (rule : HardwareTimer → HardwareTimer) (h : HardwareTime
 
 module _ (t : ℕ) (h : HardwareTimer) where
   -- mode 0: at compare or past it, reached, and not reached
-  pub one-shot-past : h.compare ≤ h.counter → matches_in 0 (one_shot t) h ≡ 1
+  pub one_shot_past : h.compare ≤ h.counter → matches_in 0 (one_shot t) h ≡ 1
   unfolding points_met one_shot
-  one-shot-past l = met_by 0 (one_shot t) h (rw (le-leb h.compare h.counter l))
+  one_shot_past l = met_by 0 (one_shot t) h (rw (le-leb h.compare h.counter l))
 
   module _ (ahead : h.counter < h.compare) where
-    pub one-shot-reached : h.compare - h.counter ≤ t → matches_in 0 (one_shot t) h ≡ 1
+    pub one_shot_reached : h.compare - h.counter ≤ t → matches_in 0 (one_shot t) h ≡ 1
     unfolding points_met one_shot
-    one-shot-reached l =
+    one_shot_reached l =
         met_by 0 (one_shot t) h (rw (lt-leb h.compare h.counter ahead, le-leb (h.compare - h.counter) t l))
 
-    pub one-shot-ahead : t < h.compare - h.counter → matches_in 0 (one_shot t) h ≡ 0
+    pub one_shot_ahead : t < h.compare - h.counter → matches_in 0 (one_shot t) h ≡ 0
     unfolding one_shot
-    one-shot-ahead l =
+    one_shot_ahead l =
         unmet-by 0 (one_shot t) h (rw (lt-leb h.compare h.counter ahead, lt-leb (h.compare - h.counter) t l))
 
   -- mode 1
-  pub periodic-matches : matches_in 1 (periodic t) h
+  pub periodic_matches : matches_in 1 (periodic t) h
       ≡ matches_in 1 matched (with_counter (min (h.counter + t) largest) h)
   unfolding matches_in periodic points_met
-  periodic-matches = refl
+  periodic_matches = refl
 
   -- mode 2
   abbrev reached : Bool
   reached = h.armed && leb (distance h.counter h.compare) t
 
-  pub free-met : reached ≡ true → matches_in 2 (free_running t) h ≡ 1
+  pub free_met : reached ≡ true → matches_in 2 (free_running t) h ≡ 1
   unfolding points_met free_running
-  free-met e =
+  free_met e =
       met_by 2 (free_running t) h (ap (λ (v : Bool). (cond v (with_flags true false h) (clear h)).pending) e)
 
-  pub free-unmet : reached ≡ false → matches_in 2 (free_running t) h ≡ 0
+  pub free_unmet : reached ≡ false → matches_in 2 (free_running t) h ≡ 0
   unfolding free_running
-  free-unmet e =
+  free_unmet e =
       unmet-by 2 (free_running t) h (ap (λ (v : Bool). (cond v (with_flags true false h) (clear h)).pending) e)
 
 -- a periodic channel that is at its compare point or past it sets pending, and leaves its counter
@@ -94,16 +94,16 @@ module _ (h : HardwareTimer) where
       P r = (r.pending ≡ true) × (r.counter ≡ h.counter)
 
 module _ (h : HardwareTimer) where
-  pub matched-past : h.compare ≤ h.counter → matches_in 1 matched h ≡ points_met 1 h.counter h
+  pub matched_past : h.compare ≤ h.counter → matches_in 1 matched h ≡ points_met 1 h.counter h
   unfolding matched
-  matched-past l =
+  matched_past l =
       let e = le-leb h.compare h.counter l in
       met_by 1 matched h (rw e (reloaded-keeps (clear h)).0)
       ∙ ap (λ (n : ℕ). points_met 1 n h) (rw e (reloaded-keeps h).1)
 
-  pub matched-ahead : h.counter < h.compare → matches_in 1 matched h ≡ 0
+  pub matched_ahead : h.counter < h.compare → matches_in 1 matched h ≡ 0
   unfolding matched
-  matched-ahead l = unmet-by 1 matched h (rw (lt-leb h.compare h.counter l))
+  matched_ahead l = unmet-by 1 matched h (rw (lt-leb h.compare h.counter l))
 
 -- ---- ticks and cycles
 
@@ -140,13 +140,16 @@ module _ (t : ℕ) (h : HardwareTimer) where
   idle-mode n e = by_mode 3 n e (λ x. x) (λ x. refl) ∙ unmet-by 3 (λ x. x) h refl
 
 module _ (selected : Bool) (c : ℕ) (h : HardwareTimer) where
-  pub ran-matches : runs selected h ≡ true →
+  pub ran_matches : runs selected h ≡ true →
       matches_of selected c h ≡ matches_in (mode_of h.control) (ticked (ticks_of c h)) (with_phase (phase_after c h) h)
   unfolding matches_in points_met advanced
-  ran-matches r =
+  ran_matches r =
       matches-same (mode_of h.control) (advanced selected c) h
       (λ (x : HardwareTimer). ticked (ticks_of c h) (with_phase (phase_after c h) x)) (rw r) (rw r)
 
   pub still-matches : runs selected h ≡ false → matches_of selected c h ≡ 0
   unfolding advanced
   still-matches r = unmet-by (mode_of h.control) (advanced selected c) h (rw r)
+
+-- the two cases of a channel that may run
+pub ruleset run_matches = (ran_matches, still-matches)

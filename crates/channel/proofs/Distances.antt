@@ -1,5 +1,5 @@
 -- Laws of the distance of a free-running channel: its value, and the code's wrapped difference. Assumes nothing.
-use Rattle.std.proofs.Common.{◌≡◌, ℕ, ◌+◌, ◌-◌, ◌%◌, ◌^◌, ◌<◌, ◌≤◌, false, eqb, ltb, leb, ◌≢◌, sym, ap, arith}
+use Rattle.std.proofs.Common.{◌≡◌, ℕ, ◌+◌, ◌-◌, ◌%◌, ◌^◌, ◌<◌, ◌≤◌, eqb, ltb, leb, not, ◌&&◌, ◌≢◌, sym, ap, arith}
 use Rattle.std.proofs.Common.{ltb-false, ltb-true, eqb-true}
 use borrow.Author.Tests.{eqb-false, lt-leb}
 use Rattle.wide.proofs.Choices.{choose, either}
@@ -40,15 +40,16 @@ module _ (n e : ℕ) (fn : n < 2 ^ 64) (fe : e < 2 ^ 64) where
       (λ q. let a = ltb-false n e q in let d = distance-below a in
       distance_is ((n + k) % 2 ^ 64) e (distance n e - k) (omega arith))
 
-  -- a wrapped difference of 0 is a distance of 2^64, and no word reaches it
-  pub far-is : (t d : ℕ) → d ≡ 0 → (d + n) % 2 ^ 64 ≡ e → t < 2 ^ 64 → false ≡ leb (distance n e) t
-  far-is t d z w f = sym (lt-leb (distance n e) t (omega (arith, distance-below (omega arith))))
+  -- the code's test: a wrapped difference of 0 is a distance of 2^64, which no word reaches; any other is the distance
+  pub reaches_is : (d t : ℕ) → d ≡ (e + (2 ^ 64 - n)) % 2 ^ 64 → t < 2 ^ 64 →
+      not (eqb d 0) && leb d t ≡ leb (distance n e) t
+  reaches_is d t w f =
+      either (eqb d 0)
+      (λ q. let z = eqb-true d 0 q in
+      rw q (sym (lt-leb (distance n e) t (omega (arith, distance-below (omega arith))))))
+      (λ q. let z = eqb-false d 0 q in rw q (ap (λ (k : ℕ). leb k t) (sym (distance_is n e d (omega arith)))))
 
-  -- any other is the distance
-  pub near-is : (d t : ℕ) → d < 2 ^ 64 → (d ≡ 0 → ⊥) → (d + n) % 2 ^ 64 ≡ e → leb d t ≡ leb (distance n e) t
-  near-is d t f z w = ap (λ (k : ℕ). leb k t) (sym (distance_is n e d (omega arith)))
-
-  -- the distance is one more than d − 1, wrapped, of its wrapped difference d
-  pub one-after-is : (d r : ℕ) → d < 2 ^ 64 → r < 2 ^ 64 → (d + n) % 2 ^ 64 ≡ e → (r + 1) % 2 ^ 64 ≡ d →
+  -- the distance is one more than its wrapped difference less 1, wrapped too
+  pub one_after_is : (r : ℕ) → r ≡ ((e + (2 ^ 64 - n)) % 2 ^ 64 + (2 ^ 64 - 1)) % 2 ^ 64 →
       r + 1 ≡ distance n e
-  one-after-is d r f g w v = sym (distance_is n e (r + 1) (omega arith))
+  one_after_is r w = sym (distance_is n e (r + 1) (omega arith))

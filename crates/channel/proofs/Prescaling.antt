@@ -36,8 +36,8 @@ module _ (v p c : ℕ) where
   from_first : p < v → v - p ≤ c → p + c ≡ c - (v - p) + v
   from_first h k = omega arith
 
-  pub later-is : p < v → v - p ≤ c → ((c - (v - p)) / v + 1 ≡ (p + c) / v) × ((c - (v - p)) % v ≡ (p + c) % v)
-  later-is h k = (
+  pub later_is : p < v → v - p ≤ c → ((c - (v - p)) / v + 1 ≡ (p + c) / v) × ((c - (v - p)) % v ≡ (p + c) % v)
+  later_is h k = (
     sym (ap (λ (n : ℕ). n / v) (from_first h k) ∙ add-div_right (c - (v - p)) (omega arith)),
     sym (ap (λ (n : ℕ). n % v) (from_first h k) ∙ add-mod_right (c - (v - p)) v),
   )

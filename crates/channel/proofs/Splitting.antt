@@ -39,18 +39,18 @@ use Rattle.channel.specs.Splits.{total, advanced_by, matches_by, FewerPeriods}
 use Rattle.channel.proofs.Keeping.{Kept}
 use Rattle.channel.proofs.Distances.{distance-after}
 use Rattle.channel.proofs.Counting.{
-  one-shot-past,
-  one-shot-reached,
-  one-shot-ahead,
-  periodic-matches,
-  matched-past,
-  matched-ahead,
-  free-met,
-  free-unmet,
+  one_shot_past,
+  one_shot_reached,
+  one_shot_ahead,
+  periodic_matches,
+  matched_past,
+  matched_ahead,
+  free_met,
+  free_unmet,
   unmet-by,
   matches-same,
   no_ticks,
-  ran-matches,
+  ran_matches,
   still-matches,
 }
 use Rattle.channel.proofs.Law.{advanced_still}
@@ -122,18 +122,18 @@ module _ (t : ℕ) (h : HardwareTimer) where
   one-shot-count =
       choose (λ (x : ℕ). matches_in 0 (one_shot t) h ≡ x) (leb h.compare (h.counter + t))
       (λ e. let l = leb-true h.compare (h.counter + t) e in
-      either (leb h.compare h.counter) (λ a. one-shot-past t h (leb-true h.compare h.counter a))
-      (λ a. let b = leb-false h.compare h.counter a in one-shot-reached t h b (omega arith)))
+      either (leb h.compare h.counter) (λ a. one_shot_past t h (leb-true h.compare h.counter a))
+      (λ a. let b = leb-false h.compare h.counter a in one_shot_reached t h b (omega arith)))
       (λ e. let l = leb-false h.compare (h.counter + t) e in
-      one-shot-ahead t h (omega arith) (omega arith))
+      one_shot_ahead t h (omega arith) (omega arith))
 
   periodic-count : matches_in 1 (periodic t) h ≡ count 1 t h
   unfolding counted up_to points_met
   periodic-count =
-      periodic-matches t h
+      periodic_matches t h
       ∙ choose (λ (x : ℕ). matches_in 1 matched moved ≡ x) (leb h.compare n)
-      (λ e. matched-past moved (leb-true h.compare n e))
-      (λ e. matched-ahead moved (leb-false h.compare n e))
+      (λ e. matched_past moved (leb-true h.compare n e))
+      (λ e. matched_ahead moved (leb-false h.compare n e))
     where
       n : ℕ
       n = min (h.counter + t) largest
@@ -145,7 +145,7 @@ module _ (t : ℕ) (h : HardwareTimer) where
   unfolding counted
   free-count =
       choose (λ (x : ℕ). matches_in 2 (free_running t) h ≡ x) (h.armed && leb (distance h.counter h.compare) t)
-      (free-met t h) (free-unmet t h)
+      (free_met t h) (free_unmet t h)
 
 mode_count : (m t : ℕ) (h : HardwareTimer) → matches_in m (ticked_in m t) h ≡ count m t h
 unfolding counted ticked_in
@@ -295,7 +295,7 @@ module _ (t : ℕ) (h : HardwareTimer) where
 pub running_count : (selected : Bool) (c : ℕ) (h : HardwareTimer) → runs selected h ≡ true →
     matches_of selected c h ≡ met (ticks_of c h) h
 running_count selected c h r =
-    ran-matches selected c h r ∙ ticked_count (ticks_of c h) (with_phase (phase_after c h) h)
+    ran_matches selected c h r ∙ ticked_count (ticks_of c h) (with_phase (phase_after c h) h)
 
 -- 'A count can reach 2^64', and is no more
 abbrev Most : ℕ → Type 0

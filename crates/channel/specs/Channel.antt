@@ -2,6 +2,8 @@
 -- the setters.
 use Rattle.std.specs.Prelude.{ℕ, ◌+◌, ◌*◌, ◌/◌, ◌%◌, ◌^◌, ◌<◌, Bool, true, false, ◌&&◌, nat_lt}
 use Rattle.wide.specs.Bits.{bit}
+use Rattle.channel.specs.declared.Mode.{Mode}
+use Rattle.channel.specs.declared.Mode.TheVariants.{OneShot, Periodic, FreeRunning, Idle}
 use Rattle.channel.specs.declared.HardwareTimer.{HardwareTimer}
 
 -- each field is within its width, as the code's types have it; soundness bounds control and phase
@@ -28,6 +30,13 @@ fresh_timer =
 -- 'Channel control: bits 0–1 mode, 2 enable, 3 interrupt enable.'
 abbrev pub mode_of : ℕ → ℕ
 mode_of control = control % 4
+
+-- the number of the code's mode. 'Mode 3 does nothing.'
+abbrev pub mode_number : Mode → ℕ
+mode_number OneShot = 0
+mode_number Periodic = 1
+mode_number FreeRunning = 2
+mode_number Idle = 3
 
 unfoldable pub enabled_of : ℕ → Bool
 enabled_of control = bit 2 control

@@ -1,9 +1,10 @@
 -- Document 01, 'The line, source 3 and the deadline': the deadline of one channel.
 use Rattle.std.specs.Prelude.{ℕ, zero, suc, ◌+◌, ◌-◌, ◌*◌, Bool, cond, not, ◌&&◌, nat_lt}
 use Rattle.std.proofs.Math.Option.{Option, none, some}
+use Rattle.std.specs.declared.option.Option as code
+use Rattle.std.specs.declared.option.Option.TheVariants.{None, Some}
 use Rattle.channel.specs.declared.HardwareTimer.{HardwareTimer}
-use Rattle.channel.specs.declared.deadline.ToGo.{ToGo}
-use Rattle.channel.specs.declared.deadline.ToGo.TheVariants.{Never, OneAfter}
+use Rattle.channel.specs.declared.Ticks.{Ticks}
 use Rattle.channel.specs.Channel.{mode_of, irq_enabled_of, divisor}
 use Rattle.channel.specs.Modes.{distance}
 use Rattle.channel.specs.Prescaler.{runs}
@@ -35,7 +36,7 @@ deadline_of selected h =
     (in_cycles (divisor h) h.phase (ticks_to_go (mode_of h.control) h.counter h.compare h.armed))
     none
 
--- the code's ticks to go as an optional number
-abbrev pub to_go_of : ToGo → Option ℕ
-to_go_of Never = none
-to_go_of (OneAfter n) = some (n.0 + 1)
+-- the code's ticks to go as an optional number: it holds one less than the number, which can be 2^64, as no word can
+abbrev pub to_go_of : code.Option Ticks → Option ℕ
+to_go_of None = none
+to_go_of (Some n) = some (n.0 + 1)

@@ -7,55 +7,44 @@ ghost use Rattle.channel.specs.Channel.{mode_of, divisor};
 ghost use Rattle.channel.specs.Modes.{distance};
 ghost use Rattle.channel.specs.Deadline.{ticks_up, ticks_to_go, to_go_of, waiting, deadline_of};
 
-use crate::{HardwareTimer, Ticks};
-use wide::deadline::Deadline;
-use wide::flags::both;
+use crate::{HardwareTimer, Mode, Ticks};
 use wide::number::Wide;
 
-// The ticks to go: none, or one more than the number held. They can be 2^64, which a word cannot hold.
-#[derive(Clone, Copy)]
-pub enum ToGo {
-    Never,
-    OneAfter(Ticks),
-}
-
 // The ticks to the compare point in modes 0 and 1; 1 where the counter has reached it.
-fn ticks_up(counter: u64, compare: u64) -> ToGo
+fn ticks_up(counter: u64, compare: u64) -> Option<Ticks>
     ensures { to_go_of result ≡ some (ticks_up counter compare) }
 {
     if counter < compare {
-        ToGo::OneAfter(Ticks(compare - counter - 1))
+        Some(Ticks(compare - counter - 1))
     } else {
-        ToGo::OneAfter(Ticks(0))
+        Some(Ticks(0))
     }
 }
 
 // The ticks to the compare point in mode 2, where the counter wraps; none where the channel is not armed.
-fn ticks_round(counter: u64, compare: u64, armed: bool) -> ToGo
+#[tactic(auto, using(crate::proofs::Distances::one_after_is))]
+fn ticks_round(counter: u64, compare: u64, armed: bool) -> Option<Ticks>
     ensures { to_go_of result ≡ (if armed then some (distance counter compare) else none) }
 {
     if armed {
-        let difference = std::num::wrapping_sub_u64(compare, counter);
-        ToGo::OneAfter(Ticks(std::num::wrapping_sub_u64(difference, 1)))
+        let difference = compare.wrapping_sub(counter);
+        Some(Ticks(difference.wrapping_sub(1)))
     } else {
-        ToGo::Never
+        None
     }
 }
 
 impl HardwareTimer {
-    fn ticks_to_go(self) -> ToGo
+    #[tactic(auto, unfolding(crate::specs::Deadline::ticks_to_go))]
+    fn ticks_to_go(self) -> Option<Ticks>
         ensures { to_go_of result ≡ ticks_to_go (mode_of self.control) self.counter self.compare self.armed }
     {
         let counter = self.counter;
         let compare = self.compare;
-        let control = self.control;
-        let armed = self.armed;
-        let mode = control % Self::MODES;
-        match mode {
-            Self::ONE_SHOT => ticks_up(counter, compare),
-            Self::PERIODIC => ticks_up(counter, compare),
-            Self::FREE_RUNNING => ticks_round(counter, compare, armed),
-            _ => ToGo::Never,
+        match self.mode() {
+            Mode::OneShot | Mode::Periodic => ticks_up(counter, compare),
+            Mode::FreeRunning => ticks_round(counter, compare, self.armed),
+            Mode::Idle => None,
         }
     }
 
@@ -67,7 +56,7 @@ impl HardwareTimer {
         let phase = self.phase;
         let prescaler = self.prescaler;
         let v = prescaler as u64 + 1;
-        let first = Wide::from_word(v - phase as u64);
+        let first = Wide::from(v - phase as u64);
         first.sum(Wide::product(n.0, v))
     }
 
@@ -75,20 +64,19 @@ impl HardwareTimer {
     fn waits(self, selected: bool) -> bool
         ensures { result ≡ waiting selected self }
     {
-        both(both(self.runs(selected), self.irq_enabled()), !self.pending)
+        self.runs(selected) & self.irq_enabled() & !self.pending
     }
 
     // The exact deadline of the channel, whose bit in timer enable is `selected`.
-    pub fn cycles_until_match(self, selected: bool) -> Deadline
+    #[tactic(auto, unfolding(crate::specs::Deadline::deadline_of))]
+    pub fn cycles_until_match(self, selected: bool) -> Option<Wide>
         requires { self.phase ≤ self.prescaler }
         ensures { number_of result ≡ deadline_of selected self }
     {
-        if self.waits(selected) {
-            let ToGo::OneAfter(n) = self.ticks_to_go() else {
-                return Deadline::Never;
-            };
-            return Deadline::At(self.cycles_of(n));
+        if !self.waits(selected) {
+            return None;
         }
-        Deadline::Never
+        let n = self.ticks_to_go()?;
+        Some(self.cycles_of(n))
     }
 }

@@ -3,7 +3,8 @@
 
 ghost use Rattle.std.specs.Prelude.{◌≡◌};
 ghost use Rattle.wide.specs.Bits.{bit};
-ghost use Rattle.channel.specs.Channel.{fresh_timer, enabled_of, irq_enabled_of, line_of, sound_timer, TimerFits};
+ghost use Rattle.channel.specs.Channel.{fresh_timer, mode_of, mode_number, enabled_of, irq_enabled_of, line_of};
+ghost use Rattle.channel.specs.Channel.{sound_timer, TimerFits};
 
 use wide::number::Wide;
 
@@ -61,6 +62,15 @@ pub struct HardwareTimer {
     pub reload: u64,
 }
 
+// What ticks do to a channel.
+#[derive(Clone, Copy, PartialEq, Eq)]
+pub enum Mode {
+    OneShot,
+    Periodic,
+    FreeRunning,
+    Idle,
+}
+
 impl HardwareTimer {
     // Control has the mode in bits 0 and 1, enable in bit 2 and interrupt enable in bit 3. The mode is the remainder by
     // MODES; ENABLE and IRQ_ENABLE are the values of their bits.
@@ -74,13 +84,6 @@ impl HardwareTimer {
 
     // The bit of a written control word that resets the channel. The bits below it are control.
     const RESET: u64 = 16;
-
-    // The modes. The fourth does nothing.
-    const ONE_SHOT: u8 = 0;
-
-    const PERIODIC: u8 = 1;
-
-    const FREE_RUNNING: u8 = 2;
 
     // A channel of the fresh board.
     pub fn fresh() -> Self
@@ -114,12 +117,25 @@ impl HardwareTimer {
         }
     }
 
+    pub fn mode(self) -> Mode
+        ensures { mode_number result ≡ mode_of self.control }
+    {
+        match self.control % Self::MODES {
+            0 => Mode::OneShot,
+            1 => Mode::Periodic,
+            2 => Mode::FreeRunning,
+            _ => Mode::Idle,
+        }
+    }
+
+    #[tactic(auto, unfolding(crate::specs::Channel::enabled_of))]
     pub fn enabled(self) -> bool
         ensures { result ≡ enabled_of self.control }
     {
         self.control / Self::ENABLE % 2 == 1
     }
 
+    #[tactic(auto, unfolding(crate::specs::Channel::irq_enabled_of))]
     pub fn irq_enabled(self) -> bool
         ensures { result ≡ irq_enabled_of self.control }
     {
@@ -127,25 +143,19 @@ impl HardwareTimer {
     }
 
     // Whether the channel holds the line high.
+    #[tactic(auto, unfolding(crate::specs::Channel::line_of))]
     pub fn asserted(self) -> bool
         ensures { result ≡ line_of self }
     {
-        if self.pending {
-            self.irq_enabled()
-        } else {
-            false
-        }
+        self.pending & self.irq_enabled()
     }
 
     // Whether the channel is sound. The contract also says that every field is within its width, which the deadline's
     // laws need.
+    #[tactic(auto, using(crate::proofs::Prescaling::at_most_is), unfolding(crate::specs::Channel::sound_timer))]
     pub fn sound(self) -> bool
         ensures { (result ≡ sound_timer self) × TimerFits self }
     {
-        if self.control < Self::CONTROL_VALUES {
-            self.phase <= self.prescaler
-        } else {
-            false
-        }
+        (self.control < Self::CONTROL_VALUES) & (self.phase <= self.prescaler)
     }
 }

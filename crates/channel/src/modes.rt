@@ -1,22 +1,16 @@
 // What ticks do to a channel in each of its modes.
-ghost use Rattle.std.specs.Prelude.{◌≡◌, ◌+◌, ◌≤◌, min, nat_le};
-ghost use Rattle.wide.specs.Number.{value_of, largest};
+ghost use Rattle.std.specs.Prelude.{◌≡◌, ◌+◌, ◌≤◌, nat_le};
+ghost use Rattle.wide.specs.Number.{value_of};
 ghost use Rattle.channel.specs.Channel.{mode_of, set_pending, clear_enable};
 ghost use Rattle.channel.specs.Matches.{points_met, matches_in};
 ghost use Rattle.channel.specs.Modes.{one_shot, reloaded, matched, periodic, distance, free_running, ticked};
 
-use crate::{Advanced, HardwareTimer, Ticks};
+use crate::{Advanced, HardwareTimer, Mode, Ticks};
 use wide::number::Wide;
-
-// The sum, or the largest word where it is larger.
-fn saturating_add(a: u64, b: u64) -> u64
-    ensures { result ≡ min (a + b) largest }
-{
-    if u64::MAX - a < b { u64::MAX } else { a + b }
-}
 
 impl HardwareTimer {
     // The channel with pending set and enable cleared. Enable is the bit between mode and interrupt enable.
+    #[tactic(auto, unfolding(crate::specs::Channel::disabled))]
     fn fired(mut self) -> Self
         ensures { result ≡ clear_enable (set_pending self) }
     {
@@ -32,7 +26,7 @@ impl HardwareTimer {
     {
         Advanced {
             timer: self,
-            matches: Wide::from_word(0),
+            matches: Wide::from(0),
         }
     }
 
@@ -42,10 +36,11 @@ impl HardwareTimer {
     {
         Advanced {
             timer: self,
-            matches: Wide::from_word(periods).sum(Wide::from_word(1)),
+            matches: Wide::from(periods).sum(Wide::from(1)),
         }
     }
 
+    #[tactic(auto, using(crate::proofs::Counting::one_shot_past, crate::proofs::Counting::one_shot_reached, crate::proofs::Counting::one_shot_ahead), unfolding(crate::specs::Modes::one_shot))]
     fn advance_one_shot(mut self, ticks: Ticks) -> Advanced
         ensures { (result.timer ≡ one_shot ticks.0 self)
             × (value_of result.matches ≡ matches_in 0 (one_shot ticks.0) self) }
@@ -79,14 +74,15 @@ impl HardwareTimer {
         let past = counter - compare;
         let periods = past / reload;
         let gap = reload - past % reload;
-        if u64::MAX - counter < gap {
+        let Some(next) = counter.checked_add(gap) else {
             return self.fired().met(periods);
-        }
-        self.compare = counter + gap;
+        };
+        self.compare = next;
         self.pending = true;
         self.met(periods)
     }
 
+    #[tactic(auto, using(crate::proofs::Counting::matched_past, crate::proofs::Counting::matched_ahead), unfolding(crate::specs::Modes::matched))]
     fn matched(self) -> Advanced
         ensures { (result.timer ≡ matched self) × (value_of result.matches ≡ matches_in 1 matched self) }
     {
@@ -99,42 +95,35 @@ impl HardwareTimer {
         }
     }
 
+    #[tactic(auto, using(crate::proofs::Counting::periodic_matches), unfolding(crate::specs::Modes::periodic))]
     fn advance_periodic(mut self, ticks: Ticks) -> Advanced
         ensures { (result.timer ≡ periodic ticks.0 self)
             × (value_of result.matches ≡ matches_in 1 (periodic ticks.0) self) }
     {
-        let counter = self.counter;
-        self.counter = saturating_add(counter, ticks.0);
+        self.counter = self.counter.saturating_add(ticks.0);
         self.matched()
     }
 
     // Whether the ticks reach the compare point. A distance of 0 means 2^64, which no number of ticks reaches.
+    #[tactic(auto, using(crate::proofs::Distances::reaches_is))]
     fn reaches(self, ticks: Ticks) -> bool
         ensures { result ≡ nat_le (distance self.counter self.compare) ticks.0 }
     {
-        let counter = self.counter;
-        let compare = self.compare;
-        let t = ticks.0;
-        let distance = std::num::wrapping_sub_u64(compare, counter);
-        if distance == 0 {
-            return false;
-        }
-        distance <= t
+        let distance = self.compare.wrapping_sub(self.counter);
+        (distance != 0) & (distance <= ticks.0)
     }
 
+    #[tactic(auto, using(crate::proofs::Counting::free_met, crate::proofs::Counting::free_unmet), unfolding(crate::specs::Modes::free_running))]
     fn advance_free_running(mut self, ticks: Ticks) -> Advanced
         ensures { (result.timer ≡ free_running ticks.0 self)
             × (value_of result.matches ≡ matches_in 2 (free_running ticks.0) self) }
     {
-        let counter = self.counter;
-        let hit = self.reaches(ticks);
-        self.counter = std::num::wrapping_add_u64(counter, ticks.0);
-        if self.armed {
-            if hit {
-                self.pending = true;
-                self.armed = false;
-                return self.met(0);
-            }
+        let hit = self.armed & self.reaches(ticks);
+        self.counter = self.counter.wrapping_add(ticks.0);
+        if hit {
+            self.pending = true;
+            self.armed = false;
+            return self.met(0);
         }
         self.unmet()
     }
@@ -144,17 +133,14 @@ impl HardwareTimer {
         ensures { (result.timer ≡ ticked ticks.0 self)
             × (value_of result.matches ≡ matches_in (mode_of self.control) (ticked ticks.0) self) }
     {
-        let control = self.control;
-        let t = ticks.0;
-        if t == 0 {
+        if ticks.0 == 0 {
             return self.unmet();
         }
-        let mode = control % Self::MODES;
-        match mode {
-            Self::ONE_SHOT => self.advance_one_shot(ticks),
-            Self::PERIODIC => self.advance_periodic(ticks),
-            Self::FREE_RUNNING => self.advance_free_running(ticks),
-            _ => self.unmet(),
+        match self.mode() {
+            Mode::OneShot => self.advance_one_shot(ticks),
+            Mode::Periodic => self.advance_periodic(ticks),
+            Mode::FreeRunning => self.advance_free_running(ticks),
+            Mode::Idle => self.unmet(),
         }
     }
 }

@@ -5,7 +5,6 @@ ghost use Rattle.channel.specs.Prescaler.{ticks_of, phase_after, runs, advanced}
 ghost use Rattle.channel.specs.Matches.{matches_of};
 
 use crate::{Advanced, Cycles, HardwareTimer, Ticks};
-use wide::flags::both;
 
 // The ticks that a number of cycles gives, and the phase after them.
 #[derive(Clone, Copy)]
@@ -28,6 +27,7 @@ impl HardwareTimer {
 
     // S-5: prescaler 0 comes first. With another prescaler the cycles up to the first tick are taken off and the rest
     // is divided, so that no sum is larger than a word and no number of two words is divided.
+    #[tactic(auto, using(crate::proofs::Prescaling::later_is))]
     fn scale(self, cycles: Cycles) -> Scaled
         requires { self.phase ≤ self.prescaler }
         ensures { (result.ticks.0 ≡ ticks_of cycles.0 self) × (result.phase ≡ phase_after cycles.0 self) }
@@ -57,10 +57,11 @@ impl HardwareTimer {
     pub fn runs(self, selected: bool) -> bool
         ensures { result ≡ runs selected self }
     {
-        both(self.enabled(), selected)
+        self.enabled() & selected
     }
 
     // The channel after the cycles, before `advance_cycles` rebuilds it field by field.
+    #[tactic(auto, using(crate::proofs::Counting::run_matches), unfolding(crate::specs::Prescaler::advanced))]
     fn advanced(self, selected: bool, cycles: Cycles) -> Advanced
         requires { self.phase ≤ self.prescaler }
         ensures { (result.timer ≡ advanced selected cycles.0 self)
@@ -82,11 +83,9 @@ impl HardwareTimer {
             × (value_of result.matches ≡ matches_of selected cycles.0 self) }
     {
         let a = self.advanced(selected, cycles);
-        let timer = a.timer;
-        let matches = a.matches;
         Advanced {
-            timer: timer.rebuilt(),
-            matches,
+            timer: a.timer.rebuilt(),
+            matches: a.matches,
         }
     }
 }

@@ -7,7 +7,6 @@ ghost use Rattle.channel.specs.Channel.{enabled_of, with_counter, with_reload};
 ghost use Rattle.channel.specs.Registers.{word_of, control_written, compare_written, prescaler_written, byte_written};
 
 use crate::HardwareTimer;
-use wide::flags::pair;
 use wide::words::{high, low};
 
 impl HardwareTimer {
@@ -33,10 +32,11 @@ impl HardwareTimer {
     fn status(self) -> u32
         ensures { result ≡ flag_of (enabled_of self.control) + 2 * flag_of self.pending }
     {
-        pair(self.enabled(), self.pending)
+        u32::from(self.enabled()) + 2 * u32::from(self.pending)
     }
 
     // The word of the register at an offset in the channel's block, 0 where there is none.
+    #[tactic(auto, unfolding(crate::specs::Registers::word_of))]
     pub fn read_word(self, register: u32) -> u32
         ensures { result ≡ word_of register self }
     {
@@ -54,6 +54,7 @@ impl HardwareTimer {
         }
     }
 
+    #[tactic(auto, unfolding(crate::specs::Registers::control_written))]
     fn write_control(mut self, word: u64) -> Self
         ensures { result ≡ control_written word self }
     {
@@ -93,6 +94,7 @@ impl HardwareTimer {
         self
     }
 
+    #[tactic(auto, using(wide::proofs::BigEndian::with_byte_fits))]
     fn write_prescaler(mut self, below: usize, value: u8) -> Self
         requires { below < 4 }
         ensures { result ≡ prescaler_written (with_byte below value self.prescaler) self }
@@ -103,6 +105,7 @@ impl HardwareTimer {
     }
 
     // The channel after a byte is written to the register at an offset in its block. Byte 0 is the most significant.
+    #[tactic(auto, unfolding(crate::specs::Registers::byte_written))]
     pub fn write_byte(self, register: u32, byte: usize, value: u8) -> Self
         requires { byte < 4 }
         ensures { result ≡ byte_written register byte value self }

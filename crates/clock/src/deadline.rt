@@ -5,7 +5,6 @@ ghost use Rattle.clock.specs.Clock.{rate_of};
 ghost use Rattle.clock.specs.Deadline.{clock_line, awaited, clock_deadline};
 
 use crate::{Alarm, Clock, has_bit, own_time};
-use wide::deadline::Deadline;
 use wide::flags::both;
 use wide::number::Wide;
 
@@ -34,7 +33,7 @@ impl Clock {
     }
 
     // The cycles until the alarm's interrupt, or none.
-    pub fn deadline(self) -> Deadline
+    pub fn deadline(self) -> Option<Wide>
         requires { self.subsecond < rate_of self }
         ensures { number_of result ≡ clock_deadline (rate_of self) self }
     {
@@ -43,11 +42,11 @@ impl Clock {
         let subsecond = self.subsecond as u64;
         if self.awaited() {
             if alarm <= seconds {
-                return Deadline::At(Wide::from_word(1));
+                return Some(Wide::from(1));
             }
             let whole = Wide::product(alarm - seconds, self.rate());
-            return Deadline::At(whole.difference(Wide::from_word(subsecond)));
+            return Some(whole.difference(Wide::from(subsecond)));
         }
-        Deadline::Never
+        None
     }
 }

@@ -69,8 +69,8 @@ impl Duration {
         ensures { TimeIs (duration_of self + duration_of other) result }
     {
         let n = self.nanoseconds + other.nanoseconds;
-        let whole = Wide::from_word(self.seconds).sum(Wide::from_word(other.seconds));
-        let carry = Wide::from_word((n / Clock::NANOS_PER_SECOND) as u64);
+        let whole = Wide::from(self.seconds).sum(Wide::from(other.seconds));
+        let carry = Wide::from((n / Clock::NANOS_PER_SECOND) as u64);
         Time {
             seconds: whole.sum(carry),
             nanoseconds: n % Clock::NANOS_PER_SECOND,
@@ -104,7 +104,7 @@ impl Duration {
         ensures { TimeIs (duration_of self) result }
     {
         Time {
-            seconds: Wide::from_word(self.seconds),
+            seconds: Wide::from(self.seconds),
             nanoseconds: self.nanoseconds,
         }
     }

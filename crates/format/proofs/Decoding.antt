@@ -1,125 +1,54 @@
 -- What the code finds of the call at the front of a list is what the rules say of it. Assumes nothing.
-use Prim.Native.Nat.{ℕ, ◌+◌, ◌*◌, ◌-◌, ◌≤◌, ◌<◌}
+use Prim.Native.Nat.{ℕ, ◌+◌, ◌-◌, ◌≤◌, ◌<◌}
 use native.Mathlib.Omega.{arith}
 use mathlib.Core.Path.{◌≡◌, refl, sym, ap, ◌∙◌}
-use mathlib.Core.Bool.{Bool, true, false, cond, not, false≢true}
+use mathlib.Core.Bool.{true, false, cond, not, false≢true}
 use mathlib.Core.List.{List}
-use lib.ListN.{length, get_or}
-use lib.Dec.{leb, ltb, eqb}
-use borrow.Author.Tests.{ltb-false, lt-ltb, le-ltb, leb-true, leb-false, eqb-true, eqb-false, eq-eqb, ne_eqb}
-use borrow.Author.Tests.{ltb-true, not-true, not-false}
+use lib.ListN.{length}
+use lib.Dec.{ltb, eqb}
+use borrow.Author.Tests.{ltb-false, lt-ltb, le-ltb, eqb-true, eq-eqb}
 use Rattle.wide.specs.Fields.{be_at}
-use Rattle.wide.proofs.Choices.{either, and_parts}
+use Rattle.wide.proofs.Choices.{either}
 use Rattle.board.specs.declared.Board.{Board}
 use Rattle.board.specs.declared.calls.Call.{Call}
 use Rattle.board.specs.declared.calls.Call.TheVariants.{HostTime, Read, Write, Advance, Deadline, Skip, Source}
 use Rattle.board.specs.declared.calls.Call.TheVariants.{ControllerRead, ControllerWrite, Output}
 use Rattle.board.specs.Calls.{host_time_refusal, address_refusal, source_refusal, effect_of}
-use Rattle.format.specs.declared.Decoded.{Decoded}
-use Rattle.format.specs.declared.Lengths.{Lengths}
-use Rattle.format.specs.Format.{answer_too_long, row_of, known, value_length, answer_length, header_length}
+use Rattle.format.specs.Format.{answer_too_long, row_of, known, value_length, header_length}
 use Rattle.format.specs.Format.{members_at}
-use Rattle.format.specs.Codec.{tag_of, tag_at, frame_refusal, call_of, call_at, record_length, first_of, refusal_at}
-use Rattle.format.specs.CodeDecode.{value_refusal, refused_by, told, short_of, roomed, valued, framed_as, is_framed}
-use Rattle.format.specs.CodeDecode.{lengths_of, Unframed, decoded_of, board_refusal, first_refusal}
+use Rattle.format.specs.Codec.{tag_at, frame_refusal, call_of, call_at, record_length, first_of, refusal_at}
+use Rattle.format.specs.declared.tag.Tag.{Tag}
+use Rattle.format.specs.declared.tag.Tag.TheVariants as T
+use Rattle.format.specs.Tags.{tag_number}
+use Rattle.format.specs.CodeDecode.{value_refusal, refused_by, told, roomed, valued}
+use Rattle.format.specs.CodeDecode.{value_frame, framed_as, decoded_of, board_refusal, first_refusal}
 
 -- ---- the frame
 
--- the header's length by the machine's order of its bytes
-pub told-length : (l : List ℕ) (a b value : ℕ) → a ≡ get_or l 1 0 → b ≡ get_or l 2 0 → a < 256 → b < 256 → value < 256 →
-    eqb (a + 256 * b) (256 * value) ≡ eqb (be_at l 1 2) value
-unfolding be_at
-told-length l a b value p q f g h =
-    either (eqb (a + 256 * b) (256 * value))
-    (λ e. let m = eqb-true (a + 256 * b) (256 * value) e in e ∙ sym (eq-eqb (be_at l 1 2) value (omega arith)))
-    (λ e. e ∙ sym (ne_eqb (be_at l 1 2) value (λ n. eqb-false (a + 256 * b) (256 * value) e (omega arith))))
-
--- the two tests as one
-module _ (value : ℕ) (l : List ℕ) where
-  pub framed-wrong : not (eqb (be_at l 1 2) value) ≡ true → false ≡ is_framed value l
-  framed-wrong t = rw (not-true (eqb (be_at l 1 2) value) t)
-
-  pub framed-right : not (eqb (be_at l 1 2) value) ≡ false → leb (header_length + value) (length l) ≡ is_framed value l
-  framed-right t = rw (not-false (eqb (be_at l 1 2) value) t)
-
--- the value is cut where it is not whole
-pub unframed_value : (value : ℕ) (l : List ℕ) (r : Decoded) → header_length ≤ length l →
-    not (eqb (be_at l 1 2) value) ≡ false → r ≡ refused_by 5 → Unframed value l r
-unfolding framed_as
-unframed_value value l r h t e f call room =
-    let s : leb (header_length + value) (length l) ≡ false = rw (not-false (eqb (be_at l 1 2) value) t) at f in
-    let m = leb-false (header_length + value) (length l) s in
-    rw (t, lt-ltb (length l - header_length) value (omega arith)) e
-
--- ---- each call: n are the lengths of its tag, q the test of its frame
-
-module _ (tag : ℕ) (n : Lengths) (e : n ≡ lengths_of tag) where
-  pub value_of : n.value ≡ value_length tag
-  value_of = ap (λ (m : Lengths). m.value) e
-
-  pub answer-of : n.answer ≡ answer_length tag
-  answer-of = ap (λ (m : Lengths). m.answer) e
-
-pub small : (tag : ℕ) {n : Lengths} → ltb (value_length tag) 256 ≡ true → n ≡ lengths_of tag → n.value < 256
-small tag {n} t e = ltb-true n.value 256 (ap (λ (v : ℕ). ltb v 256) (value_of tag n e) ∙ t)
-
--- header and value are whole where the test holds
-module _ (tag : ℕ) (l : List ℕ) {n : Lengths} {q : Bool} (e : n ≡ lengths_of tag) (p : q ≡ is_framed n.value l)
-    (f : not q ≡ false) where
-  tests : (eqb (be_at l 1 2) (value_length tag) ≡ true) × (leb (header_length + value_length tag) (length l) ≡ true)
-  tests =
-      and_parts (eqb (be_at l 1 2) (value_length tag)) (leb (header_length + value_length tag) (length l))
-      (ap (λ (v : ℕ). is_framed v l) (sym (value_of tag n e)) ∙ sym p ∙ not-false q f)
-
-  whole : header_length + value_length tag ≤ length l
-  whole = leb-true (header_length + value_length tag) (length l) tests.1
-
-  pub within : (k : ℕ) → leb k (header_length + value_length tag) ≡ true → k ≤ length l
-  within k t = omega (arith, whole, leb-true k (header_length + value_length tag) t)
-
-module _ (call : Call) (l : List ℕ) (room : ℕ) {n : Lengths} {q : Bool} (e : n ≡ lengths_of (tag_of call))
-    (p : q ≡ is_framed n.value l) where
-  abbrev here : Decoded
-  here = framed_as (value_length (tag_of call)) call l room
-
-  pub as-unframed : {r : Decoded} → Unframed n.value l r → not q ≡ true → r ≡ here
-  as-unframed u f =
-      u (sym p ∙ not-true q f) call room ∙ ap (λ (v : ℕ). framed_as v call l room) (value_of (tag_of call) n e)
-
-  module _ (f : not q ≡ false) {own : ℕ} (o : own ≡ value_refusal call) where
-    as-framed : here ≡ valued call room
-    unfolding framed_as
-    as-framed =
-        let h = whole (tag_of call) l e p f in
-        rw (
-          (tests (tag_of call) l e p f).0,
-          le-ltb (length l - header_length) (value_length (tag_of call)) (omega arith),
-        )
-
-    pub as_own : (own ≡ 0 → ⊥) → refused_by own ≡ here
-    unfolding valued
-    as_own z = rw (as-framed, ← o, ne_eqb own 0 z)
-
-    module _ (z : own ≡ 0) where
-      pub as_short : room < header_length + n.answer → short_of call ≡ here
-      unfolding valued roomed
-      as_short h = rw (as-framed, ← o, z, ← answer-of (tag_of call) n e, lt-ltb room (header_length + n.answer) h)
-
-      pub as-accepted : {given : Call} → given ≡ call → header_length + n.answer ≤ room →
-          record { refusal = 0; call = given } ≡ here
-      unfolding valued roomed
-      as-accepted g h =
-          rw (as-framed, ← o, z, ← answer-of (tag_of call) n e, le-ltb room (header_length + n.answer) h, g)
+-- a value that is not refused is whole
+pub whole : (value : ℕ) (l : List ℕ) → header_length ≤ length l → 0 ≡ value_frame value l →
+    header_length + value ≤ length l
+unfolding value_frame
+whole value l h z =
+    either (not (eqb (be_at l 1 2) value))
+    (λ e. let q : ◌≡◌ {A = ℕ} 0 4 = rw e at z in absurd (omega arith))
+    (λ e. either (ltb (length l - header_length) value)
+    (λ f. let q : ◌≡◌ {A = ℕ} 0 5 = rw (e, f) at z in absurd (omega arith))
+    (λ f. let m = ltb-false (length l - header_length) value f in omega arith))
 
 -- ---- the call at the front
 
--- the tests of the value: a call by each, and by the number that they give
-frames : (t₁ t₂ : Bool) (d : Decoded) →
-    cond t₁ (refused_by 4) (cond t₂ (refused_by 5) d)
-    ≡ cond (eqb (cond t₁ 4 (cond t₂ 5 0)) 0) d (refused_by (cond t₁ 4 (cond t₂ 5 0)))
-frames true t₂ d = refl
-frames false true d = refl
-frames false false d = refl
+tag-known : (tag : Tag) → known (tag_number tag) ≡ true
+tag-known T.HostTime = refl
+tag-known T.Read = refl
+tag-known T.Write = refl
+tag-known T.Advance = refl
+tag-known T.Deadline = refl
+tag-known T.Skip = refl
+tag-known T.Source = refl
+tag-known T.ControllerRead = refl
+tag-known T.ControllerWrite = refl
+tag-known T.Output = refl
 
 module _ (l : List ℕ) (room : ℕ) where
   pub decoded-cut : length l < header_length → refused_by 2 ≡ decoded_of l room
@@ -130,14 +59,15 @@ module _ (l : List ℕ) (room : ℕ) where
   unfolding frame_refusal decoded_of
   decoded-unknown h k = rw (le-ltb (length l) header_length h, k)
 
-  pub as-tag : header_length ≤ length l → {tag : ℕ} → tag_at l ≡ tag → known tag ≡ true →
-      framed_as (value_length tag) (call_of tag (members_at l header_length (row_of tag).value)) l room
+  -- by the tag that is found
+  pub as-tag : header_length ≤ length l → (tag : Tag) → tag_number tag ≡ tag_at l → (given : Tag) → tag ≡ given →
+      framed_as (value_length (tag_number given)) (call_of (tag_number given) (members_at l header_length
+      (row_of (tag_number given)).value)) l room
       ≡ decoded_of l room
-  unfolding frame_refusal framed_as decoded_of
-  as-tag h {tag} e k =
-      rw (le-ltb (length l) header_length h, e, k)
-      (frames (not (eqb (be_at l 1 2) (value_length tag))) (ltb (length l - header_length) (value_length tag))
-      (valued (call_of tag (members_at l header_length (row_of tag).value)) room))
+  unfolding frame_refusal value_frame framed_as decoded_of
+  as-tag h tag e given g =
+      let t : tag_at l ≡ tag_number given = sym e ∙ ap tag_number g in
+      rw (le-ltb (length l) header_length h, t, tag-known given)
 
 -- ---- what a caller learns of it
 

@@ -7,7 +7,7 @@ use Prim.Native.Nat.{ℕ, zero, suc, ◌+◌, ◌-◌, ◌^◌, ◌≤◌, ◌<�
 use native.Mathlib.Nat.{zero-add, pow-suc}
 use native.Mathlib.Omega.{arith}
 use lib.Arith.{digits_lt}
-use lib.ListN.{length, get_or, take, drop, length-drop, length-append, get_or-append, get_or-eq_default}
+use lib.ListN.{length, get_or, take, drop, length-drop, length-append, get_or-append}
 use lib.Seq.{sets, sets-eq, take_all}
 use lib.Dec.{ltb, eqb}
 use borrow.Author.Tests.{ltb-true, ltb-false, le-ltb, eqb-true, eqb-false, not-false}
@@ -19,10 +19,9 @@ use Rattle.board.specs.declared.calls.Call.{Call}
 use Rattle.board.specs.declared.calls.Call.TheVariants.{HostTime, Read, Write, Advance, Deadline, Skip, Source}
 use Rattle.board.specs.declared.calls.Call.TheVariants.{ControllerRead, ControllerWrite, Output}
 use Rattle.board.specs.Calls.{effect_of, CallFits}
-use Rattle.format.specs.Format.{row, table, sum, row_of, known, value_length, answer_length}
+use Rattle.format.specs.Format.{sum, row_of, known, value_length, answer_length}
 use Rattle.format.specs.Format.{header_length, members_at, members_bytes, answer_bytes, record_of}
 use Rattle.format.specs.Codec.{tag_of, call_length, tag_at, frame_refusal, call_of, call_at, answer_record}
-use Rattle.format.specs.CodeDecode.{lengths_of}
 use Rattle.format.specs.Codec.{record_length}
 
 -- ---- bytes behind
@@ -68,18 +67,6 @@ by_tag P tag low high p1 p2 p3 p4 p5 p6 p7 p8 p9 p10 =
     at k h p n =
         either (eqb tag (suc k)) (λ e. let q : tag ≡ suc k = eqb-true tag (suc k) e in rw q p)
         (λ e. let m = eqb-false tag (suc k) e in n (omega arith))
-
--- a tag that no arm of the code names has no row
-pub unknown_is : (tag : ℕ) → (tag ≡ 1 → ⊥) → (tag ≡ 2 → ⊥) → (tag ≡ 3 → ⊥) → (tag ≡ 4 → ⊥) → (tag ≡ 5 → ⊥) →
-    (tag ≡ 6 → ⊥) → (tag ≡ 7 → ⊥) → (tag ≡ 8 → ⊥) → (tag ≡ 9 → ⊥) → (tag ≡ 10 → ⊥) →
-    record { known = false; value = 0; answer = 0 } ≡ lengths_of tag
-unknown_is tag n1 n2 n3 n4 n5 n6 n7 n8 n9 n10 =
-    either (ltb 0 tag)
-    (λ a. either (ltb tag 11)
-    (λ b. absurd
-    (by_tag (λ (t : ℕ). tag ≡ t → ⊥) tag (ltb-true 0 tag a) (ltb-true tag 11 b) n1 n2 n3 n4 n5 n6 n7 n8 n9 n10 refl))
-    (λ b. rw (a, b, get_or-eq_default table (row [] []) (ltb-false tag 11 b))))
-    (λ a. let h = ltb-false 0 tag a in let z : tag ≡ 0 = omega arith in rw z)
 
 -- ---- a call at the front
 
@@ -207,6 +194,10 @@ part_rest l k = take_all (length l - k) (drop k l) (omega (arith, length-drop k 
 pub sets_then : (l : List ℕ) (i n : ℕ) (xs ys : List ℕ) → length xs ≡ n →
     sets (sets l i xs) (i + n) ys ≡ sets l i (xs ++ ys)
 sets_then l i n xs ys e = rw (← e) (sets-append l i xs ys)
+
+-- the same where the first is a number of some bytes
+pub sets_be : (l : List ℕ) (i w n : ℕ) (ys : List ℕ) → sets (sets l i (be w n)) (i + w) ys ≡ sets l i (be w n ++ ys)
+sets_be l i w n ys = sets_then l i w (be w n) ys (length-be w n)
 
 -- a run of stores from the start of a list that has room for it
 pub sets_front : (l vs : List ℕ) → length vs ≤ length l → sets l 0 vs ≡ vs ++ drop (length vs) l

@@ -1,10 +1,15 @@
 -- Not document 01's sentences: the pieces in which the code writes a record. The rule is `record_of` of Format.
 use Rattle.std.specs.Prelude.{ℕ, List, [], ◌∷◌, ◌++◌}
 use Rattle.wide.specs.Fields.{be}
+use Rattle.format.specs.Format.{answer_length}
 
 -- a record's tag and the length of its value
 abbrev pub header_bytes : ℕ → ℕ → List ℕ
 header_bytes tag size = be 1 tag ++ be 2 size
+
+-- those of the record of an answer to a call of this tag
+abbrev pub header_of : ℕ → List ℕ
+header_of tag = header_bytes tag (answer_length tag)
 
 -- numbers of sixteen bytes, one after another
 unfoldable pub wides : List ℕ → List ℕ

@@ -1,21 +1,23 @@
 -- Not document 01's sentences: how the code decodes the first call of a list, with this room for its answer. The rules
 -- are `frame_refusal`, `call_at` and `refusal_at` of Codec; proofs/Decoding.antt shows that the two agree.
-use Rattle.std.specs.Prelude.{ℕ, ◌+◌, ◌-◌, ◌≡◌, List, Bool, true, false, cond, ◌&&◌, not, length, leb, ltb, eqb}
+use Rattle.std.specs.Prelude.{ℕ, ◌-◌, ◌≡◌, List, cond, not, length, ltb, eqb, Result, Ok, Err}
 use Rattle.wide.specs.Fields.{be_at}
 use Rattle.board.specs.declared.Board.{Board}
 use Rattle.board.specs.declared.calls.Call.{Call}
 use Rattle.board.specs.declared.calls.Call.TheVariants.{HostTime, Read, Write, Advance, Deadline, Skip, Source}
 use Rattle.board.specs.declared.calls.Call.TheVariants.{ControllerRead, ControllerWrite, Output}
 use Rattle.board.specs.Calls.{host_time_refusal, address_refusal, source_refusal, effect_of}
-use Rattle.format.specs.declared.Decoded.{Decoded}
-use Rattle.format.specs.declared.Lengths.{Lengths}
-use Rattle.format.specs.Format.{length_wrong, value_cut, answer_too_long, header_length}
-use Rattle.format.specs.Format.{known, value_length, answer_length}
+use Rattle.board.specs.Refusals.{refusal_number}
+use Rattle.format.specs.declared.Undecoded.{Undecoded}
+use Rattle.format.specs.declared.Undecoded.TheVariants.{Refused, NoRoom}
+use Rattle.format.specs.Format.{length_wrong, value_cut, answer_too_long, header_length, value_length}
 use Rattle.format.specs.Codec.{tag_of, frame_refusal, call_at, record_length, first_of}
 
--- what the code finds of a tag: whether it is known, and the lengths of its value and answer
-abbrev pub lengths_of : ℕ → Lengths
-lengths_of tag = record { known = known tag; value = value_length tag; answer = answer_length tag }
+-- the first call of a list, decoded: its refusal, 0 for none, and the call where there is none. Only the list's bytes
+-- and the room for the answer refuse it here
+pub record Decoded : Type 0 where
+  pub refusal : ℕ
+  pub call : Call
 
 -- a call's own refusal where its members decide it; a skip's depends on the board, and is 0 here
 abbrev pub value_refusal : Call → ℕ
@@ -49,15 +51,17 @@ told (ControllerRead address) = Output
 told (ControllerWrite byte address) = Output
 told Output = Output
 
+-- a call whose answer has no room
 abbrev pub short_of : Call → Decoded
 short_of call = record { refusal = answer_too_long; call = told call }
 
--- a call without members, whose answer has this many bytes
+-- a call of this tag that has no members
 abbrev pub Bare : Call → ℕ → Type 0
-Bare call answer =
-    (value_refusal call ≡ 0)
-    × ((record { known = true; value = 0; answer = answer } ≡ lengths_of (tag_of call))
-    × (told call ≡ call))
+Bare call tag = (value_refusal call ≡ 0) × ((tag_of call ≡ tag) × ((value_length tag ≡ 0) × (told call ≡ call)))
+
+-- a refusal, or else what is decoded
+abbrev pub unless_refused : ℕ → Decoded → Decoded
+unless_refused refusal d = cond (eqb refusal 0) d (refused_by refusal)
 
 -- the call, refused where the room is too short for its answer
 unfoldable pub roomed : Call → ℕ → Decoded
@@ -65,26 +69,30 @@ roomed call room = cond (ltb room (record_length call)) (short_of call) (record 
 
 -- the same after the refusal that its members decide
 unfoldable pub valued : Call → ℕ → Decoded
-valued call room = cond (eqb (value_refusal call) 0) (roomed call room) (refused_by (value_refusal call))
+valued call room = unless_refused (value_refusal call) (roomed call room)
 
--- the same after the refusals of its value, which must be `value` bytes long and whole
+-- the refusal of a value, which must be `value` bytes long and whole
+unfoldable pub value_frame : ℕ → List ℕ → ℕ
+value_frame value l =
+    cond (not (eqb (be_at l 1 2) value)) length_wrong (cond (ltb (length l - header_length) value) value_cut 0)
+
+-- the refusal of a room that is shorter than a record
+abbrev pub room_refusal : ℕ → ℕ → ℕ
+room_refusal room size = cond (ltb room size) answer_too_long 0
+
+-- the same after the refusals of its value
 unfoldable pub framed_as : ℕ → Call → List ℕ → ℕ → Decoded
-framed_as value call l room =
-    cond (not (eqb (be_at l 1 2) value)) (refused_by length_wrong)
-    (cond (ltb (length l - header_length) value) (refused_by value_cut)
-    (valued call room))
-
--- both tests of the value hold
-abbrev pub is_framed : ℕ → List ℕ → Bool
-is_framed value l = eqb (be_at l 1 2) value && leb (header_length + value) (length l)
-
--- r is what decoding gives where a test fails, whatever the call and the room
-abbrev pub Unframed : ℕ → List ℕ → Decoded → Type 0
-Unframed value l r = is_framed value l ≡ false → (call : Call) (room : ℕ) → r ≡ framed_as value call l room
+framed_as value call l room = unless_refused (value_frame value l) (valued call room)
 
 -- the first call of a list, refused first by its frame
 unfoldable pub decoded_of : List ℕ → ℕ → Decoded
-decoded_of l room = cond (eqb (frame_refusal l) 0) (valued (call_at l) room) (refused_by (frame_refusal l))
+decoded_of l room = unless_refused (frame_refusal l) (valued (call_at l) room)
+
+-- what the code gives of the first call of a list
+abbrev pub decoded : Result Call Undecoded → Decoded
+decoded (Ok call) = record { refusal = 0; call = call }
+decoded (Err (Refused refusal)) = refused_by (refusal_number refusal)
+decoded (Err (NoRoom call)) = record { refusal = answer_too_long; call = call }
 
 -- a call's own refusal where the board decides it: a skip's; 0 for every other call
 abbrev pub board_refusal : Call → Board → ℕ

@@ -2,27 +2,29 @@
 -- how long their values and answers are, follows from one table. The codec of calls is in Codec.
 use Rattle.std.specs.Prelude.{ℕ, ◌+◌, Bool, ◌&&◌, length, get_or, drop, ltb}
 use mathlib.Core.List.{List, [], ◌∷◌, ◌++◌, foldr}
-use Rattle.wide.specs.Number.{value_of}
 use Rattle.wide.specs.Fields.{be_at, be}
+use Rattle.board.specs.declared.refusal.Refusal.TheVariants.{HeaderCut, TagUnknown, LengthWrong, ValueCut, BufferShort}
+use Rattle.board.specs.Refusals.{refusal_number}
+use Rattle.board.specs.CodeCalls.{deadline_members}
 use Rattle.format.specs.declared.Answer.{Answer}
 use Rattle.format.specs.declared.Answer.TheVariants.{Empty, Byte, Deadline, Skip, Pair}
 
 -- ---- refusals
 
 abbrev pub header_cut : ℕ
-header_cut = 2
+header_cut = refusal_number HeaderCut
 
 abbrev pub tag_unknown : ℕ
-tag_unknown = 3
+tag_unknown = refusal_number TagUnknown
 
 abbrev pub length_wrong : ℕ
-length_wrong = 4
+length_wrong = refusal_number LengthWrong
 
 abbrev pub value_cut : ℕ
-value_cut = 5
+value_cut = refusal_number ValueCut
 
 abbrev pub answer_too_long : ℕ
-answer_too_long = 11
+answer_too_long = refusal_number BufferShort
 
 -- ---- the table of members
 
@@ -104,7 +106,7 @@ answer_bytes tag ms = members_bytes (row_of tag).answer ms
 unfoldable pub value_bytes : Answer → List ℕ
 value_bytes Empty = []
 value_bytes (Byte v) = members_bytes (1 ∷ []) (v ∷ [])
-value_bytes (Deadline present exact word) = members_bytes (1 ∷ 16 ∷ 8 ∷ []) (present ∷ value_of exact ∷ word ∷ [])
+value_bytes (Deadline given) = members_bytes (1 ∷ 16 ∷ 8 ∷ []) (deadline_members given)
 value_bytes (Skip passed line) = members_bytes (8 ∷ 1 ∷ []) (passed ∷ line ∷ [])
 value_bytes (Pair a b) = members_bytes (1 ∷ 1 ∷ []) (a ∷ b ∷ [])
 

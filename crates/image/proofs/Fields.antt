@@ -2,6 +2,7 @@
 use Prim.Native.Nat.{ℕ, ◌+◌, ◌-◌, ◌≤◌}
 use native.Mathlib.Nat.{zero-add}
 use native.Mathlib.Omega.{arith}
+use mathlib.Core.Bool.{Bool, true, false}
 use mathlib.Core.Path.{◌≡◌, refl, sym, ap, ap₂, ◌∙◌, subst}
 use mathlib.Core.List.{List, [], ◌∷◌, ◌++◌, map, append_assoc, append-nil}
 use lib.ListN.{length, get_or, take, drop, length-append, length-map, length-drop, drop_of_length-le}
@@ -11,11 +12,13 @@ use Rattle.format.proofs.Frames.{part_rest, sets_then, sets_front, record-length
 use Rattle.channel.specs.declared.HardwareTimer.{HardwareTimer}
 use Rattle.channel.specs.Channel.{fresh_timer}
 use Rattle.clock.specs.Clock.{rate_of}
-use Rattle.board.specs.declared.Latch.TheVariants.{Empty}
-use Rattle.board.specs.declared.Latch.{Latch}
+use mir.Val.{bool_byte}
+use Rattle.std.proofs.Common.{None, Some}
+use Rattle.std.specs.Option.{is_some, unwrap_or}
+use Rattle.board.specs.Fields.{Latch}
 use Rattle.board.specs.declared.CountLatch.{CountLatch}
 use Rattle.board.specs.declared.Board.{Board}
-use Rattle.board.specs.Board.{held_of, held_value}
+use Rattle.board.specs.Board.{held_value}
 use Rattle.board.proofs.Loops.{by_four}
 use Rattle.wide.specs.Bits.{flag_of}
 use Rattle.image.specs.Image.{
@@ -201,25 +204,29 @@ module _ (f : Form) (b : Board) (x y : List ℕ) (room : image_length f ≤ leng
 
 -- no latch
 abbrev none : CountLatch
-none = record { high = Empty }
+none = record { high = None }
 
-abbrev held : List CountLatch → ℕ → ℕ
-held cs k = flag_of (held_of (get_or cs k none).high)
+-- a latch's held flag and value, as the code finds them
+abbrev found : Latch → List ℕ
+found l = bool_byte (is_some l) ∷ unwrap_or l 0 ∷ []
 
-abbrev valued : List CountLatch → ℕ → ℕ
-valued cs k = held_value (get_or cs k none).high
+-- a flag as the byte that the code makes of it
+pub byte_flag : (v : Bool) → bool_byte v ≡ flag_of v
+byte_flag true = refl
+byte_flag false = refl
 
--- its members are those of six latches; the result of the code is a field of these
-pub latches_stored : (cs : List CountLatch) → length cs ≡ 4 → (low high : Latch) (x y : List ℕ)
-    {a1 v1 a2 v2 a3 v3 a4 v4 a5 v5 a6 v6 : ℕ} →
-    a1 ≡ held cs 0 → v1 ≡ valued cs 0 → a2 ≡ held cs 1 → v2 ≡ valued cs 1 →
-    a3 ≡ held cs 2 → v3 ≡ valued cs 2 → a4 ≡ held cs 3 → v4 ≡ valued cs 3 →
-    a5 ≡ flag_of (held_of low) → v5 ≡ held_value low → a6 ≡ flag_of (held_of high) → v6 ≡ held_value high →
+value-is : (l : Latch) → unwrap_or l 0 ≡ held_value l
+value-is None = refl
+value-is (Some v) = refl
+
+-- the members are those of six latches
+pub latches_stored : (cs : List CountLatch) → length cs ≡ 4 → (low high : Latch) (x y : List ℕ) →
     y ≡ sets x latches_at (field_bytes latches_field
-    (a1 ∷ v1 ∷ a2 ∷ v2 ∷ a3 ∷ v3 ∷ a4 ∷ v4 ∷ a5 ∷ v5 ∷ a6 ∷ v6 ∷ [])) →
+    (found (get_or cs 0 none).high ++ found (get_or cs 1 none).high ++ found (get_or cs 2 none).high
+    ++ found (get_or cs 3 none).high ++ found low ++ found high)) →
     y ≡ sets x latches_at (field_bytes latches_field (latches_members (record { counts = cs; low = low; high = high })))
-latches_stored cs four low high x y h1 w1 h2 w2 h3 w3 h4 w4 h5 w5 h6 w6 e =
-    rw (h1, w1, h2, w2, h3, w3, h4, w4, h5, w5, h6, w6) at e
+latches_stored cs four low high x y e =
+    (simp (byte_flag, value-is) at e)
     ∙ ap
     (λ (xs : List CountLatch).
     sets x latches_at (field_bytes latches_field (latches_members (record { counts = xs; low = low; high = high }))))

@@ -1,2 +1,3 @@
 pub mod Tables
+pub mod Taken
 pub mod Fields

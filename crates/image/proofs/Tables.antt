@@ -1,12 +1,11 @@
--- The loop over a table of widths that stores members one behind another. Assumes nothing.
-use Prim.Native.Nat.{ℕ, zero, suc, ◌+◌, ◌≤◌, ◌<◌}
-use native.Mathlib.Numerals.{add-one}
+-- The loop that stores members one behind another, each in its width, and a field of them. Assumes nothing.
+use Prim.Native.Nat.{ℕ, ◌+◌, ◌≤◌}
 use native.Mathlib.Omega.{arith}
 use mathlib.Core.Bool.{true}
-use mathlib.Core.Path.{◌≡◌, refl, sym, ap, ap₂, ◌∙◌}
+use mathlib.Core.Path.{◌≡◌, sym, ap, ap₂, ◌∙◌}
 use mathlib.Core.List.{List, [], ◌∷◌, ◌++◌}
-use lib.ListN.{length, get_or, drop, length-append, drop_of_length-le}
-use lib.Seq.{sets, drop-cons}
+use lib.ListN.{length, length-append}
+use lib.Seq.{sets, length-sets}
 use lib.Dec.{leb}
 use borrow.Author.Tests.{leb-true}
 use Rattle.wide.specs.Fields.{be}
@@ -16,69 +15,43 @@ use Rattle.format.specs.Format.{sum, members_bytes, record_of}
 use Rattle.format.proofs.Frames.{sets_then, members-length}
 use Rattle.image.specs.CodeTables.{up_to_eight}
 
--- ---- widths that are left
-
--- before the width of index i
-pub left : (ws : List ℕ) (i : ℕ) → i < length ws → sum (drop i ws) ≡ get_or ws i 0 + sum (drop (suc i) ws)
-left ws i h = ap sum (drop-cons ws i 0 h)
-
-pub none_left : (ws : List ℕ) (i : ℕ) → length ws ≤ i → drop i ws ≡ []
-none_left ws i h = drop_of_length-le ws h
-
--- each width of a table
-pub width_most : (ws : List ℕ) → up_to_eight ws ≡ true → (i : ℕ) → get_or ws i 0 ≤ 8
-width_most [] e i = omega arith
-width_most (w ∷ ws) e zero = leb-true w 8 (and_parts (leb w 8) (up_to_eight ws) e).0
-width_most (w ∷ ws) e (suc i) = width_most ws (and_parts (leb w 8) (up_to_eight ws) e).1 i
-
 -- ---- storing
 
--- before the member of index i: what is still to be stored, from p on, gives the buffer with all stored
-pub record Storing (ws ms : List ℕ) (at : ℕ) (buf₀ buf : List ℕ) (p i : ℕ) : Type 0 where
-  pub most : i ≤ length ws
-  pub room : p + sum (drop i ws) ≤ length buf
-  pub same : length buf ≡ length buf₀
-  pub stores : sets buf p (members_bytes (drop i ws) (drop i ms)) ≡ sets buf₀ at (members_bytes ws ms)
+-- with these widths and members left, to be stored from p on: they give the buffer with all stored
+pub record Storing (all buf : List ℕ) (p : ℕ) (ws ms : List ℕ) : Type 0 where
+  pub narrow : up_to_eight ws ≡ true
+  pub same : length ms ≡ length ws
+  pub room : p + sum ws ≤ length buf
+  pub stores : sets buf p (members_bytes ws ms) ≡ all
 
-pub storing_begun : (ws ms : List ℕ) (at : ℕ) (buf : List ℕ) → at + sum ws ≤ length buf →
-    Storing ws ms at buf buf at 0
-storing_begun ws ms at buf h = record { most = omega arith; room = h; same = refl; stores = refl }
+module _ (all buf : List ℕ) (p w m : ℕ) (vs ns ws ms : List ℕ) (left : Storing all buf p vs ns)
+    (e : (vs ≡ w ∷ ws) × (ns ≡ m ∷ ms)) where
+  s : Storing all buf p (w ∷ ws) (m ∷ ms)
+  s = rw (e.0, e.1) at left
 
-module _ (ws ms : List ℕ) (at : ℕ) (buf₀ buf : List ℕ) (p i : ℕ) (s : Storing ws ms at buf₀ buf p i) where
   -- there is room for the member
-  pub storing-room : i < length ws → p + get_or ws i 0 ≤ length buf
-  storing-room h = omega (arith, left ws i h, s.room)
+  pub storing-room : (w ≤ 8) × (p + w ≤ length buf)
+  storing-room = (leb-true w 8 (and_parts (leb w 8) (up_to_eight ws) s.narrow).0, omega (arith, s.room))
 
-  -- one member more
-  pub storing-more : i < length ws → length ms ≡ length ws → (buf' : List ℕ) →
-      buf' ≡ sets buf p (be (get_or ws i 0) (get_or ms i 0)) → length buf' ≡ length buf →
-      Storing ws ms at buf₀ buf' (p + get_or ws i 0) (i + 1)
+  -- it is stored
+  pub storing-more : (buf' : List ℕ) → buf' ≡ sets buf p (be w m) → Storing all buf' (p + w) ws ms
   unfolding members_bytes
-  storing-more h l buf' e n =
-      let next : i + 1 ≡ suc i = add-one i in
-      let w = get_or ws i 0 in
-      let v = get_or ms i 0 in
-      let rest = members_bytes (drop (suc i) ws) (drop (suc i) ms) in
-      let whole : members_bytes (drop i ws) (drop i ms) ≡ be w v ++ rest =
-      ap₂ members_bytes (drop-cons ws i 0 h) (drop-cons ms i 0 (omega (arith, l, h))) in
+  storing-more buf' put =
       record {
-        most = omega (arith, h);
-        room =
-            rw next (omega (arith, left ws i h, s.room, n));
-        same = n ∙ s.same;
+        narrow = (and_parts (leb w 8) (up_to_eight ws) s.narrow).1;
+        same = omega (arith, s.same);
+        room = omega (arith, s.room, ap length put, length-sets buf p (be w m));
         stores =
-            ap (λ (k : ℕ). sets buf' (p + w) (members_bytes (drop k ws) (drop k ms))) next
-            ∙ ap (λ (b : List ℕ). sets b (p + w) rest) e
-            ∙ sets_then buf p w (be w v) rest (length-be w v)
-            ∙ ap (sets buf p) (sym whole)
+            ap (λ (b : List ℕ). sets b (p + w) (members_bytes ws ms)) put
+            ∙ sets_then buf p w (be w m) (members_bytes ws ms) (length-be w m)
             ∙ s.stores;
       }
 
-  -- after the last member
-  pub storing-ended : length ws ≤ i → buf ≡ sets buf₀ at (members_bytes ws ms)
-  unfolding members_bytes
-  storing-ended h =
-      ap (λ (x : List ℕ). sets buf p (members_bytes x (drop i ms))) (sym (none_left ws i h)) ∙ s.stores
+-- none is left
+pub storing-ended : (all buf : List ℕ) (p : ℕ) (ws ms : List ℕ) → Storing all buf p ws ms → ws ≡ [] → buf ≡ all
+unfolding members_bytes
+storing-ended all buf p [] ms s e = s.stores
+storing-ended all buf p (w ∷ ws) ms s e = absurd (omega (arith, ap length e))
 
 -- a tag, a length, and members right behind them are a field
 pub record-stored : (x y z u : List ℕ) (at tag size : ℕ) (ws ms : List ℕ) → y ≡ sets x at (be 1 tag) →

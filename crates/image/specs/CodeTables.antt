@@ -1,6 +1,7 @@
 -- Not sentences of S-1 or S-8 but what the code uses: its tables of widths, the channels' fields together, where the
 -- others begin, and the bytes ahead of S-1's fields.
-use Rattle.std.specs.Prelude.{ℕ, ◌+◌, ◌<◌, ◌≡◌, List, [], ◌∷◌, map, Bool, true, ◌&&◌, length, leb}
+use Rattle.std.specs.Prelude.{ℕ, suc, ◌+◌, ◌^◌, ◌<◌, List, [], ◌∷◌, map, Bool, true, ◌&&◌, get_or, leb, eqb}
+use Rattle.wide.specs.Fields.{be_at}
 use Rattle.channel.specs.declared.HardwareTimer.{HardwareTimer}
 use Rattle.format.specs.Format.{header_length, members_at}
 use Rattle.image.specs.declared.Form.{Form}
@@ -24,11 +25,14 @@ abbrev pub up_to_eight : List ℕ → Bool
 up_to_eight [] = true
 up_to_eight (w ∷ ws) = leb w 8 && up_to_eight ws
 
--- a table of widths, and as many members
-pub record Laid (ws ms : List ℕ) : Type 0 where
-  pub most : up_to_eight ws ≡ true
-  pub same : length ms ≡ length ws
-  pub few : length ws < 256
+-- a field's tag and length are at an index
+abbrev pub header_at : List ℕ → ℕ → ℕ → ℕ → Bool
+header_at l at tag size = eqb (be_at l at 1) tag && eqb (be_at l (at + 1) 2) size
+
+-- the members from index k on are each within their width
+abbrev pub FitFrom : ℕ → List ℕ → List ℕ → Type 0
+FitFrom k [] ms = Unit {0}
+FitFrom k (w ∷ ws) ms = (get_or ms k 0 < 256 ^ w) × FitFrom (suc k) ws ms
 
 -- the fields of the four channels
 abbrev pub channels : List Field

@@ -3,7 +3,7 @@
 -- document 01's order and widths, big-endian.' S-8, 'Parked boards with a rate': this is the old form, and 'The new
 -- form begins with a field, tag 24, four bytes of rate.'
 use Rattle.std.specs.Prelude.{ℕ, ◌+◌, Bool, true, cond, ◌&&◌, ◌||◌, List, [], ◌∷◌, ◌++◌, map, length, get_or, drop}
-use Rattle.std.specs.Prelude.{leb, eqb}
+use Rattle.std.specs.Prelude.{leb, eqb, None, Some}
 use Rattle.wide.specs.Bits.{flag_of}
 use Rattle.wide.specs.Fields.{be_at}
 use Rattle.format.specs.Format.{sum, header_length, members_at, members_bytes, record_of}
@@ -12,11 +12,10 @@ use Rattle.clock.specs.declared.Clock.{Clock}
 use Rattle.clock.specs.Clock.{rate_of}
 use Rattle.clock.specs.Fields.{fresh_rate}
 use Rattle.controller.specs.declared.IrqController.{IrqController}
-use Rattle.board.specs.declared.Latch.{Latch}
-use Rattle.board.specs.declared.Latch.TheVariants.{Empty, Held}
 use Rattle.board.specs.declared.CountLatch.{CountLatch}
 use Rattle.board.specs.declared.Latches.{Latches}
 use Rattle.board.specs.declared.Board.{Board}
+use Rattle.board.specs.Fields.{Latch}
 use Rattle.board.specs.Board.{held_of, held_value}
 use Rattle.image.specs.declared.Form.{Form}
 use Rattle.image.specs.declared.Form.TheVariants.{Old, New}
@@ -231,7 +230,7 @@ clock_from rate ms =
 
 -- the latch of a held flag and a value
 abbrev pub latch_from : ℕ → ℕ → Latch
-latch_from held value = cond (flag_is held) (Held value) Empty
+latch_from held value = cond (flag_is held) (Some value) None
 
 abbrev pub latches_from : List ℕ → Latches
 latches_from ms =

@@ -2,6 +2,7 @@
 use mathlib.Core.Path.{◌≡◌, ap, subst}
 use mathlib.Core.Bool.{true}
 use mathlib.Core.List.{List}
+use Rattle.std.specs.Prelude.{Ok}
 use Prim.Native.Nat.{ℕ, ◌+◌, ◌-◌, ◌≤◌, ◌<◌}
 use lib.ListN.{length, take, drop}
 use Rattle.board.specs.declared.Board.{Board}
@@ -17,8 +18,8 @@ use Rattle.format.proofs.Frames.{part_rest}
 use Rattle.steps.specs.declared.Step.{Step}
 use Rattle.steps.specs.declared.Changes.{Changes}
 use Rattle.steps.specs.CodeSteps.{StepIs, Changed, other_call}
-use Rattle.list.specs.declared.Outcome.{Outcome}
-use Rattle.list.proofs.Runs.{Running, state_of, used-inside, written-inside}
+use Rattle.list.specs.Run.{Outcome}
+use Rattle.list.proofs.Runs.{Running, state_of, written-inside}
 use Rattle.steps.proofs.Calls.{Other, OtherDoes, other_does, other_size}
 
 -- what is left of the list, as the code takes it
@@ -30,11 +31,12 @@ pub record At (list answers₀ : List ℕ) (s₀ : Outcome) (answers : List ℕ)
     (step : Step) : Type 0 where
   pub running : Running list answers₀ s₀ answers (state_of b calls used written)
   pub more : used < length list
-  pub is : StepIs b (rest list used) (length answers - written) step
+  pub is : StepIs b (rest list used) (length answers - written) (Ok step)
 
 pub at_step : {list answers₀ : List ℕ} {s₀ : Outcome} {answers : List ℕ} {b : Board} {calls used written : ℕ} →
     Running list answers₀ s₀ answers (state_of b calls used written) → used < length list → (step : Step) →
-    StepIs b (rest list used) (length answers - written) step → At list answers₀ s₀ answers b calls used written step
+    StepIs b (rest list used) (length answers - written) (Ok step) →
+    At list answers₀ s₀ answers b calls used written step
 at_step r m step i = record { running = r; more = m; is = i }
 
 module _ {list answers₀ : List ℕ} {s₀ : Outcome} {answers : List ℕ} {b : Board} {calls used written : ℕ} {step : Step}
@@ -49,14 +51,11 @@ module _ {list answers₀ : List ℕ} {s₀ : Outcome} {answers : List ℕ} {b :
   timed = sound_times _ u.running.good.fits.clock board_sound
 
   -- the step, as an arm has it
-  pub accepts : (s : Step) → step ≡ s → StepIs b (rest list used) (length answers - written) s
-  accepts s e = subst (StepIs b (rest list used) (length answers - written)) e u.is
+  pub accepts : (s : Step) → step ≡ s → StepIs b (rest list used) (length answers - written) (Ok s)
+  accepts s e = subst (λ (x : Step). StepIs b (rest list used) (length answers - written) (Ok x)) e u.is
 
   module _ (z : refusal_at b (rest list used) (length answers - written) ≡ 0) where
-    -- it is inside the list, and its answer inside the buffer
-    pub call-inside : used + call_length (call_at (rest list used)) ≤ length list
-    call-inside = used-inside _ _ _ _ _ _ _ _ u.running u.more _ rest_is z
-
+    -- its answer is inside the buffer
     pub answer-inside : written + record_length (call_at (rest list used)) ≤ length answers
     answer-inside = written-inside _ _ _ _ _ _ _ _ u.running u.more _ rest_is z
 

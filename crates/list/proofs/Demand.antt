@@ -20,8 +20,7 @@ use Rattle.board.proofs.Answers.{answer-accepted}
 use Rattle.format.specs.Format.{members_bytes, answer_bytes, record_of}
 use Rattle.format.specs.Codec.{frame_refusal, call_length, answer_record}
 use Rattle.format.proofs.Frames.{framed}
-use Rattle.list.specs.declared.Outcome.{Outcome}
-use Rattle.list.specs.Run.{Result, done, refused, result_of, stepped, Run, run_on, nothing_done, run_of}
+use Rattle.list.specs.Run.{Outcome, Result, done, refused, result_of, stepped, Run, run_on, nothing_done, run_of}
 use Rattle.list.specs.Demand.{FrontIs, ListIs}
 use Rattle.list.proofs.Results.{done_placed, done_fits}
 use Rattle.list.proofs.Runs.{go_on, stop_at}

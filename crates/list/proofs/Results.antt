@@ -15,8 +15,7 @@ use Rattle.registers.proofs.Kept.{call_keeps}
 use Rattle.format.specs.Codec.{call_at, call_length, answer_record, refusal_at}
 use Rattle.format.proofs.Frames.{call_length_lem, call_fits, answer_size}
 use Rattle.format.proofs.Decoding.{Clear, clear}
-use Rattle.list.specs.declared.Outcome.{Outcome}
-use Rattle.list.specs.Run.{Result, done, refused, result_of, stepped}
+use Rattle.list.specs.Run.{Outcome, Result, done, refused, result_of, stepped}
 
 module _ (b : Board) (l : List ℕ) (room : ℕ) where
   pub result-refused : (n : ℕ) → n ≡ refusal_at b l room → eqb n 0 ≡ false → result_of b l room ≡ refused n

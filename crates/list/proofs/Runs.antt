@@ -11,8 +11,7 @@ use lib.Seq.{sets, length-sets, drop-drop, get_or-drop}
 use Rattle.board.specs.declared.Board.{Board}
 use Rattle.clock.specs.Clock.{rate_of}
 use Rattle.board.specs.Kept.{Good}
-use Rattle.list.specs.declared.Outcome.{Outcome}
-use Rattle.list.specs.Run.{Result, done, refused, result_of, stepped, Run, run_on, over}
+use Rattle.list.specs.Run.{Outcome, Result, done, refused, result_of, stepped, Run, run_on, over}
 use Rattle.board.specs.Calls.{board_after}
 use Rattle.registers.proofs.Kept.{call_keeps}
 use Rattle.format.specs.Codec.{call_at, call_length, answer_record, record_length, refusal_at}

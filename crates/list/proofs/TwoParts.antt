@@ -14,9 +14,8 @@ use Rattle.board.specs.Board.{BoardFits, sound}
 use Rattle.clock.specs.Clock.{rate_of}
 use Rattle.board.specs.Kept.{Good}
 use Rattle.board.proofs.Good.{good, good-sound}
-use Rattle.list.specs.declared.Outcome.{Outcome}
 use Rattle.format.specs.Codec.{frame_refusal, refusal_at}
-use Rattle.list.specs.Run.{Result, done, refused, result_of, stepped, Run, run_on, nothing_done, run_of, over}
+use Rattle.list.specs.Run.{Outcome, Result, done, refused, result_of, stepped, Run, run_on, nothing_done, run_of, over}
 use Rattle.list.specs.Run.{behind, joined}
 use Rattle.format.proofs.Frames.{frame-before, call-before}
 use Rattle.list.proofs.Results.{refused_numbered, done_placed, done_fits, step_good}

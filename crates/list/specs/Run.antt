@@ -4,7 +4,8 @@ use Rattle.board.specs.declared.Board.{Board}
 use Rattle.board.specs.Board.{sound}
 use Rattle.board.specs.Calls.{not_sound, board_after}
 use Rattle.format.specs.Codec.{call_at, call_length, answer_record, refusal_at}
-use Rattle.list.specs.declared.Outcome.{Outcome}
+use Rattle.board.specs.Refusals.{refusal_code}
+use Rattle.list.specs.declared.Outcome.{Outcome as Ended}
 
 -- ---- one call
 
@@ -22,6 +23,26 @@ result_of b l room =
     (refused (refusal_at b l room))
 
 -- ---- a run
+
+-- a run's result: its board, the calls done, the list bytes that they used, the answer bytes, and the refusal, 0 for
+-- none
+pub record Outcome : Type 0 where
+  pub board : Board
+  pub calls : ℕ
+  pub used : ℕ
+  pub written : ℕ
+  pub refusal : ℕ
+
+-- what the code's result stands for
+abbrev pub outcome_of : Ended → Outcome
+outcome_of e =
+    record {
+      board = e.board;
+      calls = e.calls;
+      used = e.used;
+      written = e.written;
+      refusal = refusal_code e.end;
+    }
 
 -- the run so far after one more call; a refused call changes only the refusal
 unfoldable pub stepped : Outcome → Result → Outcome

@@ -4,56 +4,57 @@
 #![tactic(auto)]
 
 ghost use Rattle.std.specs.Prelude.{◌≡◌, length};
-ghost use Rattle.list.specs.Run.{run_of, over};
+ghost use Rattle.board.specs.Refusals.{refusal_code};
+ghost use Rattle.list.specs.Run.{outcome_of, run_of, over};
 
 use board::Board;
-use channel::{ChannelNumber, Cycles};
+use board::refusal::Refusal;
+use channel::ChannelNumber;
+use format::tag::Tag;
 use registers::writes::WritePart;
 use registers::{reads, writes};
 use regmap::writes::acknowledged;
 use steps::Step;
 
-// The number of bytes of a read and of its record, and of a write and of its record.
-const READ_CALL: usize = 5;
-
-const READ_RECORD: usize = 4;
-
-const WRITE_CALL: usize = 6;
-
-const WRITE_RECORD: usize = 3;
-
-// The board after a run, the calls done, the list bytes that they used, the answer bytes, and the refusal, 0 for none.
+// The board after a run, the calls done, the list bytes that they used, the answer bytes, and how the run ended: at
+// the end of its list, or at a refusal.
 #[derive(Clone, Copy)]
 pub struct Outcome {
     pub board: Board,
     pub calls: usize,
     pub used: usize,
     pub written: usize,
-    pub refusal: u8,
+    pub end: Result<(), Refusal>,
 }
 
 // A run's result.
-fn stopped(board: Board, calls: usize, used: usize, written: usize, refusal: u8) -> Outcome
-    ensures { result
-        ≡ record { board = board; calls = calls; used = used; written = written; refusal = refusal } }
+fn stopped(
+    board: Board,
+    calls: usize,
+    used: usize,
+    written: usize,
+    end: Result<(), Refusal>,
+) -> Outcome
+    ensures { outcome_of result
+        ≡ record { board = board; calls = calls; used = used; written = written; refusal = refusal_code end } }
 {
     Outcome {
         board,
         calls,
         used,
         written,
-        refusal,
+        end,
     }
 }
 
 // Runs a list of calls over a board, and writes their answers into a buffer.
 pub fn run(board: Board, list: &[u8], answers: &mut [u8]) -> Outcome
-    ensures value { result ≡ (run_of board list.now (length answers.old)).outcome }
+    ensures value { outcome_of result ≡ (run_of board list.now (length answers.old)).outcome }
     ensures answers_after { answers.new
         ≡ over (run_of board list.now (length answers.old)).answers answers.old }
 {
     if !board.sound() {
-        return stopped(board, 0, 0, 0, Board::NOT_SOUND);
+        return stopped(board, 0, 0, 0, Err(Refusal::NotSound));
     }
     let mut b = board;
     let mut calls = 0;
@@ -61,11 +62,13 @@ pub fn run(board: Board, list: &[u8], answers: &mut [u8]) -> Outcome
     let mut written = 0;
     while used < list.len() {
         let rest = &list[used..];
-        let step = steps::step_of(b, rest, answers.len() - written);
+        let step = match steps::step_of(b, rest, answers.len() - written) {
+            Ok(step) => step,
+            Err(refusal) => return stopped(b, calls, used, written, Err(refusal)),
+        };
         let mut size = 0;
         let mut moved = false; // whether the line can have moved
         match step {
-            Step::Refused(refusal) => return stopped(b, calls, used, written, refusal),
             Step::Read(offset) => {
                 let i = reads::channel_index(offset);
                 let timer = b.timers[i]; // here, because an array that is passed on to be indexed is copied
@@ -84,8 +87,8 @@ pub fn run(board: Board, list: &[u8], answers: &mut [u8]) -> Outcome
                     moved = r.rose;
                     steps::put_byte(answers, written, r.byte);
                 }
-                used += READ_CALL;
-                size = READ_RECORD;
+                used += Tag::Read.call_length();
+                size = Tag::Read.record_length();
             }
             Step::Write(byte, offset) => {
                 match writes::part_at(offset) {
@@ -110,32 +113,33 @@ pub fn run(board: Board, list: &[u8], answers: &mut [u8]) -> Outcome
                         moved = writes::at_control(offset);
                     }
                 }
-                format::put_header(answers, written, 3, 0);
-                used += WRITE_CALL;
-                size = WRITE_RECORD;
+                format::put_header(answers, written, Tag::Write);
+                used += Tag::Write.call_length();
+                size = Tag::Write.record_length();
             }
-            Step::Pass(counted, cycles) => {
-                steps::put_begun(answers, written, counted, cycles);
+            Step::Pass(passing, cycles) => {
+                steps::put_begun(answers, written, passing, cycles);
                 let enable = b.timer_enable;
                 for i in 0..Board::CHANNELS {
                     let timer = b.timers[i];
                     let selected = ChannelNumber(i as u8).selected(enable);
                     if timer.runs(selected) {
-                        let after = timer.advance_cycles(selected, Cycles(cycles));
+                        let after = timer.advance_cycles(selected, cycles);
                         let timer_after = after.timer;
                         b.timers[i] = timer_after;
                         let points = after.matches;
-                        steps::put_points(answers, written, counted, i, points);
+                        steps::put_points(answers, written, passing, i, points);
                     }
                 }
-                let later = b.clock.advance(Cycles(cycles));
+                let later = b.clock.advance(cycles);
                 b.clock = later;
                 let line = b.line();
                 let set = b.controller_wired(line);
                 b.controller = set;
-                steps::put_passed(answers, written, counted, line);
-                used += steps::pass_length(counted);
-                size = steps::pass_record(counted);
+                steps::put_passed(answers, written, passing, line);
+                let tag = passing.tag();
+                used += tag.call_length();
+                size = tag.record_length();
             }
             _ => {
                 let c = steps::changes_of(b, step);
@@ -144,8 +148,9 @@ pub fn run(board: Board, list: &[u8], answers: &mut [u8]) -> Outcome
                 let after = c.controller;
                 b.controller = after;
                 steps::put_other(answers, written, step, c);
-                used += steps::call_length(step);
-                size = steps::record_length(step);
+                let tag = steps::tag_of(step);
+                used += tag.call_length();
+                size = tag.record_length();
             }
         }
         if moved {
@@ -155,5 +160,5 @@ pub fn run(board: Board, list: &[u8], answers: &mut [u8]) -> Outcome
         calls += 1;
         written += size;
     }
-    stopped(b, calls, used, written, 0)
+    stopped(b, calls, used, written, Ok(()))
 }

@@ -2,12 +2,22 @@
 use Prim.Native.Nat.{ℕ, ◌-◌, ◌≤◌}
 use native.Mathlib.Omega.{arith}
 use mathlib.Core.Path.{◌≡◌, refl, sym, ap, ap₂, ◌∙◌}
-use mathlib.Core.Bool.{Bool, true, false, ◌&&◌, and-true, and_assoc}
-use mathlib.Core.List.{List, [], ◌++◌}
+use mathlib.Core.Bool.{Bool, true, false, cond, ◌&&◌, and-true}
+use Rattle.std.proofs.Common.{Some, None, Ok, Err}
+use Rattle.std.specs.Option.{ok_or}
+use Rattle.board.specs.declared.refusal.Refusal.{Refusal}
+use Rattle.board.specs.Refusals.{refusal_number}
+use Rattle.std.proofs.lemmas.Option.{cond_some}
+use Rattle.channel.specs.declared.HardwareTimer.{HardwareTimer}
+use Rattle.clock.specs.declared.Clock.{Clock}
+use Rattle.controller.specs.declared.IrqController.{IrqController}
+use Rattle.parking.specs.declared.get.LatchesSaid.{LatchesSaid}
+use Rattle.parking.specs.declared.get.BoardSaid.{BoardSaid}
+use mathlib.Core.List.{List, [], ◌∷◌, ◌++◌}
 use lib.ListN.{length, get_or, take, drop}
 use lib.Seq.{sets}
 use lib.Dec.{ltb, eqb}
-use borrow.Author.Tests.{eq-eqb, ne_eqb, ltb-false}
+use borrow.Author.Tests.{eq-eqb, eqb-false, ltb-false}
 use Rattle.format.proofs.Frames.{part_rest, sets_front}
 use Rattle.wide.proofs.Choices.{choose, either}
 use Rattle.clock.specs.Clock.{rate_of}
@@ -15,8 +25,8 @@ use Rattle.clock.specs.Fields.{fresh_rate}
 use Rattle.board.specs.declared.Board.{Board}
 use Rattle.board.specs.Fields.{fresh_board}
 use Rattle.board.specs.Board.{sound}
-use Rattle.board.specs.Calls.{not_sound, another_rate}
-use Rattle.board.proofs.Answers.{accepted_sound}
+use Rattle.board.specs.Calls.{not_sound, another_rate, refusal_of}
+use Rattle.board.proofs.Answers.{accepted_sound, some_refusal, unsound_first}
 use Rattle.image.specs.Image.{
   Field,
   channel_field,
@@ -31,7 +41,11 @@ use Rattle.image.specs.Image.{
   fields_at,
   formed,
   members_from,
+  timer_from,
+  clock_from,
+  latches_from,
   empties_hold0,
+  controller_from,
   board_from,
 }
 use Rattle.image.specs.CodeTables.{members_in}
@@ -47,6 +61,7 @@ use Rattle.parking.specs.Parking.{
   buffer_after,
   image_malformed,
   said,
+  empties_in,
   board_in,
   sound_in,
   form_refusal,
@@ -60,29 +75,85 @@ use Rattle.image.proofs.Fields.{image-length}
 use Rattle.parking.proofs.Shifted.{said-behind, formed-behind}
 use Rattle.parking.proofs.RoundTrip.{formed_not}
 
+-- ---- refusals
+
+-- a value that the code looks for: where it is not there, the test fails and the refusal is this one
+pub none_found : {A : Type 0} (v : Bool) (x : A) (e d : Refusal) → Err d ≡ ok_or (cond v (Some x) None) e →
+    (v ≡ false) × (d ≡ e)
+none_found true x e d h = absurd cc
+none_found false x e d h = (refl, cc)
+
+pub one_found : {A : Type 0} (v : Bool) (x y : A) (e : Refusal) → Ok y ≡ ok_or (cond v (Some x) None) e →
+    (v ≡ true) × (y ≡ x)
+one_found true x y e h = (refl, cc)
+one_found false x y e h = absurd cc
+
+-- of a board that is not sound
+pub unsound_found : (b : Board) (d : Refusal) → refusal_number d ≡ refusal_of b 0 →
+    (sound b ≡ false) × (refusal_number d ≡ not_sound)
+unsound_found b d e =
+    either (sound b)
+    (λ s. let z : refusal_number d ≡ 0 = e ∙ rw s refl in
+    absurd (eqb-false (refusal_number d) 0 (some_refusal d) z))
+    (λ s. (s, e ∙ rw s refl))
+
 -- ---- the form of an image
+
+-- the board of what is read of each field
+abbrev said_by : (a b c d : HardwareTimer) → ℕ × Clock → LatchesSaid → IrqController → BoardSaid
+said_by a b c d k x q =
+    record {
+      empties_hold_0 = x.empties_hold_0;
+      board =
+          record {
+            timers = a ∷ b ∷ c ∷ d ∷ [];
+            timer_enable = k.0;
+            clock = k.1;
+            latches = x.latches;
+            controller = q;
+          };
+    }
 
 module _ (l : List ℕ) where
   abbrev at : ℕ → Field → Bool
   at k f = field_at l k f
 
-  chain : (a b c d k t q : Bool) →
-      (((a && b) && (c && d)) && (k && (t && q))) ≡ (a && (b && (c && (d && (k && (t && q))))))
-  chain a b c d k t q =
-      and_assoc (a && b) (c && d) (k && (t && q))
-      ∙ and_assoc a b ((c && d) && (k && (t && q)))
-      ∙ ap (λ v. a && (b && v)) (and_assoc c d (k && (t && q)))
-
   -- seven fields, where the bytes are as many as an image of the old form has
   pub formed-is : length l ≡ image_length Old →
-      (((at 0 channel_field && at 38 channel_field) && (at 76 channel_field && at 114 channel_field))
-      && (at 152 clock_field && (at 227 latches_field && at 260 controller_field)))
+      (at 0 channel_field && (at 38 channel_field && (at 76 channel_field && (at 114 channel_field
+      && (at 152 clock_field && (at 227 latches_field && at 260 controller_field))))))
       ≡ formed Old l
   unfolding fields_at
-  formed-is e =
-      chain (at 0 channel_field) (at 38 channel_field) (at 76 channel_field) (at 114 channel_field) (at 152 clock_field)
-      (at 227 latches_field) (at 260 controller_field)
-      ∙ rw (eq-eqb (length l) 269 e, and-true)
+  formed-is e = rw (eq-eqb (length l) 269 e, and-true)
+
+  -- so the board is there where they all are
+  pub board-read : length l ≡ image_length Old → (rate : ℕ) (a b c d : HardwareTimer) (k : ℕ × Clock)
+      (x : LatchesSaid) (q : IrqController) →
+      Some a ≡ cond (at 0 channel_field) (Some (timer_from (members_in channel_field l 0))) None →
+      Some b ≡ cond (at 38 channel_field) (Some (timer_from (members_in channel_field l 38))) None →
+      Some c ≡ cond (at 76 channel_field) (Some (timer_from (members_in channel_field l 76))) None →
+      Some d ≡ cond (at 114 channel_field) (Some (timer_from (members_in channel_field l 114))) None →
+      Some k ≡ cond (at 152 clock_field)
+      (Some (get_or (members_in clock_field l 152) 0 0, clock_from rate (members_in clock_field l 152))) None →
+      Some x ≡ cond (at 227 latches_field)
+      (Some (record {
+        empties_hold_0 = empties_hold0 (members_in latches_field l 227);
+        latches = latches_from (members_in latches_field l 227);
+      })) None →
+      Some q ≡ cond (at 260 controller_field) (Some (controller_from (members_in controller_field l 260))) None →
+      Some (said_by a b c d k x q)
+      ≡ cond (formed Old l)
+      (Some (record { empties_hold_0 = empties_in Old l; board = board_from rate (said Old l) })) None
+  unfolding board_from members_from
+  board-read long rate a b c d k x q e₁ e₂ e₃ e₄ e₅ e₆ e₇ =
+      let s₁ = cond_some _ _ _ (sym e₁) in
+      let s₂ = cond_some _ _ _ (sym e₂) in
+      let s₃ = cond_some _ _ _ (sym e₃) in
+      let s₄ = cond_some _ _ _ (sym e₄) in
+      let s₅ = cond_some _ _ _ (sym e₅) in
+      let s₆ = cond_some _ _ _ (sym e₆) in
+      let s₇ = cond_some _ _ _ (sym e₇) in
+      rw (← formed-is long, s₁.0, s₂.0, s₃.0, s₄.0, s₅.0, s₆.0, s₇.0) cc
 
 -- in the new form, the rate's field, and behind it the bytes of the old
 module _ (l : List ℕ) (long : length l ≡ image_length New) where
@@ -95,16 +166,22 @@ module _ (l : List ℕ) (long : length l ≡ image_length New) where
   rest-said : said Old rest ≡ members_from l 7 layout
   rest-said = ap (said Old) (part_rest l 7) ∙ said-behind l 7 0 layout
 
-  pub new-read : (rate : ℕ) (ahead : Bool) → rate ≡ get_or (members_in rate_field l 0) 0 0 →
-      ahead ≡ field_at l 0 rate_field → members_read New rate (ahead && formed Old rest) (said Old rest)
-      ≡ reading_in New l
+  -- with its first field
+  pub new-read : (rate : ℕ) → field_at l 0 rate_field ≡ true → rate ≡ get_or (members_in rate_field l 0) 0 0 →
+      members_read New rate (formed Old rest) (said Old rest) ≡ reading_in New l
   unfolding reading_in form_refusal members_read fields_at members_from
-  new-read rate ahead r e =
-      ap (λ (n : ℕ). members_read New n (ahead && formed Old rest) (said Old rest)) r
-      ∙ ap₂ (members_read New (get_or (members_in rate_field l 0) 0 0)) (ap₂ ◌&&◌ e rest-formed) rest-said
+  new-read rate e r =
+      ap₂ (members_read New rate) rest-formed rest-said
+      ∙ ap (λ (n : ℕ). members_read New n (fields_at l 7 layout) (members_from l 7 layout)) r
+      ∙ rw e refl
+
+  -- without it
+  pub new-missing : field_at l 0 rate_field ≡ false → formed New l ≡ false
+  unfolding fields_at
+  new-missing e = rw e refl
 
 -- in the old form nothing stands ahead
-pub old_read : (l : List ℕ) → members_read Old fresh_rate (true && formed Old l) (said Old l) ≡ reading_in Old l
+pub old_read : (l : List ℕ) → members_read Old fresh_rate (formed Old l) (said Old l) ≡ reading_in Old l
 unfolding reading_in form_refusal members_read
 old_read l = refl
 
@@ -118,22 +195,24 @@ module _ (f : Form) (rate : ℕ) (form : Bool) (mss : List (List ℕ)) where
   unfolding members_read
   members-malformed e = rw e
 
-  module _ (h : form ≡ true) (v s : Bool) (b : Board) (empties : v ≡ empties_hold0 (get_or mss 5 []))
-      (said-board : b ≡ board_from rate mss) (sounds : s ≡ sound b) where
-    tested : (v && s) ≡ (empties_hold0 (get_or mss 5 []) && sound (board_from rate mss))
-    tested = ap₂ ◌&&◌ empties (sounds ∙ ap sound said-board)
-
-    -- 1
-    pub members-unsound : (v && s) ≡ false →
+  module _ (h : form ≡ true) (v : Bool) (empties : v ≡ empties_hold0 (get_or mss 5 [])) where
+    -- 1, by an empty latch that does not hold 0
+    pub members-kept : v ≡ false →
         record { board = fresh_board; form = default_form; refusal = not_sound } ≡ members_read f rate form mss
     unfolding members_read
-    members-unsound e = rw (h, sym tested ∙ e)
+    members-kept e = rw (h, sym empties ∙ e)
 
-    pub members-accepted : (v && s) ≡ true →
-        record { board = b; form = f; refusal = 0 } ≡ members_read f rate form mss
-    unfolding members_read
-    members-accepted e =
-        ap (λ (x : Board). record { board = x; form = f; refusal = 0 }) said-board ∙ rw (h, sym tested ∙ e) refl
+    module _ (t : v ≡ true) (b : Board) (said-board : b ≡ board_from rate mss) where
+      -- 1, by the board
+      pub members-unsound : sound b ≡ false →
+          record { board = fresh_board; form = default_form; refusal = not_sound } ≡ members_read f rate form mss
+      unfolding members_read
+      members-unsound e = rw (h, sym empties ∙ t, ← said-board, e)
+
+      pub members-accepted : sound b ≡ true →
+          record { board = b; form = f; refusal = 0 } ≡ members_read f rate form mss
+      unfolding members_read
+      members-accepted e = rw (h, sym empties ∙ t, ← said-board, e)
 
 -- bytes that are not formed so
 pub reading_malformed : (f : Form) (l : List ℕ) → formed f l ≡ false →
@@ -161,13 +240,24 @@ module _ (l : List ℕ) where
 
 -- ---- a writing
 
-module _ (f : Form) (b : Board) (old : List ℕ) (r : ℕ) (told : r ≡ writing_refusal f b (length old)) where
-  -- refused
-  module _ (n : r ≡ 0 → ⊥) where
-    other : eqb (writing_refusal f b (length old)) 0 ≡ false
-    other = ap (λ (k : ℕ). eqb k 0) (sym told) ∙ ne_eqb r 0 n
+module _ (f : Form) (b : Board) (old : List ℕ) where
+  -- 1 comes first
+  pub writing-unsound : (d : Refusal) → refusal_number d ≡ refusal_of b 0 →
+      refusal_number d ≡ writing_refusal f b (length old)
+  writing-unsound d e = unsound_first b _ d e
 
-    pub writing-refused : record { board = b; refusal = r; written = 0 } ≡ writing_of f b (length old)
+  -- then what refuses a sound board
+  pub writing-own : sound b ≡ true → (r : ℕ) → r ≡ parking_refusal f (rate_of b.clock) (length old) →
+      r ≡ writing_refusal f b (length old)
+  writing-own s r e = e ∙ rw s refl
+
+  -- refused
+  module _ (d : Refusal) (told : refusal_number d ≡ writing_refusal f b (length old)) where
+    other : eqb (writing_refusal f b (length old)) 0 ≡ false
+    other = ap (λ (k : ℕ). eqb k 0) (sym told) ∙ some_refusal d
+
+    pub writing-refused :
+        record { board = b; refusal = refusal_number d; written = 0 } ≡ writing_of f b (length old)
     unfolding writing_of
     writing-refused = rw (other, told)
 
@@ -176,27 +266,27 @@ module _ (f : Form) (b : Board) (old : List ℕ) (r : ℕ) (told : r ≡ writing
     buffer-left = rw other
 
   -- accepted
-  module _ (z : r ≡ 0) where
+  module _ (z : 0 ≡ writing_refusal f b (length old)) where
     none : eqb (writing_refusal f b (length old)) 0 ≡ true
-    none = ap (λ (k : ℕ). eqb k 0) (sym told) ∙ eq-eqb r 0 z
+    none = eq-eqb _ 0 (sym z)
 
     pub writing-accepted : record { board = b; refusal = 0; written = image_length f } ≡ writing_of f b (length old)
     unfolding writing_of
-    writing-accepted = rw (none, ← told, z)
+    writing-accepted = rw (none, ← z)
 
     -- then the board is sound, the form takes its rate, and there is room
-    pub writing-sound : sound b ≡ true
-    writing-sound = accepted_sound b (parking_refusal f (rate_of b.clock) (length old)) (sym told ∙ z)
+    writing-sound : sound b ≡ true
+    writing-sound = accepted_sound b (parking_refusal f (rate_of b.clock) (length old)) (sym z)
 
     pub writing-rate : form_takes f (rate_of b.clock) ≡ true
     writing-rate =
         either (form_takes f (rate_of b.clock)) (λ h. h)
-        (λ h. let other : ◌≡◌ {A = ℕ} 16 0 = rw (writing-sound, h) at (sym told ∙ z) in absurd (omega (arith, other)))
+        (λ h. let other : ◌≡◌ {A = ℕ} 16 0 = rw (writing-sound, h) at (sym z) in absurd (omega (arith, other)))
 
-    pub writing-room : image_length f ≤ length old
+    writing-room : image_length f ≤ length old
     writing-room =
         either (ltb (length old) (image_length f))
-        (λ h. let short : ◌≡◌ {A = ℕ} 11 0 = rw (writing-sound, writing-rate, h) at (sym told ∙ z) in
+        (λ h. let short : ◌≡◌ {A = ℕ} 11 0 = rw (writing-sound, writing-rate, h) at (sym z) in
         absurd (omega (arith, short)))
         (λ h. ltb-false (length old) (image_length f) h)
 

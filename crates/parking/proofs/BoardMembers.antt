@@ -23,8 +23,8 @@ use Rattle.clock.proofs.Rate.{of_three, rate-fits}
 use Rattle.clock.proofs.Soundness.{GoodClock}
 use Rattle.controller.specs.declared.IrqController.{IrqController}
 use Rattle.controller.specs.Controller.{ControllerFits}
-use Rattle.board.specs.declared.Latch.{Latch}
-use Rattle.board.specs.declared.Latch.TheVariants.{Empty, Held}
+use Rattle.std.proofs.Common.{None, Some}
+use Rattle.board.specs.Fields.{Latch}
 use Rattle.board.specs.declared.CountLatch.{CountLatch}
 use Rattle.board.specs.declared.Latches.{Latches}
 use Rattle.board.specs.declared.Board.{Board}
@@ -84,8 +84,8 @@ flag_same (suc (suc n)) h = absurd (omega (arith, h))
 -- ---- latches
 
 latch_back : (l : Latch) → latch_from (flag_of (held_of l)) (held_value l) ≡ l
-latch_back Empty = refl
-latch_back (Held v) = refl
+latch_back None = refl
+latch_back (Some v) = refl
 
 -- a held flag and a value that an empty latch may have
 latch-members : (held value : ℕ) → held ≤ 1 → (flag_is held || eqb value 0) ≡ true →
@@ -95,11 +95,11 @@ latch-members (suc zero) value h e = refl
 latch-members (suc (suc n)) value h e = absurd (omega (arith, h))
 
 latch_fits : (held value : ℕ) → value < 2 ^ 32 → LatchFits (latch_from held value)
-latch_fits held value h = choose LatchFits (flag_is held) {x = Held value} {y = Empty} (λ _. h) (λ _. omega arith)
+latch_fits held value h = choose LatchFits (flag_is held) {x = Some value} {y = None} (λ _. h) (λ _. omega arith)
 
 latch_empty : (l : Latch) → (flag_is (flag_of (held_of l)) || eqb (held_value l) 0) ≡ true
-latch_empty Empty = refl
-latch_empty (Held v) = refl
+latch_empty None = refl
+latch_empty (Some v) = refl
 
 -- ---- lists by their elements
 

@@ -1,5 +1,4 @@
 mod Shifted
-mod Taken
 mod Forms
 pub mod Answers
 pub mod Stored

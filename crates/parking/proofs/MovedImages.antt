@@ -13,13 +13,19 @@ use Rattle.wide.proofs.Choices.{either}
 use Rattle.clock.specs.Clock.{rate_of}
 use Rattle.board.specs.declared.Board.{Board}
 use Rattle.board.specs.Board.{BoardFits, sound}
+use Rattle.std.proofs.Common.{Result, Ok, Err}
+use Rattle.board.specs.declared.refusal.Refusal.{Refusal}
+use Rattle.board.specs.Refusals.{refusal_number}
 use Rattle.image.specs.declared.Form.{Form}
+use Rattle.parking.specs.declared.Parked.{Parked}
+use Rattle.parking.specs.CodeReads.{reading_said, writing_said, move_said}
+use Rattle.board.proofs.Answers.{some_refusal}
 use Rattle.image.specs.declared.Form.TheVariants.{Old, New}
 use Rattle.image.specs.Image.{rate_field, field_length, image_length, field_bytes, image_of, formed, board_from}
 use Rattle.image.proofs.Fields.{field-length, front_image}
-use Rattle.parking.specs.declared.Reading.{Reading}
-use Rattle.parking.specs.declared.Writing.{Writing}
 use Rattle.parking.specs.Parking.{
+  Reading,
+  Writing,
   form_takes,
   parking_refusal,
   writing_refusal,
@@ -53,26 +59,27 @@ use Rattle.parking.proofs.RoundTrip.{
 
 -- ---- what a move answers, by the reading and the writing that it is made of
 
-module _ (to : Form) (l old : List ℕ) (r : Reading) (e : r ≡ reading_in (other_form to) l) where
-  same-refusal : r.refusal ≡ form_refusal (other_form to) l
-  unfolding reading_in
-  same-refusal = ap (λ (x : Reading). x.refusal) e
+module _ (to : Form) (l old : List ℕ) where
+  -- the reading is refused
+  module _ (d : Refusal) (e : reading_said (Err d) ≡ reading_in (other_form to) l) where
+    refused : move_refusal to l (length old) ≡ refusal_number d
+    unfolding move_refusal reading_in
+    refused =
+        let same : refusal_number d ≡ form_refusal (other_form to) l = ap (λ (x : Reading). x.refusal) e in
+        rw (← same, some_refusal d) refl
 
-  module _ (n : r.refusal ≡ 0 → ⊥) where
-    refused : move_refusal to l (length old) ≡ r.refusal
-    unfolding move_refusal
-    refused = rw (← same-refusal, ne_eqb r.refusal 0 n) refl
-
-    pub move-refused :
-        (record { refusal = r.refusal; written = 0 } ≡ move_of to l (length old)) × (old ≡ moved_buffer to l old)
+    pub move-refused : (record { refusal = refusal_number d; written = 0 } ≡ move_of to l (length old))
+        × (old ≡ moved_buffer to l old)
     unfolding move_of moved_buffer
-    move-refused = (rw (refused, ne_eqb r.refusal 0 n) refl, rw (refused, ne_eqb r.refusal 0 n) refl)
+    move-refused = (rw (refused, some_refusal d) refl, rw (refused, some_refusal d) refl)
 
-  module _ (z : r.refusal ≡ 0) where
+  -- the writing answers
+  module _ (p : Parked) (e : reading_said (Ok p) ≡ reading_in (other_form to) l) where
     taken : form_refusal (other_form to) l ≡ 0
-    taken = sym same-refusal ∙ z
+    unfolding reading_in
+    taken = sym (ap (λ (x : Reading). x.refusal) e)
 
-    board : r.board ≡ board_in (other_form to) l
+    board : p.board ≡ board_in (other_form to) l
     unfolding reading_in
     board = ap (λ (x : Reading). x.board) e ∙ rw taken refl
 
@@ -80,13 +87,19 @@ module _ (to : Form) (l old : List ℕ) (r : Reading) (e : r ≡ reading_in (oth
     unfolding move_refusal
     written = rw (taken, in-sound (other_form to) l taken) refl
 
-    pub move-made : (w : Writing) (new : List ℕ) → w ≡ writing_of to r.board (length old) →
-        new ≡ buffer_after to r.board old →
-        (record { refusal = w.refusal; written = w.written } ≡ move_of to l (length old))
-        × (new ≡ moved_buffer to l old)
+    -- the same answer without the board
+    of_writing : (b : Board) (w : Result ℕ Refusal) →
+        move_said w ≡ record { refusal = (writing_said b w).refusal; written = (writing_said b w).written }
+    of_writing b (Ok n) = refl
+    of_writing b (Err d) = refl
+
+    pub move-made : (w : Result ℕ Refusal) (new : List ℕ) →
+        writing_said p.board w ≡ writing_of to p.board (length old) → new ≡ buffer_after to p.board old →
+        (move_said w ≡ move_of to l (length old)) × (new ≡ moved_buffer to l old)
     unfolding move_of moved_buffer writing_of buffer_after
     move-made w new f g = (
-      ap (λ (x : Writing). record { refusal = x.refusal; written = x.written })
+      of_writing p.board w
+          ∙ ap (λ (x : Writing). record { refusal = x.refusal; written = x.written })
           (f ∙ ap (λ (b : Board). writing_of to b (length old)) board)
           ∙ rw written refl,
       g ∙ ap (λ (b : Board). buffer_after to b old) board ∙ rw written refl,

@@ -19,9 +19,8 @@ use Rattle.board.specs.Kept.{Good}
 use Rattle.board.proofs.Good.{good, good-sound}
 use Rattle.board.proofs.Steps.{advance-call-step, host-call-step, passing_cases}
 use Rattle.board.proofs.Demand3.{demand_3}
-use Rattle.parking.specs.declared.Reading.{Reading}
 use Rattle.image.specs.declared.Form.{Form}
-use Rattle.parking.specs.Parking.{form_takes, writing_of}
+use Rattle.parking.specs.Parking.{form_takes, writing_of, Reading}
 use Rattle.image.specs.Image.{image_length}
 use Rattle.parking.specs.Demand.{
   parked_and_read,

@@ -18,7 +18,6 @@ use Rattle.board.specs.Board.{BoardFits, sound}
 use Rattle.board.proofs.Good.{GoodParts, good, good-parts}
 use Rattle.image.specs.declared.Form.{Form}
 use Rattle.image.specs.declared.Form.TheVariants.{Old, New}
-use Rattle.parking.specs.declared.Reading.{Reading}
 use Rattle.image.specs.Image.{
   layout,
   layout_of,
@@ -44,6 +43,7 @@ use Rattle.parking.specs.Parking.{
   reading_in,
   form_of,
   reading_refusal,
+  Reading,
   reading_of,
 }
 use Rattle.format.proofs.Members.{Bytes, ◌▸◌}

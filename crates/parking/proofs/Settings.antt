@@ -20,7 +20,7 @@ use Rattle.clock.specs.Sound.{
 }
 use Rattle.board.specs.Loops.{fold_from}
 use Rattle.board.specs.Board.{line, sound_parts, sound}
-use Rattle.board.specs.declared.Latch.TheVariants.{Empty, Held}
+use Rattle.std.proofs.Common.{None, Some}
 use Rattle.board.specs.declared.Board.{Board}
 use Rattle.board.specs.Fields.{fresh_board_at, fresh_board}
 use Rattle.image.specs.declared.Form.{Form}
@@ -143,10 +143,10 @@ marked_board =
       };
       latches = record {
         counts =
-            record { high = Held 40 } ∷ record { high = Empty }
-            ∷ record { high = Held 41 } ∷ record { high = Empty } ∷ [];
-        low = Held 42;
-        high = Held 43;
+            record { high = Some 40 } ∷ record { high = None }
+            ∷ record { high = Some 41 } ∷ record { high = None } ∷ [];
+        low = Some 42;
+        high = Some 43;
       };
       controller = record { pending = 0x0102; enable = 0x0304; levels = 0x0506 };
     }

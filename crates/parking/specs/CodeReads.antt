@@ -1,24 +1,23 @@
 -- Not sentences of S-1 or S-8 but what the code computes from members by their widths, from the latches' members, and
 -- from S-1's fields alone.
-use Rattle.std.specs.Prelude.{ℕ, suc, ◌+◌, ◌^◌, ◌<◌, Bool, cond, ◌&&◌, ◌||◌, List, [], ◌∷◌, get_or, leb, eqb}
+use Rattle.std.specs.Prelude.{ℕ, ◌+◌, Bool, cond, ◌&&◌, ◌||◌, List, [], get_or, leb, eqb, Result, Ok, Err}
 use Rattle.board.specs.Fields.{fresh_board}
 use Rattle.board.specs.Board.{sound}
 use Rattle.board.specs.Calls.{not_sound}
 use Rattle.image.specs.declared.Form.{Form}
 use Rattle.image.specs.Image.{flag_is, empties_hold0, board_from}
-use Rattle.parking.specs.declared.Reading.{Reading}
-use Rattle.parking.specs.Parking.{default_form, image_malformed}
-
--- the members from index k on are each within their width
-abbrev pub FitFrom : ℕ → List ℕ → List ℕ → Type 0
-FitFrom k [] ms = Unit {0}
-FitFrom k (w ∷ ws) ms = (get_or ms k 0 < 256 ^ w) × FitFrom (suc k) ws ms
+use Rattle.board.specs.declared.Board.{Board}
+use Rattle.board.specs.declared.refusal.Refusal.{Refusal}
+use Rattle.board.specs.Refusals.{refusal_number}
+use Rattle.parking.specs.declared.Parked.{Parked}
+use Rattle.parking.specs.Parking.{Reading, Writing, default_form, image_malformed}
+use Rattle.parking.specs.Moves.{Moved}
 
 -- no held flag among the latches' members is above 1
 abbrev pub held_flags : List ℕ → Bool
 held_flags ms =
-    (leb (get_or ms 0 0) 1 && (leb (get_or ms 2 0) 1 && leb (get_or ms 4 0) 1))
-    && (leb (get_or ms 6 0) 1 && (leb (get_or ms 8 0) 1 && leb (get_or ms 10 0) 1))
+    ((((leb (get_or ms 0 0) 1 && leb (get_or ms 2 0) 1) && leb (get_or ms 4 0) 1) && leb (get_or ms 6 0) 1)
+    && leb (get_or ms 8 0) 1) && leb (get_or ms 10 0) 1
 
 -- 'an empty latch holds 0', of the latch whose held flag has this index
 abbrev pub empty_holds0 : ℕ → List ℕ → Bool
@@ -26,8 +25,8 @@ empty_holds0 k ms = flag_is (get_or ms k 0) || eqb (get_or ms (k + 1) 0) 0
 
 abbrev pub six_hold0 : List ℕ → Bool
 six_hold0 ms =
-    ((empty_holds0 0 ms && empty_holds0 2 ms) && (empty_holds0 4 ms && empty_holds0 6 ms))
-    && (empty_holds0 8 ms && empty_holds0 10 ms)
+    ((((empty_holds0 0 ms && empty_holds0 2 ms) && empty_holds0 4 ms) && empty_holds0 6 ms) && empty_holds0 8 ms)
+    && empty_holds0 10 ms
 
 -- the refusal of the members of S-1's fields, at a rate; `form` says whether their bytes have the form of an image
 abbrev pub members_refusal : ℕ → Bool → List (List ℕ) → ℕ
@@ -42,3 +41,19 @@ members_read f rate form mss =
       form = cond (eqb (members_refusal rate form mss) 0) f default_form;
       refusal = members_refusal rate form mss;
     }
+
+-- ---- what the code's results say
+
+-- a refused reading hands back a fresh board
+abbrev pub reading_said : Result Parked Refusal → Reading
+reading_said (Ok parked) = record { board = parked.board; form = parked.form; refusal = 0 }
+reading_said (Err refusal) = record { board = fresh_board; form = default_form; refusal = refusal_number refusal }
+
+-- a writing of this board hands it back
+abbrev pub writing_said : Board → Result ℕ Refusal → Writing
+writing_said b (Ok written) = record { board = b; refusal = 0; written = written }
+writing_said b (Err refusal) = record { board = b; refusal = refusal_number refusal; written = 0 }
+
+abbrev pub move_said : Result ℕ Refusal → Moved
+move_said (Ok written) = record { refusal = 0; written = written }
+move_said (Err refusal) = record { refusal = refusal_number refusal; written = 0 }

@@ -4,7 +4,6 @@ use Rattle.clock.specs.Clock.{rate_of}
 use Rattle.image.specs.declared.Form.{Form}
 use Rattle.image.specs.declared.Form.TheVariants.{Old, New}
 use Rattle.image.specs.Image.{image_length, image_of}
-use Rattle.parking.specs.declared.moves.Moved.{Moved}
 use Rattle.parking.specs.Parking.{parking_refusal, board_in, form_refusal}
 
 -- the form that an image is moved from, by the form that it is moved to
@@ -24,7 +23,11 @@ move_refusal to l room =
 abbrev pub moved_image : Form → List ℕ → List ℕ
 moved_image to l = image_of to (board_in (other_form to) l)
 
--- what a move answers: the refusal and the bytes written
+-- what a move answers: the refusal, 0 for none, and the bytes written
+pub record Moved : Type 0 where
+  pub refusal : ℕ
+  pub written : ℕ
+
 unfoldable pub move_of : Form → List ℕ → ℕ → Moved
 move_of to l room =
     record {

@@ -7,8 +7,8 @@ use Rattle.board.specs.declared.Board.{Board}
 use Rattle.board.specs.Fields.{fresh_board}
 use Rattle.board.specs.Board.{sound}
 use Rattle.board.specs.Calls.{not_sound, refusal_of}
-use Rattle.parking.specs.declared.Writing.{Writing}
-use Rattle.parking.specs.declared.Reading.{Reading}
+use Rattle.board.specs.declared.refusal.Refusal.TheVariants.{ImageMalformed, RateNeedsNewForm}
+use Rattle.board.specs.Refusals.{refusal_number}
 use Rattle.image.specs.declared.Form.{Form}
 use Rattle.image.specs.declared.Form.TheVariants.{Old, New}
 use Rattle.image.specs.Image.{
@@ -35,7 +35,7 @@ buffer_short = answer_too_long
 
 -- '16, another rate moved back or parked in the old form'
 abbrev pub rate_needs_new_form : ℕ
-rate_needs_new_form = 16
+rate_needs_new_form = refusal_number RateNeedsNewForm
 
 -- 'Boards of all three rates can be parked in the new form', and in the old those at 48,000,000, the rate of a fresh
 -- board
@@ -52,7 +52,12 @@ parking_refusal f rate room =
 abbrev pub writing_refusal : Form → Board → ℕ → ℕ
 writing_refusal f b room = refusal_of b (parking_refusal f (rate_of b.clock) room)
 
--- what a writing answers: the board given, the refusal and the bytes written
+-- what a writing answers: the board given, the refusal, 0 for none, and the bytes written
+pub record Writing : Type 0 where
+  pub board : Board
+  pub refusal : ℕ
+  pub written : ℕ
+
 unfoldable pub writing_of : Form → Board → ℕ → Writing
 writing_of f b room =
     record {
@@ -70,7 +75,7 @@ buffer_after f b old =
 
 -- '12, a field missing, cut, out of order, of wrong length, a flag above 1, or bytes over'
 abbrev pub image_malformed : ℕ
-image_malformed = 12
+image_malformed = refusal_number ImageMalformed
 
 -- the members that some bytes have in a form
 abbrev pub said : Form → List ℕ → List (List ℕ)
@@ -91,6 +96,12 @@ sound_in f l = empties_in f l && sound (board_in f l)
 -- the refusal of some bytes as an image of a form: 12 is 'found before 1 on reading'
 unfoldable pub form_refusal : Form → List ℕ → ℕ
 form_refusal f l = cond (formed f l) (cond (sound_in f l) 0 not_sound) image_malformed
+
+-- what a reading answers: the board, the form of its image, and the refusal, 0 for none
+pub record Reading : Type 0 where
+  pub board : Board
+  pub form : Form
+  pub refusal : ℕ
 
 -- 'A refused reading hands back a fresh board', and the form that it would be written in
 unfoldable pub reading_in : Form → List ℕ → Reading

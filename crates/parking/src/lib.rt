@@ -2,43 +2,26 @@
 // from one form to the other.
 #![tactic(auto)]
 
-ghost use Rattle.std.specs.Prelude.{◌≡◌, ◌&&◌, length};
-ghost use Rattle.board.specs.Fields.{fresh_board};
+ghost use Rattle.std.specs.Prelude.{◌≡◌, OnOk, length};
+ghost use Rattle.board.specs.Refusals.{refusal_code};
 ghost use Rattle.image.specs.declared.Form.TheVariants.{Old};
 ghost use Rattle.image.specs.Image.{image_of, formed};
 ghost use Rattle.parking.specs.Parking.{default_form, form_takes, parking_refusal};
 ghost use Rattle.parking.specs.Parking.{writing_of, buffer_after, said, reading_in, reading_of};
-ghost use Rattle.parking.specs.CodeReads.{members_read};
+ghost use Rattle.parking.specs.CodeReads.{members_read, reading_said, writing_said};
 
 use board::Board;
+use board::refusal::Refusal;
 use image::{Form, NEW_LENGTH, OLD_LENGTH, RATE_SIZE, image_length};
-use wide::flags::both;
 
 mod get;
 pub mod moves;
 
-// Refusals, by their numbers. Refusal 1, for a board that is not sound, is a constant of the board.
-pub const BUFFER_SHORT: u8 = format::ANSWER_TOO_LONG;
-
-pub const IMAGE_MALFORMED: u8 = 12;
-
-pub const RATE_NEEDS_NEW_FORM: u8 = 16;
-
-// The board that was given, the refusal, 0 for none, and the bytes that were written.
+// The board that was read, and the form of its image.
 #[derive(Clone, Copy)]
-pub struct Writing {
-    pub board: Board,
-    pub refusal: u8,
-    pub written: usize,
-}
-
-// The board that was read and the form of its image, and the refusal, 0 for none. Where the reading is refused, the
-// board is a fresh one, and the form is the new one.
-#[derive(Clone, Copy)]
-pub struct Reading {
+pub struct Parked {
     pub board: Board,
     pub form: Form,
-    pub refusal: u8,
 }
 
 // Whether a form takes boards of a rate. The old form has no rate, so it takes only boards at 48,000,000.
@@ -51,107 +34,78 @@ fn form_takes(form: Form, rate: u32) -> bool
     }
 }
 
-// The refusal of writing a sound board at a rate in a form, to a buffer of `room` bytes.
-fn parking_refusal(form: Form, rate: u32, room: usize) -> u8
-    ensures { result ≡ parking_refusal form rate room }
+// Refuses to write a sound board at a rate in a form, to a buffer of `room` bytes.
+fn check_parking(form: Form, rate: u32, room: usize) -> Result<(), Refusal>
+    ensures { refusal_code result ≡ parking_refusal form rate room }
 {
     if !form_takes(form, rate) {
-        return RATE_NEEDS_NEW_FORM;
+        return Err(Refusal::RateNeedsNewForm);
     }
     if room < image_length(form) {
-        BUFFER_SHORT
-    } else {
-        0
+        return Err(Refusal::BufferShort);
     }
+    Ok(())
 }
 
-// Writes a board's image in a form at the start of a lent buffer. Where that is accepted, reading the image gives the
-// board and the form.
-pub fn write_in(form: Form, board: Board, buffer: &mut [u8]) -> Writing
-    ensures value { result ≡ writing_of form board (length buffer.old) }
+// Writes a board's image in a form at the start of a lent buffer, and gives the number of bytes written. Where that is
+// accepted, reading the image gives the board and the form.
+pub fn write_in(form: Form, board: Board, buffer: &mut [u8]) -> Result<usize, Refusal>
+    ensures value { writing_said board result ≡ writing_of form board (length buffer.old) }
     ensures buffer_after { buffer.new ≡ buffer_after form board buffer.old }
-    ensures board_value { result.refusal ≡ 0
-        → reading_of (image_of form board) ≡ record { board = board; form = form; refusal = 0 } }
+    ensures board_value { OnOk result
+        (reading_of (image_of form board) ≡ record { board = board; form = form; refusal = 0 }) }
 {
-    let refusal = board.refusal_of(parking_refusal(form, board.clock.rate, buffer.len()));
-    if refusal != 0 {
-        return Writing {
-            board,
-            refusal,
-            written: 0,
-        };
-    }
+    board.check_sound()?;
+    check_parking(form, board.clock.rate, buffer.len())?;
     image::put::put_image(buffer, form, board);
-    Writing {
-        board,
-        refusal: 0,
-        written: image_length(form),
-    }
+    Ok(image_length(form))
 }
 
 // The same in the new form, which is written unless the old is chosen.
-pub fn write(board: Board, buffer: &mut [u8]) -> Writing
-    ensures value { result ≡ writing_of default_form board (length buffer.old) }
+pub fn write(board: Board, buffer: &mut [u8]) -> Result<usize, Refusal>
+    ensures value { writing_said board result ≡ writing_of default_form board (length buffer.old) }
     ensures buffer_after { buffer.new ≡ buffer_after default_form board buffer.old }
-    ensures board_value { result.refusal ≡ 0
-        → reading_of (image_of default_form board) ≡ record { board = board; form = default_form; refusal = 0 } }
+    ensures board_value { OnOk result
+        (reading_of (image_of default_form board) ≡ record { board = board; form = default_form; refusal = 0 }) }
 {
     write_in(Form::New, board, buffer)
 }
 
-// A reading that is refused.
-fn refused(refusal: u8) -> Reading
-    ensures { result ≡ record { board = fresh_board; form = default_form; refusal = refusal } }
-{
-    Reading {
-        board: Board::fresh(),
-        form: Form::New,
-        refusal,
-    }
-}
-
-// Reads S-1's fields of an image in a form, with its board at a rate. `ahead`: the bytes before them are formed.
-fn read_fields(form: Form, rate: u32, ahead: bool, fields: &[u8]) -> Reading
-    ensures { result ≡ members_read form rate (ahead && formed Old fields.now)
+// Reads S-1's fields of an image in a form, with its board at a rate.
+fn read_fields(form: Form, rate: u32, fields: &[u8]) -> Result<Parked, Refusal>
+    ensures { reading_said result ≡ members_read form rate (formed Old fields.now)
         (said Old fields.now) }
 {
     if fields.len() != OLD_LENGTH {
-        return refused(IMAGE_MALFORMED);
+        return Err(Refusal::ImageMalformed);
     }
-    let said = get::board_in(rate, fields);
-    if !both(ahead, said.formed) {
-        return refused(IMAGE_MALFORMED);
+    let said = get::board_in(rate, fields).ok_or(Refusal::ImageMalformed)?;
+    if !said.empties_hold_0 {
+        return Err(Refusal::NotSound);
     }
     let board = said.board;
-    if both(said.empties_hold_0, board.sound()) {
-        Reading {
-            board,
-            form,
-            refusal: 0,
-        }
-    } else {
-        refused(Board::NOT_SOUND)
-    }
+    board.check_sound()?;
+    Ok(Parked { board, form })
 }
 
 // Reads the board of an image in either form. The length tells which of the two it is.
-pub fn read(image: &[u8]) -> Reading
-    ensures { result ≡ reading_of image.now }
+pub fn read(image: &[u8]) -> Result<Parked, Refusal>
+    ensures { reading_said result ≡ reading_of image.now }
 {
     if image.len() == NEW_LENGTH {
-        let first = get::rate_in(image);
-        read_fields(Form::New, first.rate, first.formed, &image[RATE_SIZE..])
+        let rate = get::rate_in(image).ok_or(Refusal::ImageMalformed)?;
+        read_fields(Form::New, rate, &image[RATE_SIZE..])
     } else {
-        read_fields(Form::Old, Board::RATE, true, image)
+        read_fields(Form::Old, Board::RATE, image)
     }
 }
 
 // Reads the board of an image in this form alone.
-fn read_in(form: Form, image: &[u8]) -> Reading
-    ensures { result ≡ reading_in form image.now }
+fn read_in(form: Form, image: &[u8]) -> Result<Parked, Refusal>
+    ensures { reading_said result ≡ reading_in form image.now }
 {
     if image.len() != image_length(form) {
-        return refused(IMAGE_MALFORMED);
+        return Err(Refusal::ImageMalformed);
     }
     read(image)
 }

@@ -1,23 +1,25 @@
 -- What a preview answers and writes, refused or accepted, of a board and of a parked one. Assumes nothing.
-use Prim.Native.Nat.{ℕ, ◌≤◌, ◌<◌, ◌^◌}
+use Prim.Native.Nat.{ℕ, ◌<◌, ◌^◌}
 use native.Mathlib.Omega.{arith}
 use mathlib.Core.Path.{◌≡◌, refl, sym, ap, ◌∙◌}
-use mathlib.Core.Bool.{Bool, true, false, cond, ◌&&◌, ◌||◌}
-use mathlib.Core.List.{List, map, ◌++◌}
+use mathlib.Core.Bool.{Bool, true, false, cond}
+use mathlib.Core.List.{List, [], map, ◌++◌}
 use lib.ListN.{length, get_or, drop}
-use lib.Dec.{leb, ltb, eqb}
-use borrow.Author.Tests.{eq-eqb, ne_eqb, ltb-false}
+use lib.Dec.{ltb, eqb}
 use Rattle.wide.specs.Bits.{flag_of}
 use Rattle.clock.specs.Clock.{from_host}
 use Rattle.board.specs.declared.Board.{Board}
-use Rattle.board.specs.declared.calls.EmptyAnswer.{EmptyAnswer}
-use Rattle.board.specs.declared.calls.SkipAdvance.{SkipAdvance}
-use Rattle.board.specs.Board.{BoardFits, line, sound}
-use Rattle.board.specs.Calls.{refusal_of, advanced_board, skip_length}
-use Rattle.board.specs.CodeCalls.{skip_advance_of}
-use Rattle.board.proofs.Answers.{accepted_sound}
-use Rattle.parking.specs.declared.Reading.{Reading}
-use Rattle.parking.specs.Parking.{buffer_short, reading_of, reading_refusal}
+use Rattle.std.proofs.Common.{Option as Given, Result, Ok, Err}
+use Rattle.channel.specs.declared.Cycles.{Cycles}
+use Rattle.board.specs.declared.refusal.Refusal.{Refusal}
+use Rattle.board.specs.Refusals.{refusal_number, refusal_code}
+use Rattle.board.specs.CodeCalls.{answered, no_members}
+use Rattle.board.specs.Board.{BoardFits, sound}
+use Rattle.board.specs.Calls.{refusal_of}
+use Rattle.board.proofs.Answers.{some_refusal, unsound_first}
+use Rattle.parking.specs.declared.Parked.{Parked}
+use Rattle.parking.specs.Parking.{Reading, buffer_short, reading_of, reading_refusal}
+use Rattle.parking.specs.CodeReads.{reading_said}
 use Rattle.parking.proofs.RoundTrip.{refusal_is}
 use Rattle.preview.specs.Preview.{
   clock_in_realtime,
@@ -28,6 +30,7 @@ use Rattle.preview.specs.Preview.{
   parked_preview_refusal,
   parked_preview_buffer,
 }
+use Rattle.preview.specs.CodeReach.{high_from, reaches}
 use Rattle.preview.proofs.Shown.{skip_shows}
 use Rattle.preview.proofs.Bytes.{map_words}
 
@@ -40,75 +43,75 @@ own_none true short e = absurd (omega arith)
 own_none false true e = absurd (omega arith)
 own_none false false e = (refl, refl)
 
--- host, own and n are what the code finds: whether the clock runs from host time, the preview's own refusal, and the
--- refusal
-module _ (b : Board) (totals old : List ℕ) (host : Bool) (from : host ≡ from_host b.clock.control) (own : ℕ)
-    (o : own ≡ cond host clock_in_realtime (cond (ltb (length old) (length totals)) buffer_short 0))
-    (n : ℕ) (e : n ≡ refusal_of b own) where
-  refusal-said : n ≡ preview_refusal b (length totals) (length old)
+module _ (b : Board) (totals old : List ℕ) where
+  -- 1 comes first
+  pub preview-unsound : (d : Refusal) → refusal_number d ≡ refusal_of b 0 →
+      refusal_number d ≡ preview_refusal b (length totals) (length old)
   unfolding preview_refusal
-  refusal-said = rw (e, o, from) refl
+  preview-unsound d e = unsound_first b _ d e
 
-  pub preview-refused : (n ≡ 0 → ⊥) →
-      (record { board = b; refusal = n } ≡ preview_of b (length totals) (length old))
-      × (old ≡ previewed_buffer b totals old)
-  unfolding preview_of previewed_buffer
-  preview-refused f = (rw refusal-said refl, rw (← refusal-said, ne_eqb n 0 f) refl)
+  -- then what refuses a sound board
+  pub preview-own : sound b ≡ true → (host : Bool) → host ≡ from_host b.clock.control → (r : ℕ) →
+      r ≡ cond host clock_in_realtime (cond (ltb (length old) (length totals)) buffer_short 0) →
+      r ≡ preview_refusal b (length totals) (length old)
+  unfolding preview_refusal
+  preview-own s host from r e = rw (e, from, s) refl
 
-  module _ (z : n ≡ 0) where
-    preview-sound : sound b ≡ true
-    preview-sound = accepted_sound b own (sym e ∙ z)
+  -- refused
+  pub preview-left : (d : Refusal) → refusal_number d ≡ preview_refusal b (length totals) (length old) →
+      old ≡ previewed_buffer b totals old
+  unfolding previewed_buffer
+  preview-left d e = rw (← e, some_refusal d) refl
 
-    no_own : (host ≡ false) × (ltb (length old) (length totals) ≡ false)
-    no_own = own_none host (ltb (length old) (length totals)) (sym o ∙ sym (rw preview-sound at e) ∙ z)
-
-    pub preview-fits : length totals ≤ length old
-    preview-fits = ltb-false (length old) (length totals) no_own.1
-
-    -- p is the advance that a skip would make, and reached says whether some total can raise the line or find it high
-    module _ (f : BoardFits b) (words : (i : ℕ) → get_or totals i 0 < 2 ^ 64) (p : SkipAdvance)
-        (passing : p ≡ skip_advance_of (skip_length b)) (v : Bool) (lined : v ≡ line b) (reached : Bool)
-        (r : reached ≡ (v || p.made)) where
-      byte-is : (t : ℕ) → t < 2 ^ 64 → flag_of (reached && leb p.cycles.0 t) ≡ preview_byte b t
+  -- accepted: host is what the code finds, whether the clock runs from host time
+  module _ (host : Bool) (from : host ≡ from_host b.clock.control)
+      (e : 0 ≡ cond host clock_in_realtime (cond (ltb (length old) (length totals)) buffer_short 0)) where
+    -- p is from how many cycles on the line is high
+    module _ (s : sound b ≡ true) (f : BoardFits b) (words : (i : ℕ) → get_or totals i 0 < 2 ^ 64)
+        (p : Given Cycles) (q : p ≡ high_from b) where
+      byte-is : (t : ℕ) → t < 2 ^ 64 → flag_of (reaches p t) ≡ preview_byte b t
       byte-is t l =
-          let shown : (reached && leb p.cycles.0 t) ≡ line (advanced_board t b) =
-          rw (r, lined) (skip_shows b f preview-sound (sym from ∙ no_own.0) p passing t (omega (arith, l))) in
-          ap (λ (x : Bool). flag_of x) shown
+          ap (λ (x : Bool). flag_of x)
+          (skip_shows b f s (sym from ∙ (own_none host (ltb (length old) (length totals)) (sym e)).0) p q t
+          (omega (arith, l)))
 
-      pub preview-accepted : (new : List ℕ) →
-          new ≡ map (λ t. flag_of (reached && leb p.cycles.0 t)) totals ++ drop (length totals) old →
-          (record { board = b; refusal = 0 } ≡ preview_of b (length totals) (length old))
-          × (new ≡ previewed_buffer b totals old)
-      unfolding preview_of previewed_buffer
-      preview-accepted new w =
-          let k : preview_refusal b (length totals) (length old) ≡ 0 = sym refusal-said ∙ z in (
-            rw k refl,
-            rw k
-                (w ∙ ap (λ (x : List ℕ). x ++ drop (length totals) old)
-                (map_words _ (preview_byte b) (2 ^ 64) byte-is totals words)),
-          )
+      pub preview-written : (new : List ℕ) →
+          new ≡ map (λ t. flag_of (reaches p t)) totals ++ drop (length totals) old →
+          new ≡ previewed_buffer b totals old
+      unfolding previewed_buffer
+      preview-written new w =
+          rw (← preview-own s host from 0 e)
+          (w ∙ ap (λ (x : List ℕ). x ++ drop (length totals) old)
+          (map_words _ (preview_byte b) (2 ^ 64) byte-is totals words))
+
+-- a preview's answer has no members
+pub preview_answers : (b : Board) (count room : ℕ) (r : Result (Unit {0}) Refusal) →
+    refusal_code r ≡ preview_refusal b count room →
+    answered no_members (record { board = b; answer = r }) ≡ preview_of b count room
+unfolding preview_of
+preview_answers b count room (Ok _) e = ap (λ (n : ℕ). record { board = b; refusal = n; members = [] }) e
+preview_answers b count room (Err d) e = ap (λ (n : ℕ). record { board = b; refusal = n; members = [] }) e
 
 -- ---- of a parked board
 
-module _ (image totals old : List ℕ) (r : Reading) (e : r ≡ reading_of image) where
-  pub parked-refused : (r.refusal ≡ 0 → ⊥) →
-      (r.refusal ≡ parked_preview_refusal image (length totals) (length old))
+module _ (image totals old : List ℕ) where
+  pub parked-refused : (d : Refusal) → reading_said (Err d) ≡ reading_of image →
+      (refusal_number d ≡ parked_preview_refusal image (length totals) (length old))
       × (old ≡ parked_preview_buffer image totals old)
   unfolding parked_preview_refusal parked_preview_buffer
-  parked-refused f =
-      let k : eqb (reading_refusal image) 0 ≡ false = rw (← refusal_is image r e) (ne_eqb r.refusal 0 f) in
-      (rw k (refusal_is image r e), rw k refl)
+  parked-refused d e =
+      let same : refusal_number d ≡ reading_refusal image = refusal_is image (reading_said (Err d)) e in
+      let k : eqb (reading_refusal image) 0 ≡ false = rw (← same) (some_refusal d) in
+      (rw k same, rw k refl)
 
-  pub parked-accepted : r.refusal ≡ 0 → (a : EmptyAnswer) (new : List ℕ) →
-      a ≡ preview_of r.board (length totals) (length old) → new ≡ previewed_buffer r.board totals old →
-      (a.refusal ≡ parked_preview_refusal image (length totals) (length old))
+  pub parked-accepted : (p : Parked) → reading_said (Ok p) ≡ reading_of image → (r : ℕ) (new : List ℕ) →
+      r ≡ preview_refusal p.board (length totals) (length old) → new ≡ previewed_buffer p.board totals old →
+      (r ≡ parked_preview_refusal image (length totals) (length old))
       × (new ≡ parked_preview_buffer image totals old)
-  unfolding preview_of parked_preview_refusal parked_preview_buffer
-  parked-accepted z a new f g =
-      let k : eqb (reading_refusal image) 0 ≡ true = eq-eqb _ 0 (sym (refusal_is image r e) ∙ z) in
-      let board : r.board ≡ (reading_of image).board = ap (λ (x : Reading). x.board) e in (
-        rw k
-            (ap (λ (x : EmptyAnswer). x.refusal) f
-            ∙ ap (λ (x : Board). preview_refusal x (length totals) (length old)) board),
+  unfolding parked_preview_refusal parked_preview_buffer
+  parked-accepted p e r new f g =
+      let k : eqb (reading_refusal image) 0 ≡ true = rw (← refusal_is image (reading_said (Ok p)) e) refl in
+      let board : p.board ≡ (reading_of image).board = ap (λ (x : Reading). x.board) e in (
+        rw k (f ∙ ap (λ (x : Board). preview_refusal x (length totals) (length old)) board),
         rw k (g ∙ ap (λ (x : Board). previewed_buffer x totals old) board),
       )

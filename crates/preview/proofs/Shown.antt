@@ -1,13 +1,13 @@
 -- What one advance would show of a sound board whose clock does not run from host time: by its line and its deadline,
--- and by the advance that a skip would make. And of every sound board, what a call of advance answers. Assumes nothing.
+-- and by the cycles from which on the line is high. And of every sound board, what a call of advance answers. Assumes nothing.
 use Prim.Native.Nat.{ℕ, ◌≤◌}
 use native.Mathlib.Nat.{add-zero}
 use native.Mathlib.Omega.{arith}
 use mathlib.Core.Path.{◌≡◌, refl, sym, ap, ◌∙◌}
-use mathlib.Core.Bool.{Bool, true, false, cond, ◌&&◌, ◌||◌}
+use mathlib.Core.Bool.{Bool, true, false, cond, ◌||◌}
 use mathlib.Core.Option.{Option, none, some}
 use mathlib.Core.List.{List}
-use lib.Dec.{leb, ltb}
+use lib.Dec.{ltb}
 use borrow.Author.Tests.{le-leb, lt-leb, ltb-true}
 use Rattle.wide.specs.Bits.{flag_of}
 use Rattle.wide.specs.Number.{largest}
@@ -16,11 +16,10 @@ use Rattle.wide.proofs.Choices.{either}
 use Rattle.clock.specs.Clock.{from_host}
 use Rattle.board.specs.declared.Board.{Board}
 use Rattle.board.specs.declared.calls.Call.{Call}
-use Rattle.board.specs.declared.calls.SkipAdvance.{SkipAdvance}
 use Rattle.board.specs.Loops.{All}
 use Rattle.board.specs.Board.{BoardFits, line, exact_deadline, sound}
-use Rattle.board.specs.Calls.{advance_by, moved_board, advanced_board, skip_length, answer_of, member_at}
-use Rattle.board.specs.CodeCalls.{skip_advance_of}
+use Rattle.board.specs.Calls.{advance_by, moved_board, advanced_board, answer_of, member_at}
+use Rattle.board.specs.CodeCalls.{length_given}
 use Rattle.board.specs.Demand.{PassesTime, after_all, cycles_passed}
 use Rattle.board.proofs.Soundness.{wired_line}
 use Rattle.board.proofs.Good.{good}
@@ -28,6 +27,10 @@ use Rattle.board.proofs.Steps.{board_due, line-due, advance_step}
 use Rattle.board.proofs.Demand3.{line_after}
 use Rattle.board.proofs.Answers.{answer-accepted}
 use Rattle.preview.specs.Preview.{preview_byte}
+use Rattle.preview.specs.CodeReach.{high_from, reaches}
+use Rattle.std.proofs.Common.{Option as Given, None, Some}
+use Rattle.std.specs.Result.{result_unwrap_or}
+use Rattle.channel.specs.declared.Cycles.{Cycles}
 
 module _ (b : Board) (f : BoardFits b) (s : sound b ≡ true) (o : from_host b.clock.control ≡ false) (t : ℕ) where
   -- an advance shows a high line where the line is high, and where it reaches the deadline
@@ -62,22 +65,21 @@ unfolding advanced_board
 answer_shows b s total =
     rw (answer-accepted (advance_by total) b (rw s)) (ap flag_of (sym (wired_line (moved_board total b))))
 
--- ---- the same by the advance that a skip would make
+-- ---- the same by the cycles from which on the line is high
 
 -- of a line and a deadline: where a word of cycles reaches the interrupt, from how many on
-reached : (high : Bool) (o : Option ℕ) (t : ℕ) → t ≤ largest → (p : SkipAdvance) → p ≡ skip_advance_of (cond high
-    none o) →
-    ((high || p.made) && leb p.cycles.0 t) ≡ (high || due o t)
-reached true o t l p e = rw e (le-leb 0 t (omega arith))
-reached false none t l p e = rw e refl
-reached false (some d) t l p e =
+reached : (high : Bool) (o : Option ℕ) (t : ℕ) → t ≤ largest →
+    reaches (cond high (Some (record { 0 = 0 })) (result_unwrap_or (length_given (cond high none o)) None)) t
+    ≡ (high || due o t)
+reached true o t l = le-leb 0 t (omega arith)
+reached false none t l = refl
+reached false (some d) t l =
     either (ltb largest d)
-    (λ h. rw (e, h) (sym (lt-leb d t (omega (arith, l, ltb-true largest d h)))))
-    (λ h. rw (e, h) refl)
+    (λ h. rw h (sym (lt-leb d t (omega (arith, l, ltb-true largest d h)))))
+    (λ h. rw h refl)
 
-pub skip_shows : (b : Board) → BoardFits b → sound b ≡ true → from_host b.clock.control ≡ false → (p :
-    SkipAdvance) →
-    p ≡ skip_advance_of (skip_length b) → (t : ℕ) → t ≤ largest →
-    ((line b || p.made) && leb p.cycles.0 t) ≡ line (advanced_board t b)
+pub skip_shows : (b : Board) → BoardFits b → sound b ≡ true → from_host b.clock.control ≡ false →
+    (p : Given Cycles) → p ≡ high_from b → (t : ℕ) → t ≤ largest → reaches p t ≡ line (advanced_board t b)
 skip_shows b f s o p e t l =
-    reached (line b) (exact_deadline b) t l p e ∙ sym (advance-shows b f s o t)
+    ap (λ (x : Given Cycles). reaches x t) e
+    ∙ reached (line b) (exact_deadline b) t l ∙ sym (advance-shows b f s o t)

@@ -1,1 +1,2 @@
 pub mod Preview
+pub mod CodeReach

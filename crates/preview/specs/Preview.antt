@@ -1,18 +1,19 @@
 -- S-6, 'Many previews from one look': what the totals of a lent slice give, for a board and for a parked one.
-use Rattle.std.specs.Prelude.{ℕ, cond, List, map, ◌++◌, length, drop, ltb, eqb}
+use Rattle.std.specs.Prelude.{ℕ, cond, List, [], map, ◌++◌, length, drop, ltb, eqb}
 use Rattle.wide.specs.Bits.{flag_of}
 use Rattle.clock.specs.Clock.{from_host}
 use Rattle.board.specs.declared.Board.{Board}
-use Rattle.board.specs.declared.calls.EmptyAnswer.{EmptyAnswer}
+use Rattle.board.specs.declared.refusal.Refusal.TheVariants.{ClockInRealtime}
 use Rattle.board.specs.Board.{line}
-use Rattle.board.specs.Calls.{refusal_of, advanced_board}
+use Rattle.board.specs.Calls.{DirectAnswer, refusal_of, advanced_board}
+use Rattle.board.specs.Refusals.{refusal_number}
 use Rattle.parking.specs.Parking.{buffer_short, reading_of, reading_refusal}
 
 -- ---- of a board
 
 -- '14, the clock is enabled in realtime'
 abbrev pub clock_in_realtime : ℕ
-clock_in_realtime = 14
+clock_in_realtime = refusal_number ClockInRealtime
 
 -- for `count` totals and a buffer of `room` bytes: '14, the clock is enabled in realtime, after 1; a short buffer is
 -- 11, after it'
@@ -25,8 +26,8 @@ abbrev pub preview_byte : Board → ℕ → ℕ
 preview_byte b total = flag_of (line (advanced_board total b))
 
 -- what a preview answers: 'the board does not move'
-unfoldable pub preview_of : Board → ℕ → ℕ → EmptyAnswer
-preview_of b count room = record { board = b; refusal = preview_refusal b count room }
+unfoldable pub preview_of : Board → ℕ → ℕ → DirectAnswer
+preview_of b count room = record { board = b; refusal = preview_refusal b count room; members = [] }
 
 -- 'Write one byte each'; 'Only the first bytes, one for each total, are written'. A refused preview leaves the buffer
 unfoldable pub previewed_buffer : Board → List ℕ → List ℕ → List ℕ

@@ -15,8 +15,8 @@ use Rattle.channel.specs.Registers.{count_low_at, count_high_at}
 use Rattle.clock.specs.declared.Clock.{Clock}
 use Rattle.clock.specs.Fields.{with_alarm}
 use Rattle.clock.specs.Clock.{rate_of, alarm_reached, check_alarm}
-use Rattle.board.specs.declared.Latch.{Latch}
-use Rattle.board.specs.declared.Latch.TheVariants.{Empty}
+use Rattle.board.specs.Fields.{Latch}
+use Rattle.std.specs.Prelude.{None}
 use Rattle.board.specs.declared.Latches.{Latches}
 use Rattle.board.specs.declared.Board.{Board}
 use Rattle.board.specs.declared.calls.Call.TheVariants.{Read as ReadCall}
@@ -156,7 +156,7 @@ module _ (o : ℕ) (b : Board) where
       (sym (check_flags b.clock))
 
   -- no latch serves
-  read_none : (ls : Latches) → serving o ls ≡ Empty → read_live o (with_latches ls b) ≡ given b (by ls)
+  read_none : (ls : Latches) → serving o ls ≡ None → read_live o (with_latches ls b) ≡ given b (by ls)
   unfolding reading_by
   read_none ls e = rw e (live-parts ls)
 
@@ -212,7 +212,7 @@ module _ (o : ℕ) (b : Board) where
     none_filled n = rw (not_low, n)
 
     module _ (e : in_register seconds_high_at o ≡ false) where
-      none-serves : (ls : Latches) → at_count_high o ≡ false → serving o ls ≡ Empty
+      none-serves : (ls : Latches) → at_count_high o ≡ false → serving o ls ≡ None
       unfolding serving count_serving
       none-serves ls n = rw (d, e, n)
 
@@ -237,7 +237,7 @@ module _ (o : ℕ) (b : Board) where
             either (eqb (byte_of o) 3) (λ t. rw (t, d, e, high-at, q, index))
             (λ t. rw t
             (ap (λ (counts : _). record { counts = counts; low = b.latches.low; high = b.latches.high })
-            (set-get_or b.latches.counts (channel_of o) (record { high = Empty }))))
+            (set-get_or b.latches.counts (channel_of o) (record { high = None }))))
 
         count-parts : in_register count_high_at (place_of o) ≡ true → read_count_high o b ≡ given b (by b.latches)
         unfolding read_count_high serving count_serving

@@ -21,8 +21,9 @@ use Rattle.clock.specs.Sound.{sound_rate}
 use Rattle.clock.proofs.Rate.{Rate, three-rate}
 use Rattle.clock.proofs.Soundness.{GoodClock, check-good, control_good, seconds-good, alarm-bytes-good, enable-good}
 use Rattle.clock.proofs.Soundness.{acknowledge-good}
-use Rattle.board.specs.declared.Latch.{Latch}
-use Rattle.board.specs.declared.Latch.TheVariants.{Empty, Held}
+use Rattle.board.specs.Fields.{Latch}
+use Rattle.board.specs.declared.refusal.Refusal.TheVariants.{NotSound}
+use Rattle.std.specs.Prelude.{None, Some}
 use Rattle.board.specs.declared.Board.{Board}
 use Rattle.board.specs.declared.calls.Call.{Call}
 use Rattle.board.specs.declared.calls.Call.TheVariants.{HostTime, Read, Write, Advance, Deadline, Skip, Source}
@@ -65,7 +66,7 @@ module _ {rate : ℕ} {b : Board} (p : GoodParts rate b) where
   channel-good n = all-get GoodTimer fresh_timer fresh_timer_good n b.timers p.timers
 
   count_fits : (n : ℕ) → LatchFits (count_latch n b)
-  count_fits n = all-get CountFits (record { high = Empty }) (omega arith) n b.latches.counts p.latches.counts
+  count_fits n = all-get CountFits (record { high = None }) (omega arith) n b.latches.counts p.latches.counts
 
   count-parts : (n : ℕ) (l : Latch) → LatchFits l → GoodParts rate (with_count_latch n l b)
   count-parts n l h =
@@ -109,7 +110,7 @@ module _ (rate offset : ℕ) where
       let counter = (channel_at (channel_of offset) b).counter in
       choose Kept (eqb (place_of offset) count_low_at)
       (λ _. live-kept
-      (count-parts p (channel_of offset) (Held (high_word counter))
+      (count-parts p (channel_of offset) (Some (high_word counter))
       (high-word counter (channel-good p (channel_of offset)).fits.counter)))
       (λ _. choose Kept (in_register count_high_at (place_of offset)) (λ _. count-high-kept p) (λ _. live-kept p))
 
@@ -118,7 +119,7 @@ module _ (rate offset : ℕ) where
   latched-kept {b} p =
       let s = time_seconds (rate_of b.clock) b.clock in
       choose (GoodParts rate) (eqb offset seconds_low_at)
-      (λ _. seconds-parts p (Held (low_word s)) (Held (high_word s)) (omega arith)
+      (λ _. seconds-parts p (Some (low_word s)) (Some (high_word s)) (omega arith)
       (high-word s (seconds_word (rate_of b.clock) b.clock)))
       (λ _. p)
 
@@ -240,7 +241,7 @@ module _ (call : Call) (b : Board) (c : CallFits call) (f : BoardFits b) where
   answered : (P : Board → Type 0) → P b → ((y : Board) → Good (rate_of b.clock) y → P y) → P (answer_of call b).board
   answered P p q =
       either (sound b) (λ s. q _ (answer-good call (call_keeps call) (rate_of b.clock) b c (good b f s)))
-      (λ s. rw (answer-refused call b 1 (rw s) refl) p)
+      (λ s. rw (← answer-refused call b NotSound (rw s)) p)
 
   pub call-sound : sound b ≡ true → sound (answer_of call b).board ≡ true
   call-sound = answer-kept call (call_keeps call) b c f

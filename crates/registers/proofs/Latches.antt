@@ -14,7 +14,7 @@ use Rattle.channel.specs.declared.HardwareTimer.{HardwareTimer}
 use Rattle.channel.specs.Registers.{count_low_at, count_high_at, word_of}
 use Rattle.clock.specs.declared.Clock.{Clock}
 use Rattle.clock.specs.Clock.{rate_of, time_seconds, check_alarm}
-use Rattle.board.specs.declared.Latch.TheVariants.{Empty, Held}
+use Rattle.std.specs.Prelude.{None, Some}
 use Rattle.board.specs.declared.Latches.{Latches}
 use Rattle.board.specs.declared.Board.{Board}
 use Rattle.board.specs.Fields.{channel_at}
@@ -56,7 +56,7 @@ use Rattle.registers.specs.CodeReads.{
 -- ---- a count's low word and its high word are different places
 
 -- no latch serves byte 0 of a count's low word
-low_unserved : (o : ℕ) (ls : Latches) → at_count_low o ≡ true → serving o ls ≡ Empty
+low_unserved : (o : ℕ) (ls : Latches) → at_count_low o ≡ true → serving o ls ≡ None
 unfolding at_count_low at_count_high count_serving serving
 low_unserved o ls e =
     let p = and_parts (in_channels o) (eqb (place_of o) count_low_at) e in
@@ -72,7 +72,7 @@ module _ (o counter : ℕ) (ls : Latches) where
       (λ e. low_unserved o _ e ∙ sym (low_unserved o ls e)) (λ _. refl)
 
   -- where one serves, none is filled
-  filled-held : (word : ℕ) → serving o ls ≡ Held word → count_filled o counter ls ≡ ls
+  filled-held : (word : ℕ) → serving o ls ≡ Some word → count_filled o counter ls ≡ ls
   unfolding count_filled
   filled-held word s =
       choose (λ (x : Latches). x ≡ ls) (at_count_low o)
@@ -87,8 +87,8 @@ module _ (h : HardwareTimer) (shared : ℕ) (k : Clock) (ls : Latches) (o : ℕ)
       ≡ record {
         byte = byte_of_word 0 (low_word (time_seconds (rate_of k) k));
         latches =
-            with_seconds (Held (low_word (time_seconds (rate_of k) k)))
-            (Held (high_word (time_seconds (rate_of k) k))) ls;
+            with_seconds (Some (low_word (time_seconds (rate_of k) k)))
+            (Some (high_word (time_seconds (rate_of k) k))) ls;
         pending = k.alarm.pending;
         armed = k.alarm.armed;
         rose = false;
@@ -98,12 +98,12 @@ module _ (h : HardwareTimer) (shared : ℕ) (k : Clock) (ls : Latches) (o : ℕ)
 
   module _ (n : eqb o seconds_low_at ≡ false) where
     -- a latch serves
-    pub by-latch : (word : ℕ) → serving o ls ≡ Held word → reading_of h shared k ls o ≡ latch_reading word k ls o
+    pub by-latch : (word : ℕ) → serving o ls ≡ Some word → reading_of h shared k ls o ≡ latch_reading word k ls o
     unfolding reading_of reading_by filled
     by-latch word s = rw (n, filled-held o h.counter ls word s, s)
 
     -- no latch serves
-    pub by_register : serving o ls ≡ Empty →
+    pub by_register : serving o ls ≡ None →
         reading_of h shared k ls o
         ≡ live_reading h shared (check_alarm (rate_of k) k) k.alarm.pending (count_filled o h.counter ls) o
     unfolding reading_of reading_by filled
@@ -129,7 +129,7 @@ module _ (o : ℕ) (p : plain_at o ≡ true) where
       let t = and_parts (not low) (not high) (and_parts (in_channels o) (not low && not high) p).1 in
       (not-true low t.0, not-true high t.1)
 
-  plain-unserved : (ls : Latches) → serving o ls ≡ Empty
+  plain-unserved : (ls : Latches) → serving o ls ≡ None
   unfolding serving count_serving at_count_high
   plain-unserved ls =
       let t = after-seconds o (omega (arith, plain-range.0)) in

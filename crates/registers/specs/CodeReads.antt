@@ -9,8 +9,8 @@ use Rattle.channel.specs.Registers.{count_low_at, count_high_at, word_of}
 use Rattle.clock.specs.declared.Clock.{Clock}
 use Rattle.clock.specs.Fields.{with_alarm}
 use Rattle.clock.specs.Clock.{rate_of, time_seconds, check_alarm}
-use Rattle.board.specs.declared.Latch.{Latch}
-use Rattle.board.specs.declared.Latch.TheVariants.{Empty, Held}
+use Rattle.board.specs.Fields.{Latch}
+use Rattle.std.specs.Prelude.{None, Some}
 use Rattle.board.specs.declared.Latches.{Latches}
 use Rattle.board.specs.declared.Board.{Board}
 use Rattle.board.specs.Fields.{with_clock, with_latches, channel_at}
@@ -58,19 +58,19 @@ with_seconds low high ls = record { counts = ls.counts; low = low; high = high }
 -- byte 0 of a count's low word fills the latch of its high word
 unfoldable pub count_filled : ℕ → ℕ → Latches → Latches
 count_filled offset counter ls =
-    cond (at_count_low offset) (with_count (channel_index offset) (Held (high_word counter)) ls) ls
+    cond (at_count_low offset) (with_count (channel_index offset) (Some (high_word counter)) ls) ls
 
 -- byte 0 of the clock's low seconds fills both of the clock's latches; elsewhere a count's may be filled
 unfoldable pub filled : ℕ → ℕ → Clock → Latches → Latches
 filled offset counter k ls =
     cond (eqb offset seconds_low_at)
-    (with_seconds (Held (low_word (time_seconds (rate_of k) k))) (Held (high_word (time_seconds (rate_of k) k))) ls)
+    (with_seconds (Some (low_word (time_seconds (rate_of k) k))) (Some (high_word (time_seconds (rate_of k) k))) ls)
     (count_filled offset counter ls)
 
 -- the latch of a count that serves the offset
 unfoldable pub count_serving : ℕ → Latches → Latch
 count_serving offset ls =
-    cond (at_count_high offset) (get_or ls.counts (channel_index offset) (record { high = Empty })).high Empty
+    cond (at_count_high offset) (get_or ls.counts (channel_index offset) (record { high = None })).high None
 
 -- the latch that serves the offset; elsewhere an empty one
 unfoldable pub serving : ℕ → Latches → Latch
@@ -81,13 +81,13 @@ serving offset ls =
 
 -- the latches with that latch of a count empty
 unfoldable pub count_freed : ℕ → Latches → Latches
-count_freed offset ls = cond (at_count_high offset) (with_count (channel_index offset) Empty ls) ls
+count_freed offset ls = cond (at_count_high offset) (with_count (channel_index offset) None ls) ls
 
 -- the latches with the one that serves the offset empty
 unfoldable pub latch_freed : ℕ → Latches → Latches
 latch_freed offset ls =
-    cond (in_register seconds_low_at offset) (with_seconds Empty ls.high ls)
-    (cond (in_register seconds_high_at offset) (with_seconds ls.low Empty ls)
+    cond (in_register seconds_low_at offset) (with_seconds None ls.high ls)
+    (cond (in_register seconds_high_at offset) (with_seconds ls.low None ls)
     (count_freed offset ls))
 
 -- the same, but only after byte 3

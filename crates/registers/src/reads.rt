@@ -9,13 +9,12 @@ ghost use Rattle.registers.specs.CodeReads.{channel_index, at_count_low, at_coun
 ghost use Rattle.registers.specs.CodeReads.{count_serving, serving, count_freed, latch_freed, freed_at};
 ghost use Rattle.registers.specs.CodeReads.{word_at, reading_of, offset_reading, plain_at, plain_of};
 
-use board::{Board, CountLatch, Latch, Latches};
+use board::{Board, CountLatch, Latches};
 use channel::HardwareTimer;
 use clock::Clock;
 use regmap::Registers;
 use regmap::fields::{byte_of_word, channel_of, place_of};
 use regmap::words::{clock_word, timer_word};
-use wide::flags::both;
 use wide::words::{high, low};
 
 // The result of a read: the latches after it, the byte, the alarm's two flags, and whether its alarm check set pending.
@@ -43,10 +42,7 @@ pub struct PlainReading {
 fn in_channels(offset: u32) -> bool
     ensures { result ≡ in_channels offset }
 {
-    both(
-        Registers::TIMER_CHANNEL_BASE <= offset,
-        offset <= Registers::TIMER_CHANNEL_LAST,
-    )
+    (Registers::TIMER_CHANNEL_BASE <= offset) & (offset <= Registers::TIMER_CHANNEL_LAST)
 }
 
 // The number of the channel in whose block the offset is, 0 elsewhere.
@@ -82,7 +78,7 @@ fn at_count_high(offset: u32) -> bool
 
 // ---- the latches
 
-fn with_count(mut latches: Latches, index: usize, latch: Latch) -> Latches
+fn with_count(mut latches: Latches, index: usize, latch: Option<u32>) -> Latches
     requires { index < 4 }
     ensures { result ≡ with_count index latch latches }
 {
@@ -95,13 +91,13 @@ fn count_filled(latches: Latches, counter: u64, offset: u32) -> Latches
     ensures { result ≡ count_filled offset counter latches }
 {
     if at_count_low(offset) {
-        return with_count(latches, channel_index(offset), Latch::Held(high(counter)));
+        return with_count(latches, channel_index(offset), Some(high(counter)));
     }
     latches
 }
 
 // The latch of a count that serves an offset.
-fn count_serving(latches: Latches, offset: u32) -> Latch
+fn count_serving(latches: Latches, offset: u32) -> Option<u32>
     ensures { result ≡ count_serving offset latches }
 {
     if at_count_high(offset) {
@@ -110,11 +106,11 @@ fn count_serving(latches: Latches, offset: u32) -> Latch
         let latch = count.high;
         return latch;
     }
-    Latch::Empty
+    None
 }
 
 // The latch that serves an offset; elsewhere an empty one.
-fn serving(latches: Latches, offset: u32) -> Latch
+fn serving(latches: Latches, offset: u32) -> Option<u32>
     ensures { result ≡ serving offset latches }
 {
     let low = latches.low;
@@ -131,7 +127,7 @@ fn count_freed(latches: Latches, offset: u32) -> Latches
     ensures { result ≡ count_freed offset latches }
 {
     if at_count_high(offset) {
-        return with_count(latches, channel_index(offset), Latch::Empty);
+        return with_count(latches, channel_index(offset), None);
     }
     latches
 }
@@ -142,11 +138,11 @@ fn latch_freed(latches: Latches, offset: u32) -> Latches
 {
     match offset {
         Registers::RTC_SECONDS_LO..=Registers::RTC_SECONDS_LO_LAST => Latches {
-            low: Latch::Empty,
+            low: None,
             ..latches
         },
         Registers::RTC_SECONDS_HI..=Registers::RTC_SECONDS_HI_LAST => Latches {
-            high: Latch::Empty,
+            high: None,
             ..latches
         },
         _ => count_freed(latches, offset),
@@ -209,8 +205,8 @@ fn reading_of(
         return LatchedReading {
             byte: byte_of_word(word, 0),
             latches: Latches {
-                low: Latch::Held(word),
-                high: Latch::Held(high(seconds)),
+                low: Some(word),
+                high: Some(high(seconds)),
                 ..latches
             },
             pending,
@@ -219,7 +215,7 @@ fn reading_of(
         };
     }
     let latch = serving(latches, offset);
-    let Latch::Held(word) = latch else {
+    let Some(word) = latch else {
         let checked = clock.check_alarm();
         let word = word_at(timer, checked, shared, offset);
         let before = clock.alarm.pending;
@@ -264,10 +260,7 @@ pub fn plain(offset: u32) -> bool
 {
     if in_channels(offset) {
         let register = place_of(offset) / 4 * 4;
-        return both(
-            register != HardwareTimer::COUNT_LO,
-            register != HardwareTimer::COUNT_HI,
-        );
+        return (register != HardwareTimer::COUNT_LO) & (register != HardwareTimer::COUNT_HI);
     }
     false
 }

@@ -16,17 +16,15 @@ const ID: u32 = 0x5154_0001;
 fn timer_pending(timers: [HardwareTimer; 4]) -> u32
     ensures { result ≡ pending_word timers }
 {
-    let mut word = 0u32;
-    let mut i = Registers::TIMER_CHANNELS;
-    while 0 < i {
-        i -= 1;
-        let t = timers[i];
-        word = t.pending as u32 + 2 * word;
+    let mut word = 0;
+    for (i, t) in timers.iter().enumerate() {
+        word += u32::from(t.pending) << i;
     }
     word
 }
 
 // The word of a register that all channels share.
+#[tactic(auto, unfolding(board::specs::RegisterWords::timer_word))]
 pub fn timer_word(timers: [HardwareTimer; 4], timer_enable: u8, register: u32) -> u32
     ensures { result ≡ timer_word register timer_enable timers }
 {
@@ -39,6 +37,7 @@ pub fn timer_word(timers: [HardwareTimer; 4], timer_enable: u8, register: u32) -
 }
 
 // The word of a register of the clock.
+#[tactic(auto, unfolding(board::specs::RegisterWords::clock_word))]
 pub fn clock_word(clock: Clock, register: u32) -> u32
     requires { Timed (rate_of clock) clock }
     ensures { result ≡ clock_word register clock }

@@ -1,15 +1,15 @@
 -- The parts of one call of a run: the step that is made of the call at the front, what it changes, and the stores of
 -- its record. Assumes nothing.
-use Prim.Native.Nat.{ℕ, ◌+◌, ◌<◌}
-use native.Mathlib.Omega.{arith}
+use Prim.Native.Nat.{ℕ, ◌+◌}
 use mathlib.Core.Path.{◌≡◌, refl, sym, ap, ◌∙◌}
-use mathlib.Core.Bool.{Bool, true, false, false≢true}
+use mathlib.Core.Bool.{Bool, true, false}
 use mathlib.Core.Option.{none}
+use Rattle.std.specs.Prelude.{Result, Ok, Err}
 use mathlib.Core.List.{List, [], ◌∷◌, ◌++◌}
 use lib.ListN.{length-append}
 use lib.Dec.{eqb}
+use mir.Val.{bool_byte}
 use lib.Seq.{sets}
-use borrow.Author.Tests.{ne_eqb}
 use Rattle.wide.specs.Bits.{bit, flag_of}
 use Rattle.wide.specs.Fields.{be}
 use Rattle.wide.proofs.BigEndian.{length-be}
@@ -17,25 +17,31 @@ use Rattle.board.specs.declared.Board.{Board}
 use Rattle.board.specs.declared.calls.Call.{Call}
 use Rattle.board.specs.declared.calls.Call.TheVariants.{HostTime, Read, Write, Advance, Deadline, Skip, Source}
 use Rattle.board.specs.declared.calls.Call.TheVariants.{ControllerRead, ControllerWrite, Output}
-use Rattle.board.specs.declared.calls.SkipAdvance.{SkipAdvance}
+use Rattle.board.specs.declared.refusal.Refusal.{Refusal}
 use Rattle.board.specs.Board.{line, sound}
 use Rattle.board.specs.Calls.{effect_of, skip_length}
-use Rattle.board.specs.CodeCalls.{skip_advance_of}
-use Rattle.board.proofs.Answers.{skip-advance-refusal, skip-advance-some, skip-advance-none}
+use Rattle.board.proofs.Answers.{some_refusal}
 use Rattle.board.proofs.Soundness.{sound_facts}
 use Rattle.format.specs.declared.Answer.TheVariants.{Skip as SkipBytes}
-use Rattle.format.specs.declared.Decoded.{Decoded}
-use Rattle.format.specs.declared.Lengths.{Lengths}
-use Rattle.format.specs.Format.{header_length, members_bytes, answer_bytes, value_bytes, record_of}
-use Rattle.format.specs.Codec.{tag_of, call_length, call_at, record_length, first_of, refusal_at}
-use Rattle.format.specs.CodeAnswers.{header_bytes}
-use Rattle.format.specs.CodeDecode.{lengths_of, value_refusal, decoded_of, board_refusal, first_refusal}
-use Rattle.format.proofs.Frames.{value-below, answer-below, sets_then}
-use Rattle.format.proofs.Decoding.{value_of, answer-of, decoded-accepted, first-refusal, accepted-refusal}
+use Rattle.format.specs.declared.Undecoded.{Undecoded}
+use Rattle.format.specs.declared.Undecoded.TheVariants.{Refused, NoRoom}
+use Rattle.format.specs.declared.tag.Tag.{Tag}
+use Rattle.format.specs.Tags.{tag_number}
+use Rattle.format.specs.Format.{answer_length, members_bytes, answer_bytes, value_bytes, record_of}
+use Rattle.format.specs.Codec.{tag_of, call_at, first_of, refusal_at}
+use Rattle.format.specs.CodeAnswers.{header_bytes, header_of}
+use Rattle.format.specs.CodeDecode.{Decoded, value_refusal, decoded, decoded_of, board_refusal, first_refusal}
+use Rattle.format.proofs.Frames.{sets_then}
+use Rattle.format.proofs.Decoding.{decoded-accepted, first-refusal, accepted-refusal}
 use Rattle.steps.specs.declared.Step.{Step}
 use Rattle.steps.specs.declared.Step.TheVariants as T
 use Rattle.steps.specs.declared.Changes.{Changes}
 use Rattle.steps.specs.CodeSteps.{Makes, SkipIs, StepIs, other_call, ChangesAre, Changed, passed_put, other_put}
+
+-- a flag as a byte
+byte_flag : (v : Bool) → bool_byte v ≡ flag_of v
+byte_flag true = refl
+byte_flag false = refl
 
 -- ---- arms of several cases, by the variants that other arms name
 
@@ -67,69 +73,47 @@ first_other (ControllerRead address) b n o = refl
 first_other (ControllerWrite byte address) b n o = refl
 first_other Output b n o = refl
 
--- of a skip it decides all: p is the advance that is made of it
-module _ (b : Board) (p : SkipAdvance) (e : p ≡ skip_advance_of (skip_length b)) where
-  own-skip : p.refusal ≡ (effect_of Skip b).refusal
-  own-skip = skip-advance-refusal p (skip_length b) e
+-- ---- the step
 
-  module _ (call : Call) (k : call ≡ Skip) (n : ℕ) where
-    pub first-skip : (p.refusal ≡ 0 → ⊥) → p.refusal ≡ first_of (board_refusal call b) n
-    first-skip f = rw (k, ← own-skip, ne_eqb p.refusal 0 f)
+module _ (b : Board) (l : List ℕ) (room : ℕ) where
+  -- of a call that decoding refuses
+  module _ (u : Undecoded) (e : decoded (Err u) ≡ decoded_of l room) where
+    numbered : (v : Undecoded) → eqb (decoded (Err v)).refusal 0 ≡ false
+    numbered (Refused refusal) = some_refusal refusal
+    numbered (NoRoom call) = refl
 
-    pub first-room : p.refusal ≡ 0 → n ≡ first_of (board_refusal call b) n
-    first-room z = rw (k, ← own-skip, z)
+    pub step-refused : first_refusal b (decoded (Err u)) ≡ refusal_at b l room
+    step-refused = ap (first_refusal b) e ∙ (first-refusal b l room (rw (← e) (numbered u))).0
 
-  pub skip-refuses : (p.refusal ≡ 0 → ⊥) → SkipIs b (T.Refused p.refusal)
-  skip-refuses f = (own-skip, ne_eqb p.refusal 0 f)
-
-  module _ (z : p.refusal ≡ 0) where
-    pub skip-passes : p.made ≡ true → SkipIs b (T.Pass false p.cycles.0)
-    skip-passes m = (
-      sym own-skip ∙ z,
-      record { advance = λ q. absurd (false≢true q); skip = λ _. (refl, skip-advance-some p (skip_length b) e m) },
-    )
-
-    pub skip-stays : p.made ≡ false → SkipIs b T.Stay
-    skip-stays m = (sym own-skip ∙ z, (refl, (skip-advance-none p (skip_length b) e z m).0))
-
--- ---- the step: d is what is found of the call at the front
-
-module _ (b : Board) (l : List ℕ) (room : ℕ) (d : Decoded) (e : d ≡ decoded_of l room) where
-  pub step-refused : (n : ℕ) → n ≡ first_refusal b d → (d.refusal ≡ 0 → ⊥) →
-      (n ≡ refusal_at b l room) × (eqb n 0 ≡ false)
-  step-refused n q f =
-      let p = first-refusal b l room (rw e at (ne_eqb d.refusal 0 f)) in
-      let r : n ≡ refusal_at b l room = q ∙ ap (first_refusal b) e ∙ p.0 in
-      (r, rw r p.1)
-
-  module _ (z : d.refusal ≡ 0) (call : Call) (k : d.call ≡ call) where
-    found : (decoded_of l room).refusal ≡ 0
-    found = rw e at z
+  -- of one that it accepts
+  module _ (found : Call) (e : decoded (Ok found) ≡ decoded_of l room) (call : Call) (k : found ≡ call) where
+    clear : (decoded_of l room).refusal ≡ 0
+    clear = sym (ap (λ (d : Decoded). d.refusal) e)
 
     there : call_at l ≡ call
-    there = sym (decoded-accepted l room found).0 ∙ ap (λ (x : Decoded). x.call) (sym e) ∙ k
+    there = sym (decoded-accepted l room clear).0 ∙ sym (ap (λ (d : Decoded). d.call) e) ∙ k
 
     own : refusal_at b l room ≡ (effect_of call b).refusal
-    own = accepted-refusal b l room found ∙ ap (λ (x : Call). (effect_of x b).refusal) there
+    own = accepted-refusal b l room clear ∙ ap (λ (x : Call). (effect_of x b).refusal) there
 
-    -- of a call whose members decide its own refusal
-    pub step-accepted : (effect_of call b).refusal ≡ value_refusal call → (step : Step) → Makes 0 call b step →
-        StepIs b l room step
+    -- where its members decide its own refusal
+    pub step-accepted : (effect_of call b).refusal ≡ value_refusal call → (step : Step) → Makes call b step →
+        StepIs b l room (Ok step)
     step-accepted v step m =
-        rw (own ∙ v ∙ ap value_refusal (sym there) ∙ (decoded-accepted l room found).1.1.0, there) m
+        (own ∙ v ∙ ap value_refusal (sym there) ∙ (decoded-accepted l room clear).1.1.0, rw there m)
 
-  pub step-skips : d.refusal ≡ 0 → d.call ≡ Skip → (step : Step) → SkipIs b step → StepIs b l room step
-  step-skips z k step m = rw (own z Skip k, there z Skip k) m
+  pub step-skips : (found : Call) → decoded (Ok found) ≡ decoded_of l room → found ≡ Skip →
+      (r : Result Step Refusal) → SkipIs b r → StepIs b l room r
+  step-skips found e k r m = rw (own found e Skip k, there found e Skip k) m
 
 -- ---- the calls that change host time or the controller at most
 
 -- the rest: the tag of a skip, and the changes of one that stays
 rest_is : (step : Step) → Rest step → (◌≡◌ {A = ℕ} 6 (tag_of (other_call step)))
     × ((b : Board) (c : Changes) → (skip_length b ≡ none → ChangesAre Skip b c) → Changed step b c)
-rest_is (T.Refused refusal) o = (refl, λ b c h. h)
 rest_is (T.Read offset) o = (refl, λ b c h. h)
 rest_is (T.Write byte offset) o = (refl, λ b c h. h)
-rest_is (T.Pass counted n) o = (refl, λ b c h. h)
+rest_is (T.Pass passing n) o = (refl, λ b c h. h)
 rest_is (T.HostTime nanoseconds seconds) o = absurd (o.host nanoseconds seconds refl)
 rest_is T.Stay o = (refl, λ b c h. h)
 rest_is T.Deadline o = absurd (o.deadline refl)
@@ -143,11 +127,11 @@ rest_tag step o = (rest_is step o).0
 
 -- a skip that stays: the level of source 3 is the line
 pub rest_changes : (b : Board) → sound b ≡ true → (step : Step) → Rest step → (level : Bool) →
-    level ≡ bit 3 b.controller.levels → (v : ℕ) → v ≡ flag_of level →
+    level ≡ bit 3 b.controller.levels → (v : ℕ) → v ≡ bool_byte level →
     Changed step b (record { host = b.clock.host; controller = b.controller; answer = SkipBytes 0 v })
 unfolding value_bytes
 rest_changes b s step o level e v f =
-    let q : v ≡ flag_of (line b) = f ∙ ap flag_of (e ∙ (sound_facts b s).level) in
+    let q : v ≡ flag_of (line b) = f ∙ byte_flag level ∙ ap flag_of (e ∙ (sound_facts b s).level) in
     (rest_is step o).1 b _ (λ n. rw (n, q) (refl, refl))
 
 -- ---- stores: m is the buffer with the header, r the buffer with the value behind it
@@ -168,34 +152,20 @@ pub byte_then : (buf m r : List ℕ) (at v : ℕ) → m ≡ sets buf at (header_
 byte_then buf m r at v e f = header_then buf m r at 2 1 (be 1 v) e f ∙ ap (sets buf at) (byte_record v)
 
 -- of a pass: the header, and the line behind it or behind the cycles
-module _ (counted : Bool) (buf m r : List ℕ) (at v : ℕ) (line : Bool) (f : v ≡ flag_of line) where
-  pub advance-passed : counted ≡ true → m ≡ sets buf at (header_bytes 4 65) → r ≡ sets m (at + 3) (be 1 v) →
-      r ≡ passed_put counted (flag_of line) at buf
+module _ (buf m r : List ℕ) (at v : ℕ) (line : Bool) (f : v ≡ bool_byte line) where
+  pub advance-passed : m ≡ sets buf at (header_of 4) → r ≡ sets m (at + 3) (be 1 v) →
+      r ≡ passed_put true (flag_of line) at buf
   unfolding passed_put
-  advance-passed t e g = rw (t, ← f) (header_then buf m r at 4 65 (be 1 v) e g)
+  advance-passed e g = rw (← byte_flag line, ← f) (header_then buf m r at 4 65 (be 1 v) e g)
 
-  pub skip-passed : counted ≡ false → m ≡ sets buf at (header_bytes 6 9) → r ≡ sets m (at + 11) (be 1 v) →
-      r ≡ passed_put counted (flag_of line) at buf
+  pub skip-passed : m ≡ sets buf at (header_of 6) → r ≡ sets m (at + 11) (be 1 v) →
+      r ≡ passed_put false (flag_of line) at buf
   unfolding passed_put
-  skip-passed t e g = rw (t, ← f, ← e) g
+  skip-passed e g = rw (← byte_flag line, ← f, ← e) g
 
--- ---- lengths, and the record of another call: n are the lengths of its tag
-
-module _ (call : Call) (tag : ℕ) (t : tag ≡ tag_of call) (n : Lengths) (e : n ≡ lengths_of tag) where
-  lengths-are : n ≡ lengths_of (tag_of call)
-  lengths-are = e ∙ ap lengths_of t
-
-  pub call-bytes : (n.value < 256) × (header_length + n.value ≡ call_length call)
-  call-bytes =
-      let v = value_of (tag_of call) n lengths-are in
-      (omega (arith, v, value-below call), ap (λ (m : ℕ). header_length + m) v)
-
-  pub record-bytes : (n.answer < 256) × (header_length + n.answer ≡ record_length call)
-  record-bytes =
-      let v = answer-of (tag_of call) n lengths-are in
-      (omega (arith, v, answer-below call), ap (λ (m : ℕ). header_length + m) v)
-
-  pub other-then : (buf m r : List ℕ) (at : ℕ) (value : List ℕ) → m ≡ sets buf at (header_bytes tag n.answer) →
-      r ≡ sets m (at + 3) value → r ≡ other_put (tag_of call) at value buf
-  other-then buf m r at value f g =
-      rw (← t, ← answer-of tag n e) (header_then buf m r at tag n.answer value f g)
+-- of another call
+pub other-then : (call : Call) (tag : Tag) → tag_number tag ≡ tag_of call → (buf m r : List ℕ) (at : ℕ)
+    (value : List ℕ) → m ≡ sets buf at (header_of (tag_number tag)) → r ≡ sets m (at + 3) value →
+    r ≡ other_put (tag_of call) at value buf
+other-then call tag t buf m r at value f g =
+    rw (← t) (header_then buf m r at (tag_number tag) (answer_length (tag_number tag)) value f g)

@@ -6,12 +6,14 @@ use native.Mathlib.Omega.{arith}
 use mathlib.Core.Path.{◌≡◌, refl, sym, ap, ◌∙◌, subst}
 use mathlib.Core.Bool.{Bool, true, false, true≢false, false≢true}
 use mathlib.Core.Option.{Option}
+use Rattle.std.specs.Prelude.{Ok}
 use mathlib.Core.List.{List, [], ◌∷◌, append-nil}
 use lib.ListN.{length}
 use lib.Seq.{sets}
 use lib.Dec.{eqb}
 use Rattle.wide.specs.Bits.{bit, flag_of}
 use Rattle.wide.proofs.Choices.{choose}
+use Rattle.channel.specs.declared.Cycles.{Cycles}
 use Rattle.channel.specs.Registers.{byte_written}
 use Rattle.channel.specs.Matches.{matches_of}
 use Rattle.controller.specs.declared.IrqController.{IrqController}
@@ -43,6 +45,7 @@ use Rattle.format.specs.CodeAnswers.{header_bytes}
 use Rattle.format.specs.Codec.{tag_of, call_length, answer_record, record_length, call_at, refusal_at}
 use Rattle.format.proofs.Frames.{answer-length}
 use Rattle.format.proofs.Decoding.{clear}
+use Rattle.steps.specs.declared.Passing.{Passing}
 use Rattle.steps.specs.declared.Step.{Step}
 use Rattle.steps.specs.declared.Step.TheVariants as T
 use Rattle.steps.specs.declared.Changes.{Changes}
@@ -53,15 +56,14 @@ use Rattle.steps.proofs.Records.{counts_put, counts_over, other_record, advance-
 
 -- the steps without an arm of their own
 pub record Other (step : Step) : Type 0 where
-  pub refused : (refusal : ℕ) → step ≡ T.Refused refusal → ⊥
   pub read : (offset : ℕ) → step ≡ T.Read offset → ⊥
   pub write : (byte offset : ℕ) → step ≡ T.Write byte offset → ⊥
-  pub pass : (counted : Bool) (cycles : ℕ) → step ≡ T.Pass counted cycles → ⊥
+  pub pass : (passing : Passing) (cycles : Cycles) → step ≡ T.Pass passing cycles → ⊥
 
-pub other_of : {step : Step} → ((refusal : ℕ) → step ≡ T.Refused refusal → ⊥) →
-    ((offset : ℕ) → step ≡ T.Read offset → ⊥) → ((byte offset : ℕ) → step ≡ T.Write byte offset → ⊥) →
-    ((counted : Bool) (cycles : ℕ) → step ≡ T.Pass counted cycles → ⊥) → Other step
-other_of r s w p = record { refused = r; read = s; write = w; pass = p }
+pub other_of : {step : Step} → ((offset : ℕ) → step ≡ T.Read offset → ⊥) →
+    ((byte offset : ℕ) → step ≡ T.Write byte offset → ⊥) →
+    ((passing : Passing) (cycles : Cycles) → step ≡ T.Pass passing cycles → ⊥) → Other step
+other_of r w p = record { read = r; write = w; pass = p }
 
 -- what a way of the code leaves of a call: the board y, on which source 3 is to be set where `moved` says so, and the
 -- buffer buf', with the call's record from index at on
@@ -227,12 +229,12 @@ module _ (b : Board) (s : sound b ≡ true) (at : ℕ) (buf : List ℕ) where
       × ((wired (effect_of (other_call step) b).board ≡ (effect_of (other_call step) b).board)
       × ((c : Changes) → Changed step b c → ChangesAre (other_call step) b c)))
 
-  pub other_does : (l : List ℕ) (room : ℕ) (step : Step) → Other step → StepIs b l room step → OtherDoes l room step
+  pub other_does : (l : List ℕ) (room : ℕ) (step : Step) → Other step → StepIs b l room (Ok step) →
+      OtherDoes l room step
   unfolding line
-  other_does l room (T.Refused refusal) k h = absurd (k.refused refusal refl)
   other_does l room (T.Read offset) k h = absurd (k.read offset refl)
   other_does l room (T.Write byte offset) k h = absurd (k.write byte offset refl)
-  other_does l room (T.Pass counted c) k h = absurd (k.pass counted c refl)
+  other_does l room (T.Pass passing c) k h = absurd (k.pass passing c refl)
   other_does l room (T.HostTime nanoseconds seconds) k h =
       (h.0, (h.1, (level_still _ refl refl, λ c x. x)))
   other_does l room T.Stay k h = (h.0, (h.1.0, (rw h.1.1 (wired_sound b s), λ c x. x h.1.1)))

@@ -1,6 +1,6 @@
 -- Not document 01's sentences: what the code makes of the first call of a list, and the steps in which it writes the
 -- call's record. The rules are `refusal_at`, `effect_of` and `answer_record`; the proofs show that the two agree.
-use Rattle.std.specs.Prelude.{ℕ, ◌+◌, ◌*◌, ◌≡◌, List, [], ◌∷◌, ◌++◌, Bool, true, false, eqb}
+use Rattle.std.specs.Prelude.{ℕ, ◌+◌, ◌*◌, ◌≡◌, List, [], ◌∷◌, ◌++◌, Bool, true, false, Result, Ok, Err}
 use Rattle.std.proofs.Math.Option.{none, some}
 use Rattle.std.proofs.lemmas.List.Edits.{sets}
 use Rattle.wide.specs.Fields.{be}
@@ -8,6 +8,8 @@ use Rattle.clock.specs.declared.HostTime.{HostTime as HostTimeOf}
 use Rattle.clock.specs.Fields.{with_host}
 use Rattle.controller.specs.declared.IrqController.{IrqController}
 use Rattle.board.specs.declared.Board.{Board}
+use Rattle.board.specs.declared.refusal.Refusal.{Refusal}
+use Rattle.board.specs.Refusals.{refusal_number}
 use Rattle.board.specs.declared.calls.Call.{Call}
 use Rattle.board.specs.declared.calls.Call.TheVariants.{HostTime, Read, Write, Deadline, Skip, Source}
 use Rattle.board.specs.declared.calls.Call.TheVariants.{ControllerRead, ControllerWrite, Output}
@@ -17,6 +19,8 @@ use Rattle.board.specs.Calls.{effect_of, advance_by, skip_length}
 use Rattle.format.specs.Format.{answer_length, answer_bytes, value_bytes}
 use Rattle.format.specs.Codec.{call_at, refusal_at, tag_of}
 use Rattle.format.specs.CodeAnswers.{header_bytes, wides}
+use Rattle.steps.specs.declared.Passing.{Passing}
+use Rattle.steps.specs.declared.Passing.TheVariants as P
 use Rattle.steps.specs.declared.Step.{Step}
 use Rattle.steps.specs.declared.Step.TheVariants as T
 use Rattle.steps.specs.declared.Changes.{Changes}
@@ -39,36 +43,44 @@ pub record Passes (call : Call) (b : Board) (counted : Bool) (c : ℕ) : Type 0 
   pub advance : counted ≡ true → call ≡ advance_by c
   pub skip : counted ≡ false → (call ≡ Skip) × (skip_length b ≡ some c)
 
--- the step of a call whose refusal is n
-abbrev pub Makes : ℕ → Call → Board → Step → Type 0
-Makes n call b (T.Refused refusal) = (refusal ≡ n) × (eqb refusal 0 ≡ false)
-Makes n call b (T.Read offset) = (n ≡ 0) × Reads call offset
-Makes n call b (T.Write byte offset) = (n ≡ 0) × Writes call byte offset
-Makes n call b (T.Pass counted c) = (n ≡ 0) × Passes call b counted c
-Makes n call b (T.HostTime nanoseconds seconds) = (n ≡ 0) × (call ≡ HostTime nanoseconds seconds)
-Makes n call b T.Stay = (n ≡ 0) × ((call ≡ Skip) × (skip_length b ≡ none))
-Makes n call b T.Deadline = (n ≡ 0) × (call ≡ Deadline)
-Makes n call b (T.Source number level) = (n ≡ 0) × (call ≡ Source number level)
-Makes n call b (T.ControllerRead address) = (n ≡ 0) × (call ≡ ControllerRead address)
-Makes n call b (T.ControllerWrite byte address) = (n ≡ 0) × (call ≡ ControllerWrite byte address)
-Makes n call b T.Output = (n ≡ 0) × (call ≡ Output)
+-- whether compare points are counted
+abbrev pub counts : Passing → Bool
+counts P.Advance = true
+counts P.Skip = false
+
+-- the step of an accepted call
+abbrev pub Makes : Call → Board → Step → Type 0
+Makes call b (T.Read offset) = Reads call offset
+Makes call b (T.Write byte offset) = Writes call byte offset
+Makes call b (T.Pass passing c) = Passes call b (counts passing) c.0
+Makes call b (T.HostTime nanoseconds seconds) = call ≡ HostTime nanoseconds seconds
+Makes call b T.Stay = (call ≡ Skip) × (skip_length b ≡ none)
+Makes call b T.Deadline = call ≡ Deadline
+Makes call b (T.Source number level) = call ≡ Source number level
+Makes call b (T.ControllerRead address) = call ≡ ControllerRead address
+Makes call b (T.ControllerWrite byte address) = call ≡ ControllerWrite byte address
+Makes call b T.Output = call ≡ Output
+
+-- what becomes of a call whose refusal is n
+abbrev pub Becomes : ℕ → Call → Board → Result Step Refusal → Type 0
+Becomes n call b (Ok step) = (n ≡ 0) × Makes call b step
+Becomes n call b (Err refusal) = refusal_number refusal ≡ n
 
 -- the step of a skip
-abbrev pub SkipIs : Board → Step → Type 0
-SkipIs b step = Makes (effect_of Skip b).refusal Skip b step
+abbrev pub SkipIs : Board → Result Step Refusal → Type 0
+SkipIs b r = Becomes (effect_of Skip b).refusal Skip b r
 
 -- the step of the first call of a list, with this room for its answer
-abbrev pub StepIs : Board → List ℕ → ℕ → Step → Type 0
-StepIs b l room step = Makes (refusal_at b l room) (call_at l) b step
+abbrev pub StepIs : Board → List ℕ → ℕ → Result Step Refusal → Type 0
+StepIs b l room r = Becomes (refusal_at b l room) (call_at l) b r
 
 -- ---- the calls that change at most host time or the controller
 
 -- the call of such a step; `Skip` for every other step
 abbrev pub other_call : Step → Call
-other_call (T.Refused refusal) = Skip
 other_call (T.Read offset) = Skip
 other_call (T.Write byte offset) = Skip
-other_call (T.Pass counted c) = Skip
+other_call (T.Pass passing c) = Skip
 other_call (T.HostTime nanoseconds seconds) = HostTime nanoseconds seconds
 other_call T.Stay = Skip
 other_call T.Deadline = Deadline
@@ -89,10 +101,9 @@ ChangesAre call b c =
 
 -- what such a step changes
 abbrev pub Changed : Step → Board → Changes → Type 0
-Changed (T.Refused refusal) b c = skip_length b ≡ none → ChangesAre Skip b c
 Changed (T.Read offset) b c = skip_length b ≡ none → ChangesAre Skip b c
 Changed (T.Write byte offset) b c = skip_length b ≡ none → ChangesAre Skip b c
-Changed (T.Pass counted n) b c = skip_length b ≡ none → ChangesAre Skip b c
+Changed (T.Pass passing n) b c = skip_length b ≡ none → ChangesAre Skip b c
 Changed (T.HostTime nanoseconds seconds) b c = ChangesAre (HostTime nanoseconds seconds) b c
 Changed T.Stay b c = skip_length b ≡ none → ChangesAre Skip b c
 Changed T.Deadline b c = ChangesAre Deadline b c

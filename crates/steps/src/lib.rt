@@ -9,32 +9,41 @@ ghost use Rattle.wide.specs.Number.{value_of};
 ghost use Rattle.wide.specs.Fields.{be};
 ghost use Rattle.board.specs.Board.{sound};
 ghost use Rattle.format.specs.Format.{answer_bytes, value_bytes, record_of};
-ghost use Rattle.format.specs.Codec.{tag_of, call_length, record_length};
-ghost use Rattle.format.specs.CodeDecode.{first_refusal};
-ghost use Rattle.steps.specs.CodeSteps.{StepIs, SkipIs, Changed, other_call, pass_call};
+ghost use Rattle.board.specs.Refusals.{refusal_number};
+ghost use Rattle.format.specs.Codec.{tag_of};
+ghost use Rattle.format.specs.Tags.{tag_number};
+ghost use Rattle.format.specs.CodeDecode.{decoded, first_refusal};
+ghost use Rattle.steps.specs.CodeSteps.{StepIs, SkipIs, Changed, other_call, counts, pass_call};
 ghost use Rattle.steps.specs.CodeSteps.{begun_put, count_put, passed_put, other_put};
 
 use board::Board;
 use board::calls::Call;
+use board::refusal::Refusal;
+use channel::Cycles;
 use clock::HostTime;
 use controller::{IrqController, SourceNumber};
-use format::{Answer, Decoded};
+use format::tag::Tag;
+use format::{Answer, Undecoded};
 use regmap::Registers;
 use wide::fields;
-use wide::flags::flag;
 use wide::number::Wide;
 
-// What a run does with the next call of its list.
+// The calls in which cycles pass: an advance, whose compare points are counted, and a skip, whose are not.
+#[derive(Clone, Copy)]
+pub enum Passing {
+    Advance,
+    Skip,
+}
+
+// What a run does with the next call of its list, where the call is not refused.
 #[derive(Clone, Copy)]
 pub enum Step {
-    // The call is refused.
-    Refused(u8),
     // An offset.
     Read(u32),
     // A byte and an offset.
     Write(u8, u32),
-    // Cycles pass: whether they are an advance's, whose compare points are counted, or a skip's; and how many.
-    Pass(bool, u64),
+    // Cycles pass.
+    Pass(Passing, Cycles),
     // Nanoseconds and seconds.
     HostTime(u32, u64),
     // A skip that makes no advance.
@@ -63,64 +72,58 @@ const SKIP_LINE: usize = format::HEADER_LENGTH + 8;
 // ---- the step
 
 // The refusal of a call that its bytes or the room refuse: a skip's own comes before the room's.
-fn first_refusal(board: Board, front: Decoded) -> u8
+fn first_refusal(board: Board, front: Undecoded) -> Refusal
     requires { sound board ≡ true }
-    ensures { result ≡ first_refusal board front }
+    ensures { refusal_number result ≡ first_refusal board (decoded (Err front)) }
 {
-    let call = front.call;
-    let Call::Skip = call else {
-        return front.refusal;
-    };
-    let skip = board.skip_length();
-    if skip.refusal != 0 {
-        return skip.refusal;
+    match front {
+        Undecoded::Refused(refusal) => refusal,
+        Undecoded::NoRoom(Call::Skip) => match board.skip_length() {
+            Err(own) => own,
+            Ok(cycles) => Refusal::BufferShort,
+        },
+        Undecoded::NoRoom(_) => Refusal::BufferShort,
     }
-    front.refusal
 }
 
 // A skip: refused, an advance, or none.
-fn skip_step(board: Board) -> Step
+fn skip_step(board: Board) -> Result<Step, Refusal>
     requires { sound board ≡ true }
     ensures { SkipIs board result }
 {
-    let skip = board.skip_length();
-    if skip.refusal != 0 {
-        return Step::Refused(skip.refusal);
+    match board.skip_length()? {
+        Some(cycles) => Ok(Step::Pass(Passing::Skip, cycles)),
+        None => Ok(Step::Stay),
     }
-    if skip.made {
-        let cycles = skip.cycles;
-        return Step::Pass(false, cycles.0);
-    }
-    Step::Stay
 }
 
 // The step of the first call in `rest`, with this room for its answer.
-pub fn step_of(board: Board, rest: &[u8], room: usize) -> Step
+pub fn step_of(board: Board, rest: &[u8], room: usize) -> Result<Step, Refusal>
     requires { sound board ≡ true }
     ensures { StepIs board rest.now room result }
 {
-    let front = format::decode(rest, room);
-    if front.refusal != 0 {
-        return Step::Refused(first_refusal(board, front));
-    }
-    let call = front.call;
+    let call = match format::decode(rest, room) {
+        Ok(call) => call,
+        Err(front) => return Err(first_refusal(board, front)),
+    };
     match call {
-        Call::HostTime(nanoseconds, seconds) => Step::HostTime(nanoseconds, seconds),
-        Call::Read(address) => Step::Read(address as u32 + Registers::BASE),
-        Call::Write(byte, address) => Step::Write(byte, address as u32 + Registers::BASE),
-        Call::Advance(cycles) => Step::Pass(true, cycles.0),
-        Call::Deadline => Step::Deadline,
+        Call::HostTime(nanoseconds, seconds) => Ok(Step::HostTime(nanoseconds, seconds)),
+        Call::Read(address) => Ok(Step::Read(u32::from(address) + Registers::BASE)),
+        Call::Write(byte, address) => Ok(Step::Write(byte, u32::from(address) + Registers::BASE)),
+        Call::Advance(cycles) => Ok(Step::Pass(Passing::Advance, cycles)),
+        Call::Deadline => Ok(Step::Deadline),
         Call::Skip => skip_step(board),
-        Call::Source(number, level) => Step::Source(number, level),
-        Call::ControllerRead(address) => Step::ControllerRead(address),
-        Call::ControllerWrite(byte, address) => Step::ControllerWrite(byte, address),
-        Call::Output => Step::Output,
+        Call::Source(number, level) => Ok(Step::Source(number, level)),
+        Call::ControllerRead(address) => Ok(Step::ControllerRead(address)),
+        Call::ControllerWrite(byte, address) => Ok(Step::ControllerWrite(byte, address)),
+        Call::Output => Ok(Step::Output),
     }
 }
 
 // ---- the calls that change at most host time or the controller
 
 // Host time, controller and answer after such a step.
+#[tactic(auto, unfolding(format::specs::Format::value_bytes, format::specs::Format::members_bytes))]
 pub fn changes_of(board: Board, step: Step) -> Changes
     requires { sound board ≡ true }
     ensures { Changed step board result }
@@ -157,73 +160,50 @@ pub fn changes_of(board: Board, step: Step) -> Changes
             Changes {
                 host,
                 controller,
-                answer: Answer::Pair(flag(o.valid), o.number.0),
+                answer: Answer::Pair(u8::from(o.valid), o.number.0),
             }
         }
-        Step::Deadline => {
-            let members = board.deadline_members();
-            let exact = members.exact;
-            let word = members.word;
-            Changes {
-                host,
-                controller,
-                answer: Answer::Deadline(flag(members.present), exact, word.0),
-            }
-        }
+        Step::Deadline => Changes {
+            host,
+            controller,
+            answer: Answer::Deadline(board.deadline_members()),
+        },
         _ => Changes {
             host,
             controller,
             answer: Answer::Skip(
                 0,
-                flag(controller::level_of(controller, Board::LINE_SOURCE)),
+                u8::from(controller::level_of(controller, Board::LINE_SOURCE)),
             ),
         },
     }
 }
 
 // The tag of such a step's call.
-fn tag_of(step: Step) -> u8
-    ensures { result ≡ tag_of (other_call step) }
+pub fn tag_of(step: Step) -> Tag
+    ensures { tag_number result ≡ tag_of (other_call step) }
 {
     match step {
-        Step::HostTime(nanoseconds, seconds) => 1,
-        Step::Deadline => 5,
-        Step::Source(number, level) => 7,
-        Step::ControllerRead(address) => 8,
-        Step::ControllerWrite(byte, address) => 9,
-        Step::Output => 10,
-        _ => 6,
+        Step::HostTime(nanoseconds, seconds) => Tag::HostTime,
+        Step::Deadline => Tag::Deadline,
+        Step::Source(number, level) => Tag::Source,
+        Step::ControllerRead(address) => Tag::ControllerRead,
+        Step::ControllerWrite(byte, address) => Tag::ControllerWrite,
+        Step::Output => Tag::Output,
+        _ => Tag::Skip,
     }
 }
 
-// The list bytes that such a step's call uses.
-pub fn call_length(step: Step) -> usize
-    ensures { result ≡ call_length (other_call step) }
-{
-    let lengths = format::lengths_of(tag_of(step));
-    format::HEADER_LENGTH + lengths.value
-}
-
-// The bytes of the record of its answer.
-pub fn record_length(step: Step) -> usize
-    ensures { result ≡ record_length (other_call step) }
-{
-    let lengths = format::lengths_of(tag_of(step));
-    format::HEADER_LENGTH + lengths.answer
-}
-
-// The list bytes that an advance or a skip uses.
-pub fn pass_length(counted: bool) -> usize
-    ensures { result ≡ call_length (pass_call counted 0) }
-{
-    if counted { 11 } else { 3 }
-}
-
-// The bytes of the record of its answer.
-pub fn pass_record(counted: bool) -> usize
-    ensures { result ≡ record_length (pass_call counted 0) }
-{
-    if counted { 68 } else { 12 }
+impl Passing {
+    // The tag of its call.
+    pub fn tag(self) -> Tag
+        ensures { tag_number result ≡ tag_of (pass_call (counts self) 0) }
+    {
+        match self {
+            Passing::Advance => Tag::Advance,
+            Passing::Skip => Tag::Skip,
+        }
+    }
 }
 
 // ---- records, from index at on
@@ -233,44 +213,50 @@ pub fn put_byte(buf: &mut [u8], at: usize, byte: u8)
     requires { at + 4 ≤ length buf.old }
     ensures { buf.new ≡ sets buf.old at (record_of 2 (answer_bytes 2 (byte ∷ []))) }
 {
-    format::put_header(buf, at, 2, 1);
-    fields::put(buf, at + format::HEADER_LENGTH, byte as u64, 1);
+    format::put_header(buf, at, Tag::Read);
+    fields::put(buf, at + format::HEADER_LENGTH, u64::from(byte), 1);
 }
 
 // Writes, before the cycles pass, the counts of an advance as 0, or the cycles of a skip.
-pub fn put_begun(buf: &mut [u8], at: usize, counted: bool, cycles: u64)
-    requires { (counted ≡ true → at + 68 ≤ length buf.old) × (at + 12 ≤ length buf.old) }
-    ensures { buf.new ≡ begun_put counted cycles at buf.old }
+#[tactic(auto, unfolding(crate::specs::CodeSteps::begun_put))]
+pub fn put_begun(buf: &mut [u8], at: usize, passing: Passing, cycles: Cycles)
+    requires { (counts passing ≡ true → at + 68 ≤ length buf.old) × (at + 12 ≤ length buf.old) }
+    ensures { buf.new ≡ begun_put (counts passing) cycles.0 at buf.old }
 {
-    if counted {
-        format::put_no_counts(buf, at + COUNTS);
-    } else {
-        fields::put(buf, at + format::HEADER_LENGTH, cycles, 8);
+    match passing {
+        Passing::Advance => format::put_no_counts(buf, at + COUNTS),
+        Passing::Skip => fields::put(buf, at + format::HEADER_LENGTH, cycles.0, 8),
     }
 }
 
 // Writes how many compare points channel i met in an advance, over its count of 0; a skip has no counts.
-pub fn put_points(buf: &mut [u8], at: usize, counted: bool, i: usize, points: Wide)
-    requires { (i < 4) × (counted ≡ true → (at + 68 ≤ length buf.old)
+#[tactic(auto, unfolding(crate::specs::CodeSteps::count_put))]
+pub fn put_points(buf: &mut [u8], at: usize, passing: Passing, i: usize, points: Wide)
+    requires { (i < 4) × (counts passing ≡ true → (at + 68 ≤ length buf.old)
         × (sets buf.old (at + 4 + 16 * i) (be 16 0) ≡ buf.old)) }
-    ensures { buf.new ≡ count_put counted at i (value_of points) buf.old }
+    ensures { buf.new ≡ count_put (counts passing) at i (value_of points) buf.old }
 {
-    if counted {
-        format::put_count(buf, at + COUNTS + format::COUNT_LENGTH * i, points);
+    match passing {
+        Passing::Advance => format::put_count(buf, at + COUNTS + format::COUNT_LENGTH * i, points),
+        Passing::Skip => {}
     }
 }
 
 // Writes, after the cycles have passed, the header and the line.
-pub fn put_passed(buf: &mut [u8], at: usize, counted: bool, line: bool)
+#[tactic(auto, unfolding(crate::specs::CodeSteps::passed_put))]
+pub fn put_passed(buf: &mut [u8], at: usize, passing: Passing, line: bool)
     requires { at + 12 ≤ length buf.old }
-    ensures { buf.new ≡ passed_put counted (flag_of line) at buf.old }
+    ensures { buf.new ≡ passed_put (counts passing) (flag_of line) at buf.old }
 {
-    if counted {
-        format::put_header(buf, at, 4, 65);
-        fields::put(buf, at + format::HEADER_LENGTH, flag(line) as u64, 1);
-    } else {
-        format::put_header(buf, at, 6, 9);
-        fields::put(buf, at + SKIP_LINE, flag(line) as u64, 1);
+    match passing {
+        Passing::Advance => {
+            format::put_header(buf, at, Tag::Advance);
+            fields::put(buf, at + format::HEADER_LENGTH, u64::from(line), 1);
+        }
+        Passing::Skip => {
+            format::put_header(buf, at, Tag::Skip);
+            fields::put(buf, at + SKIP_LINE, u64::from(line), 1);
+        }
     }
 }
 
@@ -281,8 +267,6 @@ pub fn put_other(buf: &mut [u8], at: usize, step: Step, changes: Changes)
         ≡ other_put (tag_of (other_call step)) at (value_bytes changes.answer) buf.old }
 {
     let answer = changes.answer;
-    let tag = tag_of(step);
-    let lengths = format::lengths_of(tag);
-    format::put_header(buf, at, tag, lengths.answer);
+    format::put_header(buf, at, tag_of(step));
     format::put_value(buf, at + format::HEADER_LENGTH, answer);
 }

@@ -1,12 +1,15 @@
 -- Sums, differences, order and products of numbers of two words. The laws of the section hold for words of any size w.
 -- Assumes nothing.
 use Rattle.std.proofs.Common.{◌≡◌, ℕ, ◌+◌, ◌-◌, ◌*◌, ◌%◌, ◌^◌, ◌<◌, ◌≤◌, min, true, false, ltb, leb, sym, ap, ◌∙◌}
-use Rattle.std.proofs.Common.{mul-le-mul_right, zero-add, zero-mul, arith, ltb-false, ltb-true, le-leb, leb-false}
-use Rattle.std.proofs.Common.{leb-true}
-use borrow.Author.Tests.{lt-leb}
+use Rattle.std.proofs.Common.{mul-le-mul_right, zero-add, zero-mul, arith, ltb-false, ltb-true}
+use Rattle.std.proofs.lemmas.Bool.Decides.{nat_tests}
+use Rattle.std.specs.declared.option.Option.{Option}
+use Rattle.std.specs.declared.option.Option.TheVariants.{Some}
+use Rattle.std.specs.Ordering.{partial_ordering_then, partial_le, is_some_and, nat_cmp, ordering_then, ord_min, is_le, is_lt}
+use Rattle.std.specs.declared.cmp.Ordering.{Ordering}
 use Rattle.wide.specs.declared.number.Wide.{Wide}
 use Rattle.wide.specs.Number.{value_of, largest}
-use Rattle.wide.proofs.Choices.{either, leb_same}
+use Rattle.wide.proofs.Choices.{choose, either}
 
 module _ (w : ℕ) where
   -- the higher word decides
@@ -89,65 +92,76 @@ module _ (x y : Wide) (r : ℕ) (p : x.low < 2 ^ 64) (q : y.low < 2 ^ 64) (below
   unfolding value_of
   no-borrow-fits = high_le (2 ^ 64) x.high y.high x.low y.low p below
 
-  module _ (f : r < 2 ^ 64) (e : (r + y.low) % 2 ^ 64 ≡ x.low) where
+  module _ (e : r ≡ (x.low + (2 ^ 64 - y.low)) % 2 ^ 64) where
     pub borrow-is : x.low < y.low → value_of (record { high = x.high - y.high - 1; low = r }) ≡ value_of x - value_of y
     unfolding value_of
     borrow-is h =
         borrows (2 ^ 64) x.high y.high x.low y.low (x.high - y.high - 1) r
-        (one (borrow-fits h)) (low x.low y.low r p q f e h)
+        (one (borrow-fits h)) (low x.low y.low r p q e h)
       where
         one : {a b : ℕ} → a < b → b ≡ b - a - 1 + a + 1
         one {a} {b} n = omega arith
 
-        low : (l m s : ℕ) → l < 2 ^ 64 → m < 2 ^ 64 → s < 2 ^ 64 → (s + m) % 2 ^ 64 ≡ l → l < m → l + 2 ^ 64 ≡ s + m
-        low l m s a b d g n = omega arith
+        low : (l m s : ℕ) → l < 2 ^ 64 → m < 2 ^ 64 → s ≡ (l + (2 ^ 64 - m)) % 2 ^ 64 → l < m → l + 2 ^ 64 ≡ s + m
+        low l m s a b e n = omega arith
 
     pub no-borrow-is : y.low ≤ x.low → value_of (record { high = x.high - y.high; low = r }) ≡ value_of x - value_of y
     unfolding value_of
     no-borrow-is h =
         differs (2 ^ 64) x.high y.high x.low y.low (x.high - y.high) r
-        (less no-borrow-fits) (low x.low y.low r p q f e h)
+        (less no-borrow-fits) (low x.low y.low r p q e h)
       where
         less : {a b : ℕ} → a ≤ b → b ≡ b - a + a
         less {a} {b} n = omega arith
 
-        low : (l m s : ℕ) → l < 2 ^ 64 → m < 2 ^ 64 → s < 2 ^ 64 → (s + m) % 2 ^ 64 ≡ l → m ≤ l → l ≡ s + m
-        low l m s a b d g n = omega arith
+        low : (l m s : ℕ) → l < 2 ^ 64 → m < 2 ^ 64 → s ≡ (l + (2 ^ 64 - m)) % 2 ^ 64 → m ≤ l → l ≡ s + m
+        low l m s a b e n = omega arith
 
 -- ---- order
 
-pub same_high : (x y : Wide) → x.high ≡ y.high → leb x.low y.low ≡ leb (value_of x) (value_of y)
+-- the order that `Wide` derives: the high words decide, and the low words where they are equal
+abbrev pub wide_cmp : Wide → Wide → Ordering
+wide_cmp x y = ordering_then (nat_cmp x.high y.high) (nat_cmp x.low y.low)
+
+-- it is the order of the numbers, whose low words are words
+pub wide_cmp_is : (x y : Wide) → x.low < 2 ^ 64 → y.low < 2 ^ 64 → wide_cmp x y ≡ nat_cmp (value_of x) (value_of y)
 unfolding value_of
-same_high x y e =
-    rw e
-    (leb_same x.low y.low (y.high * 2 ^ 64 + x.low) (y.high * 2 ^ 64 + y.low)
-    (more (y.high * 2 ^ 64)) (less (y.high * 2 ^ 64)))
+wide_cmp_is x y p q = words (2 ^ 64) x.high y.high x.low y.low p q
   where
-    more : (n : ℕ) → x.low ≤ y.low → n + x.low ≤ n + y.low
-    more n h = omega arith
+    words : (w h k l m : ℕ) → l < w → m < w →
+        ordering_then (nat_cmp h k) (nat_cmp l m) ≡ nat_cmp (h * w + l) (k * w + m)
+    words w h k l m p q =
+        grind (arith, nat_tests, higher w h k l m, higher w k h m l)
 
-    less : (n : ℕ) → n + x.low ≤ n + y.low → x.low ≤ y.low
-    less n h = omega arith
+-- so the least of two is the one of the least number
+pub least_is : (x y : Wide) → x.low < 2 ^ 64 → y.low < 2 ^ 64 →
+    value_of (ord_min wide_cmp x y) ≡ min (value_of x) (value_of y)
+least_is x y p q =
+    let order = wide_cmp_is y x q p in
+    choose (λ (w : Wide). value_of w ≡ min (value_of x) (value_of y)) (is_lt (wide_cmp y x))
+    (λ e. below (value_of x) (value_of y) (sym (ap is_lt order) ∙ e))
+    (λ e. above (value_of x) (value_of y) (sym (ap is_lt order) ∙ e))
+  where
+    below : (m n : ℕ) → is_lt (nat_cmp n m) ≡ true → n ≡ min m n
+    below m n e = grind (arith, nat_tests)
 
-pub other_high : (x y : Wide) → x.low < 2 ^ 64 → y.low < 2 ^ 64 → (x.high ≡ y.high → ⊥) →
-    ltb x.high y.high ≡ leb (value_of x) (value_of y)
+    above : (m n : ℕ) → is_lt (nat_cmp n m) ≡ false → m ≡ min m n
+    above m n e = grind (arith, nat_tests)
+
+-- `<=` asks the derived partial order
+abbrev pub wide_partial_cmp : Wide → Wide → Option Ordering
+wide_partial_cmp x y = partial_ordering_then (Some (nat_cmp x.high y.high)) (Some (nat_cmp x.low y.low))
+
+-- and compares the numbers
+pub at_most_is : (x y : Wide) → x.low < 2 ^ 64 → y.low < 2 ^ 64 →
+    partial_le wide_partial_cmp x y ≡ leb (value_of x) (value_of y)
 unfolding value_of
-other_high x y p q e =
-    either (ltb x.high y.high)
-    (λ a. a ∙ sym (le-leb _ _ (weaken (higher (2 ^ 64) x.high y.high x.low y.low (ltb-true _ _ a) p))))
-    (λ a. a ∙ sym (lt-leb _ _ (higher (2 ^ 64) y.high x.high y.low x.low (apart (ltb-false _ _ a) e) q)))
+at_most_is x y p q = words (2 ^ 64) x.high y.high x.low y.low p q
   where
-    weaken : {a b : ℕ} → a < b → a ≤ b
-    weaken {a} {b} h = omega arith
-
-    apart : {a b : ℕ} → b ≤ a → (a ≡ b → ⊥) → b < a
-    apart {a} {b} h n = omega arith
-
-pub least_left : (a b : ℕ) → leb a b ≡ true → a ≡ min a b
-least_left a b e = let h = leb-true a b e in omega arith
-
-pub least_right : (a b : ℕ) → leb a b ≡ false → b ≡ min a b
-least_right a b e = let h = leb-false a b e in omega arith
+    words : (w h k l m : ℕ) → l < w → m < w →
+        is_some_and is_le (partial_ordering_then (Some (nat_cmp h k)) (Some (nat_cmp l m)))
+        ≡ leb (h * w + l) (k * w + m)
+    words w h k l m p q = grind (arith, nat_tests, higher w h k l m, higher w k h m l)
 
 -- ---- one word
 

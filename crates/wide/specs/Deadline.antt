@@ -1,14 +1,15 @@
 -- Deadlines as optional numbers of cycles.
 use Rattle.std.specs.Prelude.{ℕ, min, Bool, false, nat_le}
 use Rattle.std.proofs.Math.Option.{Option, none, some}
-use Rattle.wide.specs.declared.deadline.Deadline.{Deadline}
-use Rattle.wide.specs.declared.deadline.Deadline.TheVariants.{Never, At}
+use Rattle.std.specs.declared.option.Option as code
+use Rattle.std.specs.declared.option.Option.TheVariants.{None, Some}
+use Rattle.wide.specs.declared.number.Wide.{Wide}
 use Rattle.wide.specs.Number.{value_of}
 
 -- the code's deadline as an optional number
-abbrev pub number_of : Deadline → Option ℕ
-number_of Never = none
-number_of (At w) = some (value_of w)
+abbrev pub number_of : code.Option Wide → Option ℕ
+number_of None = none
+number_of (Some w) = some (value_of w)
 
 -- 'the smallest, or none', of two
 abbrev pub sooner : Option ℕ → Option ℕ → Option ℕ

@@ -4,23 +4,16 @@ ghost use Rattle.wide.specs.Deadline.{number_of, sooner};
 
 use crate::number::Wide;
 
-#[derive(Clone, Copy)]
-pub enum Deadline {
-    Never,
-    At(Wide),
-}
-
-impl Deadline {
-    // The smaller of two deadlines; where one is `Never`, the other.
-    pub fn sooner(self, other: Deadline) -> Self
-        ensures { number_of result ≡ sooner (number_of self) (number_of other) }
-    {
-        let Deadline::At(a) = self else {
-            return other;
-        };
-        let Deadline::At(b) = other else {
-            return self;
-        };
-        Deadline::At(a.least(b))
-    }
+// The smaller of two deadlines; where one is none, the other.
+#[tactic(auto, using(crate::proofs::TwoWords::least_is))]
+pub fn sooner(a: Option<Wide>, b: Option<Wide>) -> Option<Wide>
+    ensures { number_of result ≡ sooner (number_of a) (number_of b) }
+{
+    let Some(x) = a else {
+        return b;
+    };
+    let Some(y) = b else {
+        return a;
+    };
+    Some(x.min(y))
 }

@@ -19,20 +19,27 @@ pub fn get(s: &[u8], at: usize, width: usize) -> u64
     ensures { (result ≡ be_at s.now at width) × (result < 256 ^ width) }
 {
     let mut v = 0u64;
-    let mut i = 0;
-    while i < width {
-        v = v * 256 + widened(s[at + i]);
-        i += 1;
+    for &byte in &s[at..at + width] {
+        v = v * 256 + u64::from(byte);
     }
     v
 }
 
-// The word in the eight bytes of s from index at on, most significant first. It is read in two halves, which is faster.
+// The word in the eight bytes of s from index at on, most significant first.
 pub fn get_word(s: &[u8], at: usize) -> u64
     requires { at + 8 ≤ length s.now }
     ensures { result ≡ be_at s.now at 8 }
 {
-    get(s, at, 4) * 0x1_0000_0000 + get(s, at + 4, 4)
+    u64::from_be_bytes([
+        s[at],
+        s[at + 1],
+        s[at + 2],
+        s[at + 3],
+        s[at + 4],
+        s[at + 5],
+        s[at + 6],
+        s[at + 7],
+    ])
 }
 
 // The value of a 1 in the byte that has n bytes below it.
@@ -56,12 +63,8 @@ pub fn put(buf: &mut [u8], at: usize, value: u64, width: usize)
     requires { (width ≤ 8) × (at + width ≤ length buf.old) }
     ensures { buf.new ≡ sets buf.old at (be width value) }
 {
-    let mut p = at;
-    let mut n = width;
-    while 0 < n {
-        n -= 1;
-        buf[p] = byte_above(value, n);
-        p += 1;
+    for i in 0..width {
+        buf[at + i] = byte_above(value, width - 1 - i);
     }
 }
 
@@ -71,7 +74,7 @@ pub fn with_byte(value: u64, n: usize, byte: u8) -> u64
     ensures { result ≡ with_byte n byte value }
 {
     let u = unit(n);
-    (value / u / 256 * 256 + widened(byte)) * u + value % u
+    (value / u / 256 * 256 + u64::from(byte)) * u + value % u
 }
 
 pub fn put_wide(buf: &mut [u8], at: usize, value: Wide)

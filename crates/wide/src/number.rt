@@ -3,21 +3,23 @@ ghost use Rattle.std.specs.Prelude.{◌≡◌, ◌+◌, ◌-◌, ◌*◌, ◌^�
 ghost use Rattle.wide.specs.Number.{value_of, largest};
 
 // The number high × 2^64 + low.
-#[derive(Clone, Copy)]
+#[derive(Clone, Copy, PartialEq, Eq, PartialOrd, Ord)]
 pub struct Wide {
     pub high: u64,
     pub low: u64,
 }
 
+impl From<u64> for Wide {
+    ghost from_gives = { λ n r. value_of r ≡ n };
+
+    fn from(n: u64) -> Wide {
+        Wide { high: 0, low: n }
+    }
+}
+
 impl Wide {
     // The number of values that half a word has.
     const HALF: u64 = 0x1_0000_0000;
-
-    pub fn from_word(n: u64) -> Self
-        ensures { value_of result ≡ n }
-    {
-        Wide { high: 0, low: n }
-    }
 
     // The whole product of two words, from the products of their halves.
     pub fn product(a: u64, b: u64) -> Self
@@ -53,7 +55,7 @@ impl Wide {
         let l = self.low;
         let k = other.high;
         let m = other.low;
-        let low = std::num::wrapping_add_u64(l, m);
+        let low = l.wrapping_add(m);
         if low < l {
             return Wide {
                 high: h + k + 1,
@@ -71,7 +73,7 @@ impl Wide {
         let l = self.low;
         let k = other.high;
         let m = other.low;
-        let low = std::num::wrapping_sub_u64(l, m);
+        let low = l.wrapping_sub(m);
         if l < m {
             return Wide {
                 high: h - k - 1,
@@ -79,23 +81,6 @@ impl Wide {
             };
         }
         Wide { high: h - k, low }
-    }
-
-    pub fn at_most(self, other: Wide) -> bool
-        ensures { result ≡ nat_le (value_of self) (value_of other) }
-    {
-        let h = self.high;
-        let k = other.high;
-        if h == k {
-            return self.low <= other.low;
-        }
-        h < k
-    }
-
-    pub fn least(self, other: Wide) -> Self
-        ensures { value_of result ≡ min (value_of self) (value_of other) }
-    {
-        if self.at_most(other) { self } else { other }
     }
 
     // The number, or the largest word where it is larger.

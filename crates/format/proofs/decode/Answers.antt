@@ -1,75 +1,67 @@
--- `decode` meets its contract. Assumes nothing.
-use mathlib.Core.Path.{refl, sym, ap, ◌∙◌}
-use Rattle.format.specs.declared.Lengths.{Lengths}
+-- `decode` meets its contract: by the tag that is found. Assumes nothing.
+use mathlib.Core.Path.{◌∙◌}
+use Rattle.std.proofs.lemmas.Result.{err_from_is_err_and}
+use Rattle.format.specs.declared.tag.Tag.TheVariants as T
 use Rattle.format.specs.Format.{members_at}
 use Rattle.format.specs.Codec.{call_of}
-use Rattle.format.proofs.Frames.{unknown_is}
 use Rattle.format.proofs.Decoding.{decoded-cut, decoded-unknown, as-tag}
-use native.Mathlib.Omega.{arith}
-use lib.ListN.{get_or}
 use Rattle.format.proofs.decode.Goals as goal
 
 pub returns-then-rest-lt-HEADER_LENGTH : goal.returns-then-rest-lt-HEADER_LENGTH
-unfolding call_of members_at
-returns-then-rest-lt-HEADER_LENGTH c = c.refused.ensures ∙ decoded-cut _ _ c.if-rest-lt-HEADER_LENGTH.true
+returns-then-rest-lt-HEADER_LENGTH c = decoded-cut _ _ c.if-rest-lt-HEADER_LENGTH.true
 
-pub bare_at-requires : goal.bare_at-requires
-unfolding call_of members_at
-bare_at-requires c = (c.if-rest-lt-HEADER_LENGTH.false, (refl, (refl, refl)))
+pub returns-in_err-try_from : goal.returns-in_err-try_from
+returns-in_err-try_from c =
+    let p = err_from_is_err_and c.from_residual.result c.from_residual.ensures.1 in
+    rw (p.1, p.2, c.in_err-try_from.ensures.0)
+    (decoded-unknown _ _ c.if-rest-lt-HEADER_LENGTH.false c.in_err-try_from.ensures.1)
 
-pub bare_at-requires-in-6 : goal.bare_at-requires-in-6
+pub returns-in-HostTime : goal.returns-in-HostTime
 unfolding call_of members_at
-bare_at-requires-in-6 c = (c.if-rest-lt-HEADER_LENGTH.false, (refl, (refl, refl)))
+returns-in-HostTime c = c.host_time_at.ensures
+    ∙ as-tag _ _ c.if-rest-lt-HEADER_LENGTH.false _ c.in_ok-try_from.ensures T.HostTime c.in-HostTime.is
 
-pub bare_at-requires-in-10 : goal.bare_at-requires-in-10
+pub returns-in-Read : goal.returns-in-Read
 unfolding call_of members_at
-bare_at-requires-in-10 c = (c.if-rest-lt-HEADER_LENGTH.false, (refl, (refl, refl)))
+returns-in-Read c = c.read_at.ensures
+    ∙ as-tag _ _ c.if-rest-lt-HEADER_LENGTH.false _ c.in_ok-try_from.ensures T.Read c.in-Read.is
 
-pub returns-in-1 : goal.returns-in-1
+pub returns-in-Write : goal.returns-in-Write
 unfolding call_of members_at
-returns-in-1 c = c.host_time_at.ensures ∙ as-tag _ _ c.if-rest-lt-HEADER_LENGTH.false c.in-1.is refl
+returns-in-Write c = c.write_at.ensures
+    ∙ as-tag _ _ c.if-rest-lt-HEADER_LENGTH.false _ c.in_ok-try_from.ensures T.Write c.in-Write.is
 
-pub returns-in-2 : goal.returns-in-2
+pub returns-in-Advance : goal.returns-in-Advance
 unfolding call_of members_at
-returns-in-2 c = c.read_at.ensures ∙ as-tag _ _ c.if-rest-lt-HEADER_LENGTH.false c.in-2.is refl
+returns-in-Advance c = c.advance_at.ensures
+    ∙ as-tag _ _ c.if-rest-lt-HEADER_LENGTH.false _ c.in_ok-try_from.ensures T.Advance c.in-Advance.is
 
-pub returns-in-3 : goal.returns-in-3
+pub returns-in-Deadline : goal.returns-in-Deadline
 unfolding call_of members_at
-returns-in-3 c = c.write_at.ensures ∙ as-tag _ _ c.if-rest-lt-HEADER_LENGTH.false c.in-3.is refl
+returns-in-Deadline c = c.bare_at.ensures
+    ∙ as-tag _ _ c.if-rest-lt-HEADER_LENGTH.false _ c.in_ok-try_from.ensures T.Deadline c.in-Deadline.is
 
-pub returns-in-4 : goal.returns-in-4
+pub returns-in-Skip : goal.returns-in-Skip
 unfolding call_of members_at
-returns-in-4 c = c.advance_at.ensures ∙ as-tag _ _ c.if-rest-lt-HEADER_LENGTH.false c.in-4.is refl
+returns-in-Skip c = c.bare_at-in-Skip.ensures
+    ∙ as-tag _ _ c.if-rest-lt-HEADER_LENGTH.false _ c.in_ok-try_from.ensures T.Skip c.in-Skip.is
 
-pub returns-in-5 : goal.returns-in-5
+pub returns-in-Source : goal.returns-in-Source
 unfolding call_of members_at
-returns-in-5 c = c.bare_at.ensures ∙ as-tag _ _ c.if-rest-lt-HEADER_LENGTH.false c.in-5.is refl
+returns-in-Source c = c.source_at.ensures
+    ∙ as-tag _ _ c.if-rest-lt-HEADER_LENGTH.false _ c.in_ok-try_from.ensures T.Source c.in-Source.is
 
-pub returns-in-6 : goal.returns-in-6
+pub returns-in-ControllerRead : goal.returns-in-ControllerRead
 unfolding call_of members_at
-returns-in-6 c = c.bare_at-in-6.ensures ∙ as-tag _ _ c.if-rest-lt-HEADER_LENGTH.false c.in-6.is refl
+returns-in-ControllerRead c = c.controller_read_at.ensures
+    ∙ as-tag _ _ c.if-rest-lt-HEADER_LENGTH.false _ c.in_ok-try_from.ensures T.ControllerRead c.in-ControllerRead.is
 
-pub returns-in-7 : goal.returns-in-7
+pub returns-in-ControllerWrite : goal.returns-in-ControllerWrite
 unfolding call_of members_at
-returns-in-7 c = c.source_at.ensures ∙ as-tag _ _ c.if-rest-lt-HEADER_LENGTH.false c.in-7.is refl
+returns-in-ControllerWrite c = c.controller_write_at.ensures
+    ∙ as-tag _ _ c.if-rest-lt-HEADER_LENGTH.false _ c.in_ok-try_from.ensures T.ControllerWrite c.in-ControllerWrite.is
 
-pub returns-in-8 : goal.returns-in-8
+pub returns-in-Output : goal.returns-in-Output
 unfolding call_of members_at
-returns-in-8 c = c.controller_read_at.ensures ∙ as-tag _ _ c.if-rest-lt-HEADER_LENGTH.false
-    c.in-8.is refl
-
-pub returns-in-9 : goal.returns-in-9
-unfolding call_of members_at
-returns-in-9 c = c.controller_write_at.ensures ∙ as-tag _ _ c.if-rest-lt-HEADER_LENGTH.false
-    c.in-9.is refl
-
-pub returns-in-10 : goal.returns-in-10
-unfolding call_of members_at
-returns-in-10 c = c.bare_at-in-10.ensures ∙ as-tag _ _ c.if-rest-lt-HEADER_LENGTH.false c.in-10.is refl
-
-pub returns-in_default : goal.returns-in_default
-unfolding call_of members_at
-returns-in_default c = c.refused-in_default.ensures ∙ decoded-unknown _ _ c.if-rest-lt-HEADER_LENGTH.false
-    (ap (λ (n : Lengths). n.known) (sym (unknown_is (get_or c.args.rest.now 0 0) (omega arith) (omega arith)
-    (omega arith) (omega arith) (omega arith) (omega arith) (omega arith) (omega arith) (omega arith)
-    (omega arith))))
+returns-in-Output c = c.bare_at-in-Output.ensures
+    ∙ as-tag _ _ c.if-rest-lt-HEADER_LENGTH.false _ c.in_ok-try_from.ensures T.Output c.in-Output.is

@@ -26,23 +26,3 @@ put_skip-requires c = room _ _ c.in-Skip.is c.requires
 pub put_pair-requires : goal.put_pair-requires
 unfolding members_bytes value_bytes be
 put_pair-requires c = room _ _ c.in-Pair.is c.requires
-
-pub returns-in-Empty : goal.returns-in-Empty
-unfolding members_bytes value_bytes be
-returns-in-Empty c = rw c.in-Empty.is
-
-pub returns-in-Byte : goal.returns-in-Byte
-unfolding members_bytes value_bytes be
-returns-in-Byte c = rw c.in-Byte.is c.put_byte.ensures
-
-pub returns-in-Deadline : goal.returns-in-Deadline
-unfolding members_bytes value_bytes be
-returns-in-Deadline c = rw c.in-Deadline.is c.put_deadline.ensures
-
-pub returns-in-Skip : goal.returns-in-Skip
-unfolding members_bytes value_bytes be
-returns-in-Skip c = rw c.in-Skip.is c.put_skip.ensures
-
-pub returns-in-Pair : goal.returns-in-Pair
-unfolding members_bytes value_bytes be
-returns-in-Pair c = rw c.in-Pair.is c.put_pair.ensures

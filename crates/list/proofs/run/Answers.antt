@@ -7,11 +7,14 @@ use lib.ListN.{length}
 use Rattle.board.specs.Board.{sound}
 use Rattle.board.specs.Calls.{board_after}
 use Rattle.board.specs.Fields.{channel_at, with_timers, with_timer_enable, with_clock, with_channel}
+use Rattle.board.proofs.Answers.{some_refusal}
 use Rattle.board.proofs.Soundness.{sound_facts}
 use Rattle.registers.specs.declared.writes.WritePart.{WritePart}
 use Rattle.registers.specs.declared.writes.WritePart.TheVariants as W
 use Rattle.registers.proofs.CodeWrites.{channel-range}
+use Rattle.format.specs.Format.{header_length, value_length, answer_length}
 use Rattle.format.specs.Codec.{call_at, refusal_at}
+use Rattle.format.proofs.Frames.{part_rest}
 use Rattle.list.specs.Run.{run_of, over}
 use Rattle.steps.proofs.Advances.{begins, next-phase, advances, passed_over, still-timed, counts_begin}
 use Rattle.steps.proofs.Advances.{next-zero, counts-next, counts-passed, counts_same, all-advanced, counts_end}
@@ -35,14 +38,14 @@ returns-then-not-sound c =
     let e : sound c.args.board ≡ false = sym c.sound.ensures.0 ∙ c.if-not-sound.true in
     record { value = rw e c.stopped.ensures; answers_after = rw e }
 
-pub returns-in-Refused : goal.returns-in-Refused
+pub returns-in-Err : goal.returns-in-Err
 unfolding run_of Ran
-returns-in-Refused c =
-    let u = at_step c.loop-used.invariant c.loop-used-test.true c.step_of-step.result c.step_of-step.ensures in
-    let r = accepts u _ c.in-Refused.is in
+returns-in-Err c =
     let s : sound c.args.board ≡ true = sym c.sound.ensures.0 ∙ c.if-not-sound.false in
-    let ran = ends _ _ _ _ _ _ _ _ c.loop-used.invariant c.loop-used-test.true _ (rest_is u) _ r.0 r.1 in
-    record { value = rw s (c.stopped-in-Refused.ensures ∙ ran.0); answers_after = rw s ran.1 }
+    let ran = ends _ _ _ _ _ _ _ _ c.loop-used.invariant c.loop-used-test.true _ (part_rest c.args.list.now
+    c.loop-used.used) _ c.in-Err.ensures
+    (some_refusal c.in-Err.refusal) in
+    record { value = rw s (c.stopped-in-Err.ensures ∙ ran.0); answers_after = rw s ran.1 }
 
 pub returns : goal.returns
 unfolding run_of Ran
@@ -55,7 +58,7 @@ returns c =
 
 pub plain_at-r-requires : goal.plain_at-r-requires
 plain_at-r-requires c =
-    let u = at_step c.loop-used.invariant c.loop-used-test.true c.step_of-step.result c.step_of-step.ensures in (
+    let u = at_step c.loop-used.invariant c.loop-used-test.true c.in-Ok.step c.in-Ok.ensures in (
       sym c.plain.ensures ∙ c.if-plain.true,
       timed u,
       ap (λ (j : ℕ). channel_at j c.loop-used.b) c.channel_index-i.ensures.0,
@@ -63,18 +66,18 @@ plain_at-r-requires c =
 
 pub put_byte-requires : goal.put_byte-requires
 put_byte-requires c =
-    let u = at_step c.loop-used.invariant c.loop-used-test.true c.step_of-step.result c.step_of-step.ensures in
+    let u = at_step c.loop-used.invariant c.loop-used-test.true c.in-Ok.step c.in-Ok.ensures in
     let a = accepts u _ c.in-Read.is in
     omega (arith, answer-inside u a.0, (read_length _ _ a.1).1)
 
 pub reading_at-r-requires : goal.reading_at-r-requires
 reading_at-r-requires c =
-    let u = at_step c.loop-used.invariant c.loop-used-test.true c.step_of-step.result c.step_of-step.ensures in
+    let u = at_step c.loop-used.invariant c.loop-used-test.true c.in-Ok.step c.in-Ok.ensures in
     (timed u, ap (λ (j : ℕ). channel_at j c.loop-used.b) c.channel_index-i.ensures.0)
 
 pub put_byte-requires-else-plain : goal.put_byte-requires-else-plain
 put_byte-requires-else-plain c =
-    let u = at_step c.loop-used.invariant c.loop-used-test.true c.step_of-step.result c.step_of-step.ensures in
+    let u = at_step c.loop-used.invariant c.loop-used-test.true c.in-Ok.step c.in-Ok.ensures in
     let a = accepts u _ c.in-Read.is in
     omega (arith, answer-inside u a.0, (read_length _ _ a.1).1)
 
@@ -82,7 +85,7 @@ put_byte-requires-else-plain c =
 
 pub clock_after-after-requires : goal.clock_after-after-requires
 clock_after-after-requires c =
-    let u = at_step c.loop-used.invariant c.loop-used-test.true c.step_of-step.result c.step_of-step.ensures in
+    let u = at_step c.loop-used.invariant c.loop-used-test.true c.in-Ok.step c.in-Ok.ensures in
     timed u
 
 pub timer_after-after-requires : goal.timer_after-after-requires
@@ -93,7 +96,7 @@ at_control-moved-requires c = channel-range _ (sym c.part_at.ensures ∙ c.in-Ch
 
 pub put_header-requires : goal.put_header-requires
 put_header-requires c =
-    let u = at_step c.loop-used.invariant c.loop-used-test.true c.step_of-step.result c.step_of-step.ensures in
+    let u = at_step c.loop-used.invariant c.loop-used-test.true c.in-Ok.step c.in-Ok.ensures in
     let a = accepts u _ c.in-Write.is in
     omega (arith, answer-inside u a.0, (write_length _ _ _ a.1).1)
 
@@ -101,13 +104,13 @@ put_header-requires c =
 
 pub put_begun-requires : goal.put_begun-requires
 put_begun-requires c =
-    let u = at_step c.loop-used.invariant c.loop-used-test.true c.step_of-step.result c.step_of-step.ensures in
+    let u = at_step c.loop-used.invariant c.loop-used-test.true c.in-Ok.step c.in-Ok.ensures in
     let a = accepts u _ c.in-Pass.is in
     pass_room _ _ _ _ a.1 _ _ (answer-inside u a.0)
 
 pub loop-i-init : goal.loop-i-init
 loop-i-init c =
-    let u = at_step c.loop-used.invariant c.loop-used-test.true c.step_of-step.result c.step_of-step.ensures in
+    let u = at_step c.loop-used.invariant c.loop-used-test.true c.in-Ok.step c.in-Ok.ensures in
     let g = c.loop-used.invariant.good in (
       begins _ _ _ g.fits.four (sound_facts _ (board_sound u)).timers,
       counts_begin _ _ _ _ c.loop-used.b g.fits.four _ _ c.put_begun.ensures,
@@ -120,7 +123,7 @@ pub put_points-requires : goal.put_points-requires
 put_points-requires c =
     let l = c.loop-i.invariant in
     let h = c.loop-i-test.true in
-    let u = at_step c.loop-used.invariant c.loop-used-test.true c.step_of-step.result c.step_of-step.ensures in
+    let u = at_step c.loop-used.invariant c.loop-used-test.true c.in-Ok.step c.in-Ok.ensures in
     let a = accepts u _ c.in-Pass.is in
     let room = begun_room _ _ _ _ a.1 _ _ _ c.put_begun.ensures (answer-inside u a.0) in
     let m = counts_same _ _ _ _ _ _ _ l.0 _ _ l.1 in
@@ -147,13 +150,13 @@ loop-i-preserved c =
 
 pub advance-later-requires : goal.advance-later-requires
 advance-later-requires c =
-    let u = at_step c.loop-used.invariant c.loop-used-test.true c.step_of-step.result c.step_of-step.ensures in
+    let u = at_step c.loop-used.invariant c.loop-used-test.true c.in-Ok.step c.in-Ok.ensures in
     still-timed _ _ _ _ _ c.loop-i.invariant.0 (timed u)
 
 pub put_passed-requires : goal.put_passed-requires
 put_passed-requires c =
     let l = c.loop-i.invariant in
-    let u = at_step c.loop-used.invariant c.loop-used-test.true c.step_of-step.result c.step_of-step.ensures in
+    let u = at_step c.loop-used.invariant c.loop-used-test.true c.in-Ok.step c.in-Ok.ensures in
     let a = accepts u _ c.in-Pass.is in
     let room = begun_room _ _ _ _ a.1 _ _ _ c.put_begun.ensures (answer-inside u a.0) in
     let m = counts_same _ _ _ _ _ _ _ l.0 _ _ l.1 in
@@ -163,8 +166,8 @@ put_passed-requires c =
 
 pub put_other-requires : goal.put_other-requires
 put_other-requires c =
-    let u = at_step c.loop-used.invariant c.loop-used-test.true c.step_of-step.result c.step_of-step.ensures in
-    let k = other_of c.in_default.not-Refused c.in_default.not-Read c.in_default.not-Write
+    let u = at_step c.loop-used.invariant c.loop-used-test.true c.in-Ok.step c.in-Ok.ensures in
+    let k = other_of c.in_default.not-Read c.in_default.not-Write
     c.in_default.not-Pass in
     let d = other_is u k c.changes_of-c.result c.changes_of-c.ensures in
     omega (arith, answer-inside u (other_at u k).0, d.1.0, d.1.1)
@@ -176,22 +179,32 @@ accepted : (c : goal.After-row_known-1) →
     refusal_at c.loop-used.b (rest c.args.list.now c.loop-used.used) (length c.loop-used.answers - c.loop-used.written)
     ≡ 0
 accepted c =
-    let u = at_step c.loop-used.invariant c.loop-used-test.true c.step_of-step.result c.step_of-step.ensures in
+    let u = at_step c.loop-used.invariant c.loop-used-test.true c.in-Ok.step c.in-Ok.ensures in
     elim c.match-step.branch [
       | in-Read w ↦ (accepts u _ w.in-Read.is).0
       | in-Write w ↦ (accepts u _ w.in-Write.is).0
       | in-Pass+else-loop-i-test w ↦ (accepts u _ w.in-Pass.is).0
       | in_default w ↦ (other_at u
-          (other_of w.in_default.not-Refused w.in_default.not-Read
+          (other_of w.in_default.not-Read
           w.in_default.not-Write w.in_default.not-Pass)).0
     ]
+
+-- the bytes of a call, and of its record, by its tag
+abbrev call-bytes : ℕ → ℕ
+call-bytes tag = header_length + value_length tag
+
+abbrev record-bytes : ℕ → ℕ
+record-bytes tag = header_length + answer_length tag
+
+used-by : (used₁ used₀ n m : ℕ) → used₁ ≡ used₀ + n → n ≡ m → used₁ ≡ used₀ + m
+used-by used₁ used₀ n m e f = e ∙ ap (λ (k : ℕ). used₀ + k) f
 
 -- the board, the buffer and the numbers are those of the call
 served : (c : goal.After-row_known-1) →
     Served (call_at (rest c.args.list.now c.loop-used.used)) c.loop-used.b c.loop-used.used c.loop-used.written
     c.loop-used.answers c.match-step.b c.match-step.moved c.match-step.used c.match-step.size c.match-step.answers
 served c =
-    let u = at_step c.loop-used.invariant c.loop-used-test.true c.step_of-step.result c.step_of-step.ensures in
+    let u = at_step c.loop-used.invariant c.loop-used-test.true c.in-Ok.step c.in-Ok.ensures in
     let b = c.loop-used.b in
     let s = board_sound u in
     let at = c.loop-used.written in
@@ -209,8 +222,8 @@ served c =
               | else-plain v ↦ read_carried b s at buf call _ a _ _ _ _ v.reading_at-r.ensures (w.b-is ∙ v.b-is)
                   (w.moved-is ∙ v.moved-is) (w.answers-is ∙ v.answers-is ∙ v.put_byte-else-plain.ensures)
             ];
-            used = w.used-is ∙ ap (λ (k : ℕ). c.loop-used.used + k) (sym n.0);
-            size = w.size-is ∙ sym n.1;
+            used = used-by _ _ _ _ w.used-is (w.call_length-used.ensures ∙ sym n.0);
+            size = w.size-is ∙ w.record_length-size.ensures ∙ sym n.1;
           }
       | in-Write w ↦
           let a = (accepts u _ w.in-Write.is).1 in
@@ -237,8 +250,8 @@ served c =
                   v.channel_index-i-in-Channel.ensures.0) _
                   (w.moved-is ∙ v.moved-is ∙ v.at_control-moved.ensures) _ put
             ];
-            used = w.used-is ∙ ap (λ (k : ℕ). c.loop-used.used + k) (sym n.0);
-            size = w.size-is ∙ sym n.1;
+            used = used-by _ _ _ _ w.used-is (w.call_length-used-in-Write.ensures ∙ sym n.0);
+            size = w.size-is ∙ w.record_length-size-in-Write.ensures ∙ sym n.1;
           }
       | in-Pass+else-loop-i-test w ↦
           let a = (accepts u _ w.in-Pass.is).1 in
@@ -251,21 +264,27 @@ served c =
                 w.line-line.ensures _ w.controller_wired-set.ensures _ w.b-is call _ a
                 c.loop-used.invariant.good.fits.four _ w.moved-is _ _ _ w.put_begun.ensures
                 (counts_end _ _ _ _ _ _ _ i.0 _ _ i.1 w.loop-i-test.false) (w.answers-is ∙ w.put_passed.ensures);
-            used = w.used-is ∙ ap (λ (k : ℕ). c.loop-used.used + k) (w.pass_length-used.ensures ∙ sym n.0);
-            size = w.size-is ∙ w.pass_record-size.ensures ∙ sym n.1;
+            used =
+                used-by _ _ _ _ w.used-is
+                (w.call_length-used-in-Pass.ensures ∙ ap call-bytes w.tag-tag.ensures ∙ sym n.0);
+            size = w.size-is ∙ w.record_length-size-in-Pass.ensures ∙ ap record-bytes w.tag-tag.ensures ∙ sym n.1;
           }
       | in_default w ↦
-          let k = other_of w.in_default.not-Refused w.in_default.not-Read w.in_default.not-Write
+          let k = other_of w.in_default.not-Read w.in_default.not-Write
           w.in_default.not-Pass in
           let d = other_is u k w.changes_of-c.result w.changes_of-c.ensures in
           record {
             carried =
                 other_carried b s at buf (rest c.args.list.now c.loop-used.used)
-                (length c.loop-used.answers - c.loop-used.written) c.step_of-step.result (other_at u k)
+                (length c.loop-used.answers - c.loop-used.written) c.in-Ok.step (other_at u k)
                 w.changes_of-c.result w.changes_of-c.ensures _ w.b-is _ w.moved-is _
                 (w.answers-is ∙ w.put_other.ensures);
-            used = w.used-is ∙ ap (λ (m : ℕ). c.loop-used.used + m) (w.call_length-used.ensures ∙ sym d.0);
-            size = w.size-is ∙ w.record_length-size.ensures ∙ sym d.1.0;
+            used =
+                used-by _ _ _ _ w.used-is
+                (w.call_length-used-in_default.ensures ∙ ap call-bytes w.tag_of-tag.ensures ∙ sym d.0);
+            size =
+                w.size-is ∙ w.record_length-size-in_default.ensures ∙ ap record-bytes w.tag_of-tag.ensures
+                ∙ sym d.1.0;
           }
     ]
 
@@ -283,7 +302,7 @@ board_set c =
 pub loop-used-preserved : goal.loop-used-preserved
 loop-used-preserved c =
     let k = served c in
-    let u = at_step c.loop-used.invariant c.loop-used-test.true c.step_of-step.result c.step_of-step.ensures in
+    let u = at_step c.loop-used.invariant c.loop-used-test.true c.in-Ok.step c.in-Ok.ensures in
     let bytes = rest_bytes c.args.list.now (rest c.args.list.now c.loop-used.used) c.loop-used.used (rest_is u)
     (λ i. omega (arith, c.type_inv.list i)) in
     goes_on _ _ _ _ _ _ _ _ c.loop-used.invariant c.loop-used-test.true (rest c.args.list.now c.loop-used.used)

@@ -1,15 +1,26 @@
 -- `read` meets its contract. Assumes nothing.
 use mathlib.Core.Path.{◌∙◌}
-use Rattle.parking.proofs.Answers.{new-read, old_read, read-new, read-old}
+use Rattle.std.proofs.lemmas.Result.{err_from_is_err_and}
+use Rattle.image.specs.declared.Form.TheVariants.{New}
+use Rattle.parking.proofs.Answers.{none_found, one_found, new-read, new-missing, old_read}
+use Rattle.parking.proofs.Answers.{reading_malformed, read-new, read-old}
 use Rattle.parking.proofs.read.Goals as goal
 
-pub returns-then-image-eq-NEW_LENGTH : goal.returns-then-image-eq-NEW_LENGTH
-returns-then-image-eq-NEW_LENGTH c =
+pub returns-in_err-rate : goal.returns-in_err-rate
+returns-in_err-rate c =
+    let l = c.args.image.now in
     let long = c.if-image-eq-NEW_LENGTH.true in
-    let a = c.args in
-    let first = c.rate_in-first.ensures in
-    c.read_fields.ensures ∙ new-read a.image.now long _ _ first.1 first.0 ∙ read-new a.image.now long
+    let p = err_from_is_err_and c.from_residual.result c.from_residual.ensures.1 in
+    let none = none_found _ _ _ _ (rw c.rate_in.ensures at c.in_err-rate.ensures.value) in
+    rw (p.1, p.2, none.1) (reading_malformed New l (new-missing l long none.0) ∙ read-new l long)
+
+pub returns-in_ok-rate : goal.returns-in_ok-rate
+returns-in_ok-rate c =
+    let l = c.args.image.now in
+    let long = c.if-image-eq-NEW_LENGTH.true in
+    let one = one_found _ _ _ _ (rw c.rate_in.ensures at c.in_ok-rate.ensures.value) in
+    c.read_fields.ensures ∙ new-read l long _ one.0 one.1 ∙ read-new l long
 
 pub returns-else-image-eq-NEW_LENGTH : goal.returns-else-image-eq-NEW_LENGTH
-returns-else-image-eq-NEW_LENGTH c = c.read_fields-else-image-eq-NEW_LENGTH.ensures ∙ old_read _
-    ∙ read-old _ c.if-image-eq-NEW_LENGTH.false
+returns-else-image-eq-NEW_LENGTH c =
+    c.read_fields-else-image-eq-NEW_LENGTH.ensures ∙ old_read _ ∙ read-old _ c.if-image-eq-NEW_LENGTH.false

@@ -1,44 +1,61 @@
 -- `read_fields` meets its contract. Assumes nothing.
-use mathlib.Core.Path.{sym, ap, ◌∙◌}
-use mathlib.Core.Bool.{Bool, ◌&&◌, and-false}
+use Prim.Native.Nat.{ℕ}
+use mathlib.Core.Path.{◌≡◌, sym, ap}
+use mathlib.Core.List.{List}
+use Rattle.std.proofs.lemmas.Bool.{not-true, not-false}
+use Rattle.board.proofs.Answers.{accepted_sound}
+use Rattle.image.specs.Image.{board_from}
+use Rattle.parking.specs.declared.get.BoardSaid.{BoardSaid}
+use Rattle.std.proofs.lemmas.Result.{err_from_is_err_and}
 use Rattle.image.specs.declared.Form.TheVariants.{Old}
-use Rattle.parking.specs.Parking.{said}
+use Rattle.parking.specs.Parking.{said, empties_in}
 use Rattle.parking.proofs.RoundTrip.{formed_not}
-use Rattle.parking.proofs.Answers.{members-malformed, members-unsound, members-accepted}
+use Rattle.parking.proofs.Answers.{none_found, one_found, unsound_found}
+use Rattle.parking.proofs.Answers.{members-malformed, members-kept, members-unsound, members-accepted}
 use Rattle.parking.proofs.read_fields.Goals as goal
 
 pub returns-then-fields-ne-OLD_LENGTH : goal.returns-then-fields-ne-OLD_LENGTH
 returns-then-fields-ne-OLD_LENGTH c =
-    let a = c.args in
-    c.refused.ensures
-    ∙ members-malformed a.form a.rate _ (said Old a.fields.now)
-    (ap (λ (v : Bool). a.ahead && v) (formed_not Old a.fields.now c.if-fields-ne-OLD_LENGTH.true) ∙ and-false a.ahead)
+    members-malformed c.args.form c.args.rate _ (said Old c.args.fields.now)
+    (formed_not Old c.args.fields.now c.if-fields-ne-OLD_LENGTH.true)
 
-pub returns-then-not-both : goal.returns-then-not-both
-returns-then-not-both c =
-    let a = c.args in
-    c.refused-then-not-both.ensures
-    ∙ members-malformed a.form a.rate _ (said Old a.fields.now)
-    (ap (λ (v : Bool). a.ahead && v) (sym c.board_in-said.ensures.0)
-    ∙ sym c.both.ensures ∙ c.if-not-both.true)
+pub returns-in_err-said : goal.returns-in_err-said
+returns-in_err-said c =
+    let p = err_from_is_err_and c.from_residual.result c.from_residual.ensures.1 in
+    let none = none_found _ _ _ _ (rw c.board_in.ensures at c.in_err-said.ensures.value) in
+    rw (p.1, p.2, none.1) (members-malformed c.args.form c.args.rate _ (said Old c.args.fields.now) none.0)
 
-pub returns-then-both : goal.returns-then-both
-returns-then-both c =
-    let a = c.args in
-    let found = c.board_in-said.ensures in
-    let form =
-    ap (λ (v : Bool). a.ahead && v) (sym found.0) ∙ sym c.both.ensures
-    ∙ c.if-not-both.false in
-    members-accepted a.form a.rate _ (said Old a.fields.now) form _ _ _ found.1.0 found.1.1
-    c.sound.ensures.0 (sym c.both-2.ensures ∙ c.if-both.true)
+-- what is read, where every field is formed: its two parts
+module _ (l : List ℕ) (rate : ℕ) (x : BoardSaid)
+    (e : x ≡ record { empties_hold_0 = empties_in Old l; board = board_from rate (said Old l) }) where
+  empties : x.empties_hold_0 ≡ empties_in Old l
+  empties = ap (λ (y : BoardSaid). y.empties_hold_0) e
 
-pub returns-else-both : goal.returns-else-both
-returns-else-both c =
+  board : x.board ≡ board_from rate (said Old l)
+  board = ap (λ (y : BoardSaid). y.board) e
+
+pub returns-then-not-said : goal.returns-then-not-said
+returns-then-not-said c =
     let a = c.args in
-    let found = c.board_in-said.ensures in
-    let form =
-    ap (λ (v : Bool). a.ahead && v) (sym found.0) ∙ sym c.both.ensures
-    ∙ c.if-not-both.false in
-    c.refused-else-both.ensures
-    ∙ members-unsound a.form a.rate _ (said Old a.fields.now) form _ _ _ found.1.0 found.1.1
-    c.sound.ensures.0 (sym c.both-2.ensures ∙ c.if-both.false)
+    let one = one_found _ _ _ _ (rw c.board_in.ensures at c.in_ok-said.ensures.value) in
+    members-kept a.form a.rate _ (said Old a.fields.now) one.0 _ (empties a.fields.now a.rate _ one.1)
+    (not-true _ c.if-not-said.true)
+
+pub returns-in_err-check_sound : goal.returns-in_err-check_sound
+returns-in_err-check_sound c =
+    let a = c.args in
+    let p =
+    err_from_is_err_and c.from_residual-in_err-check_sound.result c.from_residual-in_err-check_sound.ensures.1 in
+    let one = one_found _ _ _ _ (rw c.board_in.ensures at c.in_ok-said.ensures.value) in
+    let unsound = unsound_found _ _ c.in_err-check_sound.ensures.refused in
+    rw (p.1, p.2, unsound.1)
+    (members-unsound a.form a.rate _ (said Old a.fields.now) one.0 _ (empties a.fields.now a.rate _ one.1)
+    (not-false _ c.if-not-said.false) _ (board a.fields.now a.rate _ one.1) unsound.0)
+
+pub returns : goal.returns
+returns c =
+    let a = c.args in
+    let one = one_found _ _ _ _ (rw c.board_in.ensures at c.in_ok-said.ensures.value) in
+    members-accepted a.form a.rate _ (said Old a.fields.now) one.0 _ (empties a.fields.now a.rate _ one.1)
+    (not-false _ c.if-not-said.false) _ (board a.fields.now a.rate _ one.1)
+    (accepted_sound _ 0 (sym c.in_ok-check_sound.ensures.refused))

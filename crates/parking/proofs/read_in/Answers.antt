@@ -7,8 +7,7 @@ use Rattle.parking.proofs.read_in.Goals as goal
 pub returns-then-image-image_length : goal.returns-then-image-image_length
 returns-then-image-image_length c =
     let a = c.args in
-    c.refused.ensures
-    ∙ reading_malformed a.form a.image.now
+    reading_malformed a.form a.image.now
     (formed_not a.form a.image.now
     (λ same. c.if-image-image_length.true (same ∙ sym c.image_length.ensures)))
 

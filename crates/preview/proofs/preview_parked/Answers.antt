@@ -1,17 +1,19 @@
 -- `preview_parked` meets its contract. Assumes nothing.
+use Rattle.std.proofs.lemmas.Result.{err_from_is_err_and}
 use Rattle.preview.proofs.Answers.{parked-refused, parked-accepted}
 use Rattle.preview.proofs.preview_parked.Goals as goal
 
-pub returns-then-parked-ne0 : goal.returns-then-parked-ne0
-returns-then-parked-ne0 c =
+pub returns-in_err-parked : goal.returns-in_err-parked
+returns-in_err-parked c =
     let a = c.args in
-    let shown =
-    parked-refused a.image.now a.totals.now a.high.now _ c.read-parked.ensures c.if-parked-ne0.true in
-    record { value = shown.0; high_after = shown.1 }
+    let p = err_from_is_err_and c.from_residual.result c.from_residual.ensures.1 in
+    let shown = parked-refused a.image.now a.totals.now a.high.now _ c.in_err-parked.ensures in
+    record { value = rw (p.1, p.2) shown.0; high_after = shown.1 }
 
 pub returns : goal.returns
 returns c =
+    let a = c.args in
     let shown =
-    parked-accepted _ _ _ _ c.read-parked.ensures c.if-parked-ne0.false _ _
-    c.preview-r.ensures.value c.preview-r.ensures.high_after in
+    parked-accepted a.image.now a.totals.now a.high.now _ c.in_ok-parked.ensures _ _
+    c.put_preview.ensures.value c.put_preview.ensures.high_after in
     record { value = shown.0; high_after = shown.1 }

@@ -2,12 +2,10 @@
 use Rattle.steps.proofs.CallParts.{advance-passed, skip-passed}
 use Rattle.steps.proofs.put_passed.Goals as goal
 
-pub returns-then-counted : goal.returns-then-counted
-returns-then-counted c = advance-passed _ _ _ _ _ _
-    c.args.line c.flag.ensures
-    c.if-counted.true c.put_header.ensures c.put.ensures
+pub returns-in-Advance : goal.returns-in-Advance
+returns-in-Advance c = rw c.in-Advance.is
+    (advance-passed _ _ _ _ _ c.args.line c.from.ensures c.put_header.ensures c.put.ensures)
 
-pub returns-else-counted : goal.returns-else-counted
-returns-else-counted c = skip-passed _ _ _ _ _ _
-    c.args.line c.flag-else-counted.ensures
-    c.if-counted.false c.put_header-else-counted.ensures c.put-else-counted.ensures
+pub returns-in-Skip : goal.returns-in-Skip
+returns-in-Skip c = rw c.in-Skip.is
+    (skip-passed _ _ _ _ _ c.args.line c.from-in-Skip.ensures c.put_header-in-Skip.ensures c.put-in-Skip.ensures)

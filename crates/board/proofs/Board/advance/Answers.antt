@@ -1,28 +1,30 @@
 -- `Board::advance` meets its contract. Assumes nothing.
-use native.Mathlib.Omega.{arith}
-use mathlib.Core.Path.{sym, ◌∙◌}
-use borrow.Author.Tests.{ne_eqb}
-use Rattle.wide.proofs.Forms.{value_wide}
-use Rattle.board.proofs.Answers.{accepted_sound, advance_refused, advance-answers}
+use mathlib.Core.Path.{sym}
+use Rattle.wide.specs.Bits.{bit}
+use Rattle.channel.specs.Matches.{matches_of}
+use Rattle.board.specs.Calls.{advance_by, moved_board, advanced_board}
+use Rattle.board.proofs.Soundness.{wired_line}
+use Rattle.board.proofs.Answers.{accepted_sound, answer-refused, answer-accepted, values_given}
 use Rattle.board.proofs.Board.advance.Goals as goal
 
-pub returns-then-refusal-ne0 : goal.returns-then-refusal-ne0
-returns-then-refusal-ne0 c =
-    let a = c.args in
-    let r = c.refusal_of-refusal in
-    advance_refused a.self a.cycles.0 r.result r.ensures.0 (ne_eqb _ _ c.if-refusal-ne0.true)
-    c.from_word-none.result
-    (value_wide c.from_word-none.result 0 (omega (arith, c.from_word-none.type_inv)) c.from_word-none.ensures)
+pub returns-in-Err : goal.returns-in-Err
+returns-in-Err c =
+    answer-refused (advance_by c.args.cycles.0) c.args.self c.in-Err.refusal c.in-Err.ensures.refused
 
 pub advanced-moved-requires : goal.advanced-moved-requires
-advanced-moved-requires c =
-    accepted_sound c.args.self 0 (sym c.refusal_of-refusal.ensures.0 ∙ c.if-refusal-ne0.false)
+advanced-moved-requires c = accepted_sound c.args.self 0 (sym c.in_default.ensures.refused)
 
 pub returns : goal.returns
-returns c =
-    let a = c.args in
-    let r = c.refusal_of-refusal.ensures in
-    let moved = c.advanced-moved in
-    advance-answers a.self (sym r.0 ∙ c.if-refusal-ne0.false) a.cycles.0
-    moved.result.board c.line.result moved.result.matches r.1.four moved.ensures.0
-    moved.ensures.1 c.line.ensures
+unfolding advanced_board
+returns c = let a = c.args in
+    let b = a.self in
+    let n = a.cycles.0 in
+    let moved = c.advanced-moved.ensures in
+    rw (
+      answer-accepted (advance_by n) b (sym c.in_default.ensures.refused),
+      c.line-line.ensures,
+      moved.0,
+      wired_line (moved_board n b),
+      moved.1,
+      values_given (λ k h. matches_of (bit k b.timer_enable) n h) 0 b.timers,
+    )

@@ -1,24 +1,17 @@
 -- `Board::controller_write` meets its contract. Assumes nothing.
-use mathlib.Core.Path.{sym, ap, ◌∙◌}
-use borrow.Author.Tests.{ne_eqb}
+use mathlib.Core.Path.{sym}
 use Rattle.board.specs.declared.calls.Call.TheVariants.{ControllerWrite}
-use Rattle.board.specs.Calls.{empty_answer}
 use Rattle.board.proofs.Answers.{answer-refused, answer-accepted}
 use Rattle.board.proofs.Board.controller_write.Goals as goal
 
-pub returns-then-refusal-ne0 : goal.returns-then-refusal-ne0
-returns-then-refusal-ne0 c = ap empty_answer
-    (sym
-    (answer-refused (ControllerWrite c.args.value c.args.address) c.args.self c.refusal_of-refusal.result
-    c.refusal_of-refusal.ensures.0
-    (ne_eqb _ _ c.if-refusal-ne0.true)))
+pub returns-in-Err : goal.returns-in-Err
+returns-in-Err c = let a = c.args in
+    answer-refused (ControllerWrite a.value a.address) a.self c.in-Err.refusal c.in-Err.ensures.refused
 
 pub returns : goal.returns
 returns c = let a = c.args in
-    let z = sym c.refusal_of-refusal.ensures.0
-    ∙ c.if-refusal-ne0.false in
     rw (
-      answer-accepted (ControllerWrite a.value a.address) a.self z,
+      answer-accepted (ControllerWrite a.value a.address) a.self (sym c.in_default.ensures.refused),
       c.wired-board.ensures,
       c.with_controller.ensures,
       c.written-set.ensures,

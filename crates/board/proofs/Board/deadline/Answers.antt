@@ -1,25 +1,28 @@
 -- `Board::deadline` meets its contract. Assumes nothing.
-use native.Mathlib.Omega.{arith}
-use mathlib.Core.Path.{sym, ◌∙◌}
-use borrow.Author.Tests.{ne_eqb}
-use Rattle.board.proofs.Answers.{accepted_sound, deadline_refuses, deadline_answers, answer_promises}
-use Rattle.wide.proofs.Forms.{value_wide}
+use mathlib.Core.Path.{sym}
+use Rattle.board.specs.declared.calls.Call.TheVariants.{Deadline}
+use Rattle.board.specs.Board.{exact_deadline}
+use Rattle.board.proofs.Soundness.{wired_sound}
+use Rattle.board.proofs.Answers.{accepted_sound, answer-refused, answer-accepted, deadline_listed, answer_promises}
 use Rattle.board.proofs.Board.deadline.Goals as goal
 
-pub returns-then-refusal-ne0 : goal.returns-then-refusal-ne0
-returns-then-refusal-ne0 c = let e =
-    deadline_refuses c.args.self c.refusal_of-refusal.result c.from_word.result
-    c.refusal_of-refusal.ensures.0 (ne_eqb _ _ c.if-refusal-ne0.true)
-    (value_wide c.from_word.result 0 (omega (arith, c.from_word.type_inv)) c.from_word.ensures) in
-    record { value = e; promise = answer_promises c.args.self c.refusal_of-refusal.ensures.1 _ e }
+pub returns-in-Err : goal.returns-in-Err
+returns-in-Err c = let b = c.args.self in
+    let e = answer-refused Deadline b c.in-Err.refusal c.in-Err.ensures.refused in
+    record { value = e; promise = answer_promises b c.check_sound.ensures.fits _ e }
 
-pub deadline_members-members-requires : goal.deadline_members-members-requires
-deadline_members-members-requires c =
-    accepted_sound c.args.self 0 (sym c.refusal_of-refusal.ensures.0 ∙ c.if-refusal-ne0.false)
+pub deadline_members-requires : goal.deadline_members-requires
+deadline_members-requires c = accepted_sound c.args.self 0 (sym c.in_default.ensures.refused)
 
-pub returns : goal.returns
-returns c = let f = c.refusal_of-refusal in
-    let e =
-    deadline_answers c.args.self (sym f.ensures.0 ∙ c.if-refusal-ne0.false)
-    c.deadline_members-members.result c.deadline_members-members.ensures in
-    record { value = e; promise = answer_promises c.args.self f.ensures.1 _ e }
+pub returns-clause-value : goal.returns-clause-value
+returns-clause-value c = let b = c.args.self in
+    let z = sym c.in_default.ensures.refused in
+    rw (
+      answer-accepted Deadline b z,
+      wired_sound b (accepted_sound b 0 z),
+      c.deadline_members.ensures,
+      deadline_listed (exact_deadline b),
+    )
+
+pub returns-clause-promise : goal.returns-clause-promise
+returns-clause-promise c = answer_promises c.args.self c.check_sound.ensures.fits _ (returns-clause-value c)

@@ -1,24 +1,19 @@
 -- `Board::host_time` meets its contract. Assumes nothing.
-use mathlib.Core.Path.{sym, ap, ◌∙◌}
-use borrow.Author.Tests.{ne_eqb}
-use Rattle.board.specs.Calls.{refusal_of, empty_answer, host_time_to}
-use Rattle.board.proofs.Answers.{answer-refused, answer-accepted}
+use mathlib.Core.Path.{sym}
+use Rattle.board.specs.Calls.{host_time_to}
+use Rattle.board.proofs.Answers.{refused_and, answer-refused, answer-accepted}
 use Rattle.board.proofs.Board.host_time.Goals as goal
 
-pub returns-then-refusal-ne0 : goal.returns-then-refusal-ne0
-returns-then-refusal-ne0 c = ap empty_answer
-    (sym
-    (answer-refused (host_time_to c.args.host) c.args.self c.refusal_of-refusal.result
-    (c.refusal_of-refusal.ensures.0 ∙ ap (refusal_of c.args.self) c.host_time_refusal.ensures)
-    (ne_eqb _ _ c.if-refusal-ne0.true)))
+pub returns-in-Err : goal.returns-in-Err
+returns-in-Err c = let a = c.args in
+    answer-refused (host_time_to a.host) a.self c.in-Err.refusal
+    (refused_and a.self _ _ _ _ c.check_sound.ensures.refused c.check_host_time.ensures c.in-Err.ensures)
 
 pub returns : goal.returns
 returns c = let a = c.args in
-    let z = ap (refusal_of a.self) (sym c.host_time_refusal.ensures)
-    ∙ sym c.refusal_of-refusal.ensures.0
-    ∙ c.if-refusal-ne0.false in
+    let z = refused_and a.self _ _ _ _ c.check_sound.ensures.refused c.check_host_time.ensures c.in_default.ensures in
     rw (
-      answer-accepted (host_time_to a.host) a.self z,
+      answer-accepted (host_time_to a.host) a.self (sym z),
       c.wired-board.ensures,
       c.with_clock.ensures,
       c.with_host.ensures,

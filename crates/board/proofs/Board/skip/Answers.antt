@@ -1,46 +1,67 @@
 -- `Board::skip` meets its contract. Assumes nothing.
-use mathlib.Core.Path.{sym, ◌∙◌}
-use borrow.Author.Tests.{ne_eqb}
-use Rattle.board.proofs.Answers.{skip_unsound, skip-refuses, skip-moves, skip-stays}
+use mathlib.Core.Path.{refl, sym}
+use Rattle.board.specs.declared.calls.Call.TheVariants.{Skip}
+use Rattle.board.specs.Calls.{advanced_board, moved_board, skip_length, skip_refusal}
+use Rattle.board.proofs.Soundness.{wired_line, wired_sound}
+use Rattle.board.proofs.Answers.{
+  accepted_sound,
+  unsound_first,
+  answer-refused,
+  answer-accepted,
+  length-refused,
+  length-made,
+}
 use Rattle.board.proofs.Skips.{skip_reaches}
 use Rattle.board.proofs.Board.skip.Goals as goal
 
-pub returns-then-not-sound : goal.returns-then-not-sound
-returns-then-not-sound c = let b = c.args.self in
-    let found = c.sound.ensures in
-    let e = skip_unsound b (sym found.0 ∙ c.if-not-sound.true) in
-    record { value = e; skip_promise = skip_reaches b found.1 _ e }
+pub returns-in-Err : goal.returns-in-Err
+returns-in-Err c = let b = c.args.self in
+    let e = answer-refused Skip b c.in-Err.refusal
+    (unsound_first b (skip_refusal b) c.in-Err.refusal c.in-Err.ensures.refused) in
+    record { value = e; skip_promise = skip_reaches b c.check_sound.ensures.fits _ e }
 
-pub skip_length-skip-requires : goal.skip_length-skip-requires
-skip_length-skip-requires c = sym c.sound.ensures.0 ∙ c.if-not-sound.false
-
-pub returns-then-skip-ne0 : goal.returns-then-skip-ne0
-returns-then-skip-ne0 c = let found = c.skip_length-skip in
-    let b = c.args.self in
-    let sound = c.sound.ensures in
-    let e =
-    skip-refuses b (sym sound.0 ∙ c.if-not-sound.false) found.result found.ensures
-    (ne_eqb _ _ c.if-skip-ne0.true) in
-    record { value = e; skip_promise = skip_reaches b sound.1 _ e }
+pub skip_length-requires : goal.skip_length-requires
+skip_length-requires c = accepted_sound c.args.self 0 (sym c.in_default.ensures.refused)
 
 pub advanced-moved-requires : goal.advanced-moved-requires
-advanced-moved-requires c = sym c.sound.ensures.0 ∙ c.if-not-sound.false
+advanced-moved-requires c = accepted_sound c.args.self 0 (sym c.in_default.ensures.refused)
 
-pub returns-then-skip : goal.returns-then-skip
-returns-then-skip c = let found = c.skip_length-skip in
-    let b = c.args.self in
-    let sound = c.sound.ensures in
-    let e =
-    skip-moves b (sym sound.0 ∙ c.if-not-sound.false) found.result found.ensures
-    c.if-skip-ne0.false c.if-skip.true c.advanced-moved.result.board
-    c.line.result c.advanced-moved.ensures.0 c.line.ensures in
-    record { value = e; skip_promise = skip_reaches b sound.1 _ e }
+pub returns-in-Ok-Some-clause-value : goal.returns-in-Ok-Some-clause-value
+unfolding advanced_board
+returns-in-Ok-Some-clause-value c = let b = c.args.self in
+    let s = accepted_sound b 0 (sym c.in_default.ensures.refused) in
+    let n = c.in-Ok-Some.passed.0 in
+    let k = rw c.in-Ok-Some.field-0-is at c.in-Ok-Some.ensures in
+    rw (
+      answer-accepted Skip b (rw s (sym (length-refused _ (skip_length b) k))),
+      length-made _ (skip_length b) k refl,
+      c.line-line.ensures,
+      c.advanced-moved.ensures.0,
+      wired_line (moved_board n b),
+    )
 
-pub returns : goal.returns
-returns c = let found = c.skip_length-skip in
-    let b = c.args.self in
-    let sound = c.sound.ensures in
-    let e =
-    skip-stays b (sym sound.0 ∙ c.if-not-sound.false) found.result found.ensures
-    c.if-skip-ne0.false c.if-skip.false c.line-2.result c.line-2.ensures in
-    record { value = e; skip_promise = skip_reaches b sound.1 _ e }
+pub returns-in-Ok-Some-clause-skip_promise : goal.returns-in-Ok-Some-clause-skip_promise
+returns-in-Ok-Some-clause-skip_promise c =
+    skip_reaches c.args.self c.check_sound.ensures.fits _ (returns-in-Ok-Some-clause-value c)
+
+pub returns-in-Ok-None-clause-value : goal.returns-in-Ok-None-clause-value
+returns-in-Ok-None-clause-value c = let b = c.args.self in
+    let s = accepted_sound b 0 (sym c.in_default.ensures.refused) in
+    let k = rw c.in-Ok-None.field-0-is at c.in-Ok-None.ensures in
+    rw (
+      answer-accepted Skip b (rw s (sym (length-refused _ (skip_length b) k))),
+      length-made _ (skip_length b) k refl,
+      c.line-line-in-Ok-None.ensures,
+      wired_sound b s,
+    )
+
+pub returns-in-Ok-None-clause-skip_promise : goal.returns-in-Ok-None-clause-skip_promise
+returns-in-Ok-None-clause-skip_promise c =
+    skip_reaches c.args.self c.check_sound.ensures.fits _ (returns-in-Ok-None-clause-value c)
+
+pub returns-in-Err-skip_length : goal.returns-in-Err-skip_length
+returns-in-Err-skip_length c = let b = c.args.self in
+    let s = accepted_sound b 0 (sym c.in_default.ensures.refused) in
+    let e = answer-refused Skip b c.in-Err-skip_length.refusal
+    (rw s (length-refused _ (skip_length b) c.in-Err-skip_length.ensures)) in
+    record { value = e; skip_promise = skip_reaches b c.check_sound.ensures.fits _ e }

@@ -7,8 +7,6 @@ pub returns : goal.returns
 unfolding sound
 returns c = (
   rw (
-    c.both.ensures,
-    c.same.ensures,
     c.line.ensures,
     c.sound_parts.ensures,
     c.level_of-level.ensures,

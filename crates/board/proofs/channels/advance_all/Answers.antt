@@ -20,20 +20,17 @@ pub loop-i-init : goal.loop-i-init
 unfolding map_to
 loop-i-init c =
     let a = c.args in
-    let w = value_wide c.from_word-none.result 0 (omega (arith, c.from_word-none.type_inv)) c.from_word-none.ensures
-    in (
-      search rules,
-      search rules,
-      search rules,
-      refl,
-      rw w (given-starts (meets a.timer_enable a.cycles.0) (wide_of 0) 0 a.timers (search rules)),
-    )
+    let w = value_wide c.from-matches.result 0 (omega (arith, c.from-matches.type_inv)) c.from-matches.ensures in
+    record {
+      timers = refl;
+      matches = rw w (given-starts (meets a.timer_enable a.cycles.0) (wide_of 0) 0 a.timers (search rules));
+    }
 
 pub advance_cycles-after-requires : goal.advance_cycles-after-requires
 advance_cycles-after-requires c =
     let l = c.loop-i in
     phase_next (after c.args.timer_enable c.args.cycles.0) c.args.timers l.out l.i (search rules)
-    c.requires l.invariant.3
+    c.requires l.invariant.timers
 
 pub loop-i-preserved : goal.loop-i-preserved
 loop-i-preserved c =
@@ -42,26 +39,25 @@ loop-i-preserved c =
     let r = c.advance_cycles-after in
     let e = c.selected-selected.ensures in
     let f = after a.timer_enable a.cycles.0 in
-    let g = meets a.timer_enable a.cycles.0 in (
-      search rules,
-      search rules,
-      search rules,
-      map-goes f fresh_timer l.i a.timers l.out r.result.timer (search rules) l.invariant.3
-          (r.ensures.0 ∙ ap (λ (v : Bool). advanced v a.cycles.0 (get_or l.out l.i fresh_timer)) e),
-      given-goes g (wide_of 0) fresh_timer l.i a.timers l.matches r.result.matches (search rules) l.invariant.4
+    let g = meets a.timer_enable a.cycles.0 in
+    record {
+      timers = map-goes f fresh_timer l.i a.timers l.out r.result.timer (search rules) l.invariant.timers
+          (r.ensures.0 ∙ ap (λ (v : Bool). advanced v a.cycles.0 (get_or l.out l.i fresh_timer)) e);
+      matches = given-goes g (wide_of 0) fresh_timer l.i a.timers l.matches r.result.matches (search rules)
+          l.invariant.matches
           (value_wide r.result.matches _ (omega (arith, r.type_inv)) r.ensures.1
           ∙ ap (λ (v : Bool). wide_of (matches_of v a.cycles.0 (get_or l.out l.i fresh_timer))) e
           ∙ ap (λ (h : HardwareTimer). g l.i h)
-          (ap (λ (ts : List HardwareTimer). get_or ts l.i fresh_timer) l.invariant.3
-          ∙ next_is f fresh_timer l.i 0 a.timers)),
-    )
+          (ap (λ (ts : List HardwareTimer). get_or ts l.i fresh_timer) l.invariant.timers
+          ∙ next_is f fresh_timer l.i 0 a.timers));
+    }
 
 pub returns : goal.returns
 returns c =
     let a = c.args in
     let l = c.loop-i in
     let e : l.i ≡ 4 = omega arith in (
-      l.invariant.3 ∙ rw e (map-ends (after a.timer_enable a.cycles.0) 4 0 a.timers (search rules)),
-      l.invariant.4
+      l.invariant.timers ∙ rw e (map-ends (after a.timer_enable a.cycles.0) 4 0 a.timers (search rules)),
+      l.invariant.matches
           ∙ rw e (given-ends (meets a.timer_enable a.cycles.0) (wide_of 0) 4 0 a.timers (search rules)),
     )

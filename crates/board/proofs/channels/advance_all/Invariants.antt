@@ -1,7 +1,6 @@
 -- `channels::advance_all` meets its contract. The loop has advanced the channels below i. Assumes nothing.
-use Prim.Native.Nat.{ℕ, ◌-◌, ◌≤◌}
+use Prim.Native.Nat.{ℕ}
 use mathlib.Core.Path.{◌≡◌}
-use lib.ListN.{length}
 use Rattle.wide.specs.declared.number.Wide.{Wide}
 use Rattle.wide.specs.Bits.{bit}
 use Rattle.wide.specs.Number.{wide_of}
@@ -19,10 +18,7 @@ abbrev pub meets : ℕ → ℕ → ℕ → HardwareTimer → Wide
 meets enable c k h = wide_of (matches_of (bit k enable) c h)
 
 abbrev pub invariant-loop-i : goal.invariant-loop-i
-invariant-loop-i l =
-    (l.i ≤ 4) × (length l.out ≡ 4) × (length l.matches ≡ 4)
-    × (l.out ≡ map_to (after l.timer_enable l.cycles.0) l.i 0 l.initial.out)
-    × (l.matches ≡ given_to (meets l.timer_enable l.cycles.0) (wide_of 0) l.i 0 l.initial.out)
-
-abbrev pub decreases-loop-i : goal.decreases-loop-i
-decreases-loop-i l = 4 - l.i
+invariant-loop-i l = record {
+  timers : l.out ≡ map_to (after l.timer_enable l.cycles.0) l.i 0 l.initial.out;
+  matches : l.matches ≡ given_to (meets l.timer_enable l.cycles.0) (wide_of 0) l.i 0 l.initial.out;
+}

@@ -1,44 +1,42 @@
 -- `channels::soonest` meets its contract. Assumes nothing.
-use Prim.Native.Nat.{◌-◌}
-use mathlib.Core.Path.{◌≡◌, ◌∙◌, ap}
-use borrow.Author.Rules.{rules}
+use mathlib.Core.Path.{◌≡◌, refl, ap}
+use mathlib.Core.Option.{Option, none, some}
+use Prim.Native.Nat.{ℕ}
 use native.Mathlib.Omega.{arith}
-use Rattle.channel.specs.Channel.{fresh_timer}
+use borrow.Author.Rules.{rules}
 use lib.ListN.{get_or}
-use mathlib.Core.Option.{none}
 use Rattle.wide.specs.Bits.{bit}
-use Rattle.wide.specs.Deadline.{number_of, sooner}
+use Rattle.wide.specs.Deadline.{sooner}
+use Rattle.channel.specs.Channel.{fresh_timer}
 use Rattle.channel.specs.Deadline.{deadline_of}
-use Rattle.board.proofs.Loops.{fold-starts, fold-goes}
+use Rattle.board.proofs.Loops.{fold-goes, fold-ends}
 use Rattle.board.proofs.Phases.{phase_at}
 use Rattle.board.proofs.channels.soonest.Goals as goal
 
-pub loop-i-init : goal.loop-i-init
-loop-i-init c = (
-  search rules,
-  fold-starts (λ k h. deadline_of (bit k c.args.timer_enable) h) sooner none c.args.timers 4 4 (search rules),
-)
-
 pub cycles_until_match-requires : goal.cycles_until_match-requires
-cycles_until_match-requires c =
-    let i = c.loop-i.i in
-    phase_at c.args.timers (i - 1) (search rules) c.requires
+cycles_until_match-requires c = phase_at c.args.timers c.loop-i.i (search rules) c.requires
+
+-- the soonest of three, and of one
+joins : (a b c : Option ℕ) → sooner (sooner a b) c ≡ sooner a (sooner b c)
+joins none b c = refl
+joins (some m) none c = refl
+joins (some m) (some n) none = refl
+joins (some m) (some n) (some k) = ap some (omega arith)
+
+alone : (a : Option ℕ) → sooner a none ≡ a
+alone none = refl
+alone (some n) = refl
 
 pub loop-i-preserved : goal.loop-i-preserved
 loop-i-preserved c =
-    let a = c.args in
-    let l = c.loop-i in (
-      search rules,
-      c.sooner-soonest.ensures
-          ∙ fold-goes (λ k h. deadline_of (bit k a.timer_enable) h) sooner none a.timers fresh_timer l.i
-          (number_of c.cycles_until_match.result) (number_of l.soonest) (search rules) (search rules)
-          (c.cycles_until_match.ensures
-          ∙ ap (λ v. deadline_of v (get_or a.timers (l.i - 1) fresh_timer)) c.selected-selected.ensures)
-          l.invariant.1,
-    )
+    let n = c.args.timer_enable in
+    let ts = c.args.timers in
+    let i = c.loop-i.i in
+    rw (c.sooner-soonest.ensures, c.cycles_until_match.ensures, c.selected-selected.ensures)
+    (fold-goes (λ k h. deadline_of (bit k n) h) sooner none joins ts fresh_timer i _
+    (deadline_of (bit i n) (get_or ts i fresh_timer)) (search rules) refl c.loop-i.invariant)
 
 pub returns : goal.returns
 returns c =
-    let l = c.loop-i in
-    let z : l.i ≡ 0 = omega arith in
-    rw z at l.invariant.1
+    fold-ends (λ k h. deadline_of (bit k c.args.timer_enable) h) sooner none alone c.args.timers c.loop-i.i _
+    (search rules) c.loop-i.invariant

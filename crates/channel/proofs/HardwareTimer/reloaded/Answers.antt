@@ -1,5 +1,5 @@
 -- `HardwareTimer::reloaded` meets its contract. Assumes nothing.
-use Rattle.std.proofs.Common.{ℕ, sym, ap, ◌∙◌, le_of_lt, mod-lt, pos_of_ne-zero, arith, le-ltb, lt-ltb, eq-eqb, ne_eqb}
+use Rattle.std.proofs.Common.{◌≡◌, ℕ, ap, ◌∙◌, le_of_lt, mod-lt, pos_of_ne-zero, arith, le-ltb, lt-ltb, eq-eqb, ne_eqb}
 use Rattle.wide.specs.Number.{largest}
 use Rattle.channel.specs.Channel.{set_pending, with_compare}
 use Rattle.channel.specs.Modes.{next_compare, reloaded}
@@ -16,16 +16,16 @@ returns-then-reload-eq0 c =
 pub overflow_sub-gap : goal.overflow_sub-gap
 overflow_sub-gap c = le_of_lt (mod-lt _ (pos_of_ne-zero c.if-reload-eq0.false))
 
-pub returns-then-counter-gap : goal.returns-then-counter-gap
+pub returns-in_default : goal.returns-in_default
 unfolding reloaded points_met
-returns-then-counter-gap c =
+returns-in_default c =
     let h = c.args.self in
     let n = next_is h.compare h.counter h.reload c.requires
     (pos_of_ne-zero c.if-reload-eq0.false) in
     let z = ne_eqb _ _ c.if-reload-eq0.false in (
       simp (z, lt-ltb largest (next_compare h) (omega arith))
-          (c.met-then-counter-gap.ensures.0 ∙ c.fired-then-counter-gap.ensures),
-      rw z c.met-then-counter-gap.ensures.1,
+          (c.met-in_default.ensures.0 ∙ c.fired-in_default.ensures),
+      rw z c.met-in_default.ensures.1,
     )
 
 pub returns : goal.returns
@@ -34,8 +34,9 @@ returns c =
     let h = c.args.self in
     let n = next_is h.compare h.counter h.reload c.requires
     (pos_of_ne-zero c.if-reload-eq0.false) in
-    let z = ne_eqb _ _ c.if-reload-eq0.false in (
+    let z = ne_eqb _ _ c.if-reload-eq0.false in
+    let e : c.in-Some.next ≡ next_compare h = omega arith in (
       simp (z, le-ltb largest (next_compare h) (omega arith))
-          (c.met-2.ensures.0 ∙ ap (λ (k : ℕ). with_compare k (set_pending h)) (sym n)),
+          (c.met-2.ensures.0 ∙ ap (λ (k : ℕ). with_compare k (set_pending h)) e),
       rw z c.met-2.ensures.1,
     )

@@ -8,12 +8,12 @@ pub returns-then-alarm-seconds : goal.returns-then-alarm-seconds
 returns-then-alarm-seconds c =
     let k = c.args.self in
     deadline-past (rate_of k) k _ (sym c.awaited.ensures ∙ c.if-awaited.true)
-    c.if-alarm-seconds.true c.from_word.ensures
+    c.if-alarm-seconds.true c.from.ensures
 
 pub difference-requires : goal.difference-requires
 difference-requires c =
     let k = c.args.self in
-    rw (c.from_word-then-awaited.ensures, c.product-whole.ensures, c.rate.ensures)
+    rw (c.from-then-awaited.ensures, c.product-whole.ensures, c.rate.ensures)
     (second_ahead (rate_of k) k.alarm.seconds k.seconds k.subsecond c.if-alarm-seconds.false
     c.requires)
 
@@ -24,7 +24,7 @@ returns-then-awaited c =
     (c.difference.ensures
     ∙ rw (
       c.product-whole.ensures,
-      c.from_word-then-awaited.ensures,
+      c.from-then-awaited.ensures,
       c.rate.ensures,
     ))
 

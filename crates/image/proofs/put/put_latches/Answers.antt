@@ -1,27 +1,28 @@
 -- `put::put_latches` meets its contract. Assumes nothing.
 use lib.ListN.{length}
-use mathlib.Core.Path.{◌≡◌, refl}
-use native.Mathlib.Omega.{arith}
-use Rattle.image.proofs.Fields.{latches_stored}
 use Rattle.image.specs.Image.{field_bytes}
+use mathlib.Core.Path.{◌≡◌}
+use Rattle.image.proofs.Fields.{latches_stored}
 use borrow.Author.Rules.{rules}
 use Rattle.image.proofs.put.put_latches.Goals as goal
-
-pub put_field-requires : goal.put_field-requires
-put_field-requires c =
-    (record { most = refl; same = refl; few = omega arith }, (refl, omega (arith, c.requires)))
 
 pub returns : goal.returns
 unfolding field_bytes
 returns c =
-    let four : length c.args.counts ≡ 4 =
-    search rules in
+    let four : length c.args.counts ≡ 4 = search rules in
     let a = c.args in
     latches_stored a.counts four a.low a.high _ _
-    c.held.ensures c.value.ensures
-    c.held-2.ensures c.value-2.ensures
-    c.held-3.ensures c.value-3.ensures
-    c.held-4.ensures c.value-4.ensures
-    c.held-5.ensures c.value-5.ensures
-    c.held-6.ensures c.value-6.ensures
-    c.put_field.ensures
+    (rw (
+      c.from.ensures, c.is_some.ensures,
+      c.from-2.ensures, c.unwrap_or.ensures,
+      c.from-3.ensures, c.is_some-2.ensures,
+      c.from-4.ensures, c.unwrap_or-2.ensures,
+      c.from-5.ensures, c.is_some-3.ensures,
+      c.from-6.ensures, c.unwrap_or-3.ensures,
+      c.from-7.ensures, c.is_some-4.ensures,
+      c.from-8.ensures, c.unwrap_or-4.ensures,
+      c.from-9.ensures, c.is_some-5.ensures,
+      c.from-10.ensures, c.unwrap_or-5.ensures,
+      c.from-11.ensures, c.is_some-6.ensures,
+      c.from-12.ensures, c.unwrap_or-6.ensures,
+    ) at c.put.ensures)

@@ -1,11 +1,10 @@
 -- `put::put_members` meets its contract. Assumes nothing.
-use Prim.Native.Nat.{◌-◌}
-use lib.ListN.{length}
+use lib.Seq.{sets}
+use Rattle.format.specs.Format.{members_bytes}
 use Rattle.image.proofs.Tables.{Storing}
 use Rattle.image.proofs.put.put_members.Given as goal
 
-abbrev pub invariant-loop-i : goal.invariant-loop-i
-invariant-loop-i l = Storing l.widths l.members l.at l.initial.buf l.buf l.p l.i
-
-abbrev pub decreases-loop-i : goal.decreases-loop-i
-decreases-loop-i l = length l.widths - l.i
+abbrev pub invariant-loop-width : goal.invariant-loop-width
+invariant-loop-width l =
+    Storing (sets l.initial.buf l.at (members_bytes l.widths l.members)) l.buf l.p
+    l.width-iterator.a.rest.now l.width-iterator.b.rest.now

@@ -1,18 +1,21 @@
 -- `get::channel_at` meets its contract. Assumes nothing.
-use Rattle.parking.proofs.Forms.{field_formed, channel-flags}
+use mathlib.Core.Path.{◌∙◌}
 use Rattle.image.specs.Image.{channel_field, timer_from}
-use mathlib.Core.Path.{refl, ap, ◌∙◌}
-use native.Mathlib.Omega.{arith}
+use Rattle.parking.proofs.Forms.{field-missing, field-members, field-flawed, field-read, channel-flags}
 use Rattle.parking.proofs.get.channel_at.Goals as goal
 
-pub get_members-requires : goal.get_members-requires
-get_members-requires c =
-    (record { most = refl; same = refl; few = omega arith }, omega (arith, c.requires))
+pub returns-in_err-members : goal.returns-in_err-members
+returns-in_err-members c =
+    rw c.from_residual.ensures (field-missing _ _ channel_field c.requires c.in_err-members.ensures.value _)
+
+pub returns-then-not-flags : goal.returns-then-not-flags
+returns-then-not-flags c =
+    let e = c.in_ok-members.ensures.value in
+    field-flawed _ _ channel_field c.requires _ e
+    (channel-flags _ _ _ (field-members _ _ channel_field c.requires _ e) ∙ c.if-not-flags.true) _
 
 pub returns : goal.returns
 returns c =
-    let taken = c.get_members.ensures.0 in (
-      field_formed _ _ channel_field (omega (arith, c.requires)) _ _ _ c.has_header-header.ensures
-          (c.both-flags.ensures ∙ channel-flags _ _ _ taken) c.both.ensures,
-      ap timer_from taken,
-    )
+    let e = c.in_ok-members.ensures.value in
+    field-read _ _ channel_field c.requires _ e
+    (channel-flags _ _ _ (field-members _ _ channel_field c.requires _ e) ∙ c.if-not-flags.false) timer_from

@@ -1,19 +1,16 @@
 -- `get::controller_in` meets its contract. Assumes nothing.
-use Rattle.parking.proofs.Forms.{field_formed, controller_flags}
-use Rattle.image.specs.Image.{controller_field, controller_from}
-use mathlib.Core.Bool.{and-true}
-use mathlib.Core.Path.{refl, sym, ap}
-use native.Mathlib.Omega.{arith}
+use mathlib.Core.Path.{refl}
+use Rattle.image.specs.Image.{controller_field, controller_from, flags_hold}
+use Rattle.image.specs.CodeTables.{controller_at}
+use Rattle.parking.proofs.Forms.{field-missing, field-read}
 use Rattle.parking.proofs.get.controller_in.Goals as goal
 
-pub get_members-requires : goal.get_members-requires
-get_members-requires c =
-    (record { most = refl; same = refl; few = omega arith }, omega (arith, c.requires))
+pub returns-in_err-members : goal.returns-in_err-members
+returns-in_err-members c =
+    rw c.from_residual.ensures
+    (field-missing _ controller_at controller_field c.requires c.in_err-members.ensures.value _)
 
 pub returns : goal.returns
-returns c = (
-  field_formed _ _ controller_field (omega (arith, c.requires)) _ _ _ c.has_header.ensures
-      (controller_flags _ 263)
-      (sym (and-true _)),
-  ap controller_from c.get_members.ensures.0,
-)
+unfolding flags_hold
+returns c =
+    field-read _ controller_at controller_field c.requires _ c.in_ok-members.ensures.value refl controller_from

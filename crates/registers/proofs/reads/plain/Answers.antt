@@ -12,7 +12,7 @@ place_of-requires c =
 pub returns-then-in_channels : goal.returns-then-in_channels
 unfolding plain_at
 returns-then-in_channels c =
-    rw (← c.in_channels.ensures, c.if-in_channels.true, c.both.ensures, c.place_of.ensures)
+    rw (← c.in_channels.ensures, c.if-in_channels.true, c.place_of.ensures)
 
 pub returns : goal.returns
 unfolding plain_at

@@ -1,33 +1,28 @@
 -- `fields::get` meets its contract. Assumes nothing.
-use Rattle.std.proofs.Common.{◌≡◌, refl, arith}
+use Rattle.std.proofs.Common.{refl, ◌∙◌, drop, arith}
+use Rattle.std.proofs.lemmas.List.{get_or-drop, get_or-take}
 use Rattle.wide.specs.Fields.{be_at}
 use Rattle.wide.proofs.BigEndian.{be_at_more, room_64, room_more}
 use Rattle.wide.proofs.fields.get.Goals as goal
 
-pub loop-i-init : goal.loop-i-init
+pub loop-byte-init : goal.loop-byte-init
 unfolding be_at
-loop-i-init c = (omega arith, (omega arith, refl))
+loop-byte-init c = (omega arith, refl)
 
 pub overflow_mul-v : goal.overflow_mul-v
-overflow_mul-v c = omega (arith, room_64 c.loop-i.i (omega arith))
+overflow_mul-v c = omega (arith, room_64 c.loop-byte.byte-index (omega arith))
 
 pub overflow_add-v : goal.overflow_add-v
-overflow_add-v c = omega (arith, room_64 c.loop-i.i (omega arith))
+overflow_add-v c = omega (arith, room_64 c.loop-byte.byte-index (omega arith))
 
-pub loop-i-preserved : goal.loop-i-preserved
-loop-i-preserved c = (
-  omega arith,
+pub loop-byte-preserved : goal.loop-byte-preserved
+loop-byte-preserved c = (
+  omega (arith, room_more c.loop-byte.byte-index),
   (
-    omega (arith, room_more c.loop-i.i),
-    omega (
-      arith,
-      be_at_more c.args.s.now
-          c.args.at c.loop-i.i,
-    ),
-  ),
+      let s = c.args.s.now in
+      let at = c.args.at in
+      let i = c.loop-byte.byte-index in
+      let read = c.from.ensures ∙ get_or-take _ (drop at s) i 0 (omega arith) ∙ get_or-drop at s i 0 in
+      omega (arith, read, be_at_more s at i)
+      ),
 )
-
-pub returns : goal.returns
-returns c =
-    let e : c.loop-i.i ≡ c.args.width = omega arith in
-    (rw e at c.loop-i.invariant.1.1, rw e at c.loop-i.invariant.1.0)

@@ -1,7 +1,8 @@
 -- `get_word` meets its contract. Assumes nothing.
-use Rattle.std.proofs.Common.{sym}
-use Rattle.wide.proofs.BigEndian.{be_at_parts}
+use Rattle.std.proofs.Common.{arith, add-zero}
+use Rattle.wide.specs.Fields.{be_at}
 use Rattle.wide.proofs.fields.get_word.Goals as goal
 
 pub returns : goal.returns
-returns c = rw (c.get-2.ensures.0, c.get.ensures.0) (sym (be_at_parts _ _ 4 4))
+unfolding be_at
+returns c = simp add-zero (omega (arith, c.from_be_bytes.ensures))

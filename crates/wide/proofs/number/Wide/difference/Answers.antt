@@ -1,5 +1,5 @@
 -- `number::Wide::difference` meets its contract. Assumes nothing.
-use Rattle.std.proofs.Common.{arith, rules}
+use Rattle.std.proofs.Common.{refl, arith, rules}
 use Rattle.wide.proofs.TwoWords.{borrow-is, borrow-fits, no-borrow-is, no-borrow-fits}
 use Rattle.wide.proofs.number.Wide.difference.Goals as goal
 
@@ -17,9 +17,7 @@ overflow_sub-result-then-l-m c =
 pub returns-then-l-m : goal.returns-then-l-m
 returns-then-l-m c =
     let a = c.args in
-    let r = c.wrapping_sub_u64-low in
-    borrow-is a.self a.other r.result (search rules) (search rules) c.requires (search rules)
-    r.ensures.value c.if-l-m.true
+    borrow-is a.self a.other _ (search rules) (search rules) c.requires refl c.if-l-m.true
 
 pub overflow_sub-result-2 : goal.overflow_sub-result-2
 overflow_sub-result-2 c =
@@ -29,6 +27,4 @@ overflow_sub-result-2 c =
 pub returns : goal.returns
 returns c =
     let a = c.args in
-    let r = c.wrapping_sub_u64-low in
-    no-borrow-is a.self a.other r.result (search rules) (search rules) c.requires (search rules)
-    r.ensures.value c.if-l-m.false
+    no-borrow-is a.self a.other _ (search rules) (search rules) c.requires refl c.if-l-m.false

@@ -1,0 +1,25 @@
+-- Not document 01's sentences: the tags as the code names them. The rule is `tag_of` of Codec.
+use Rattle.std.specs.Prelude.{ℕ, ◌≡◌, false, Result, MatchResult}
+use Rattle.board.specs.declared.refusal.Refusal.{Refusal}
+use Rattle.board.specs.declared.refusal.Refusal.TheVariants.{TagUnknown}
+use Rattle.format.specs.declared.tag.Tag.{Tag}
+use Rattle.format.specs.declared.tag.Tag.TheVariants.{HostTime, Read, Write, Advance, Deadline, Skip, Source}
+use Rattle.format.specs.declared.tag.Tag.TheVariants.{ControllerRead, ControllerWrite, Output}
+use Rattle.format.specs.Format.{known}
+
+-- 'Tags are hexadecimal.'
+abbrev pub tag_number : Tag → ℕ
+tag_number HostTime = 0x01
+tag_number Read = 0x02
+tag_number Write = 0x03
+tag_number Advance = 0x04
+tag_number Deadline = 0x05
+tag_number Skip = 0x06
+tag_number Source = 0x07
+tag_number ControllerRead = 0x08
+tag_number ControllerWrite = 0x09
+tag_number Output = 0x0A
+
+-- what becomes of a byte where a tag must stand
+abbrev pub IsTag : ℕ → Result Tag Refusal → Type 0
+IsTag byte r = MatchResult r (λ tag. tag_number tag ≡ byte) (λ e. (e ≡ TagUnknown) × (known byte ≡ false))
