@@ -8,6 +8,7 @@ ghost use Rattle.list.specs.Run.{run_of, over};
 ghost use Rattle.recording.specs.Record.{start_of, results_of, header_at, Fits, Agrees};
 
 use board::Board;
+use board::refusal;
 use listing::first_record;
 use wide::fields::get;
 
@@ -106,7 +107,7 @@ fn replayed(enable: u8, list: &[u8], answers: &mut [u8]) -> Results
         calls: r.calls,
         used: r.used,
         written: r.written,
-        refusal: r.refusal,
+        refusal: refusal::code(r.end),
     }
 }
 
