@@ -12,8 +12,7 @@ use Rattle.board.specs.Calls.{not_sound, effect_of}
 use Rattle.format.specs.Format.{answer_bytes, record_of}
 use Rattle.format.specs.Codec.{tag_of, call_at}
 use Rattle.format.proofs.Frames.{tag_below, answer-below, answer-length}
-use Rattle.list.specs.declared.Outcome.{Outcome}
-use Rattle.list.specs.Run.{Result, done, refused, result_of, stepped, Run, run_on, nothing_done, run_of}
+use Rattle.list.specs.Run.{Outcome, Result, done, refused, result_of, stepped, Run, run_on, nothing_done, run_of}
 use Rattle.list.proofs.Results.{done_placed}
 use Rattle.listing.specs.Listing.{answer_line, lines_on, answer_lines}
 use Rattle.listing.proofs.Records.{record-listed}

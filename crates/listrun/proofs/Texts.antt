@@ -9,8 +9,9 @@ use lib.Seq.{take_all, take-append_seam, length-take-le}
 use borrow.Author.Tests.{lt-ltb, le-ltb}
 use Rattle.board.specs.declared.Board.{Board}
 use Rattle.board.specs.Fields.{fresh_board}
-use Rattle.list.specs.declared.Outcome.{Outcome}
-use Rattle.list.specs.Run.{run_of, over}
+use Rattle.board.specs.Refusals.{refusal_code}
+use Rattle.list.specs.declared.Outcome.{Outcome as Ended}
+use Rattle.list.specs.Run.{Outcome, outcome_of, run_of, over}
 use Rattle.listing.specs.Listing.{ascii, listing_of, with_text}
 use Rattle.listrun.proofs.Carried.{written_is}
 use Rattle.listrun.specs.Printed.{list_limit, answer_room, listed, printed_of}
@@ -25,30 +26,30 @@ text_is t p old new r q e f h =
 
 -- ---- the answers that a run wrote
 
-module _ (list : List ℕ) (board : Board) (before after : List ℕ) (o : Outcome) (room : ℕ) (fresh : board ≡ fresh_board)
-    (ran : o ≡ (run_of board list room).outcome) (wrote : after ≡ over (run_of board list room).answers before)
+module _ (list : List ℕ) (board : Board) (before after : List ℕ) (e : Ended) (room : ℕ) (fresh : board ≡ fresh_board)
+    (ran : outcome_of e ≡ (run_of board list room).outcome) (wrote : after ≡ over (run_of board list room).answers before)
   where
-    counted : o.written ≡ length (run_of board list room).answers
+    counted : e.written ≡ length (run_of board list room).answers
     counted = ap (λ (q : Outcome). q.written) ran ∙ written_is board list room
 
     -- they lie within the buffer
-    pub written_fits : o.written ≤ length after
+    pub written_fits : e.written ≤ length after
     unfolding over
     written_fits =
         let a = (run_of board list room).answers in
         omega (arith, counted, ap length wrote, length-append a (drop (length a) before))
 
-    pub written_long : o.written ≡ length (take o.written after)
-    written_long = sym (length-take-le o.written after written_fits)
+    pub written_long : e.written ≡ length (take e.written after)
+    written_long = sym (length-take-le e.written after written_fits)
 
     -- they are listed
     pub listed_is :
-        listing_of (take o.written after) o.calls o.refusal o.used ≡ listed (run_of fresh_board list room)
+        listing_of (take e.written after) e.calls (refusal_code e.end) e.used ≡ listed (run_of fresh_board list room)
     unfolding listed over
     listed_is =
         let a = (run_of board list room).answers in
-        let front : take o.written after ≡ a = rw (counted, wrote) (take-append_seam a (drop (length a) before)) in
-        ap (λ (l : List ℕ). listing_of l o.calls o.refusal o.used) front
+        let front : take e.written after ≡ a = rw (counted, wrote) (take-append_seam a (drop (length a) before)) in
+        ap (λ (l : List ℕ). listing_of l e.calls (refusal_code e.end) e.used) front
         ∙ ap (λ (q : Outcome). listing_of a q.calls q.refusal q.used) ran
         ∙ ap (λ (b : Board). listed (run_of b list room)) fresh
 

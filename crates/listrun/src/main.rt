@@ -11,7 +11,7 @@ ghost use Rattle.list.specs.Run.{run_of};
 ghost use Rattle.listing.specs.Listing.{with_text};
 ghost use Rattle.listrun.specs.Printed.{listed, printed_of};
 
-use board::Board;
+use board::{Board, refusal};
 use std::io::Error;
 use std::process::ExitCode;
 
@@ -34,7 +34,13 @@ fn run_list(list: &[u8], answers: &mut [u8], text: &mut [u8]) -> usize
 {
     let r = list::run(Board::fresh(), list, answers);
     let written = r.written;
-    listing::listing(&answers[..written], r.calls, r.refusal, r.used, text)
+    listing::listing(
+        &answers[..written],
+        r.calls,
+        refusal::code(r.end),
+        r.used,
+        text,
+    )
 }
 
 // What is printed for a list, written at the start of a buffer. A listing has at most two characters for each answer

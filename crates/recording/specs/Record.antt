@@ -3,8 +3,7 @@ use Rattle.std.specs.Prelude.{◌≡◌, ℕ, ◌+◌, ◌≤◌, List, length, 
 use Rattle.wide.specs.Fields.{be_at}
 use Rattle.board.specs.declared.Board.{Board}
 use Rattle.board.specs.Fields.{fresh_board, with_timer_enable}
-use Rattle.list.specs.declared.Outcome.{Outcome}
-use Rattle.list.specs.Run.{run_of, over}
+use Rattle.list.specs.Run.{Outcome, run_of, over}
 use Rattle.recording.specs.declared.Results.{Results}
 use Rattle.recording.specs.declared.Header.{Header}
 

@@ -8,6 +8,7 @@ ghost use Rattle.list.specs.Run.{run_of, over};
 ghost use Rattle.recording.specs.Record.{start_of, results_of, header_at, Fits, Agrees};
 
 use board::Board;
+use board::refusal;
 use listing::first_record;
 use wide::fields::get;
 
@@ -87,9 +88,10 @@ pub fn fits(h: Header, room: usize) -> bool
 fn start(enable: u8) -> Board
     ensures { result ≡ start_of enable }
 {
-    let mut board = Board::fresh();
-    board.timer_enable = enable;
-    board
+    Board {
+        timer_enable: enable,
+        ..Board::fresh()
+    }
 }
 
 // Runs a list on that board.
@@ -105,7 +107,7 @@ fn replayed(enable: u8, list: &[u8], answers: &mut [u8]) -> Results
         calls: r.calls,
         used: r.used,
         written: r.written,
-        refusal: r.refusal,
+        refusal: refusal::code(r.end),
     }
 }
 
