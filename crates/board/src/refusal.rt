@@ -33,11 +33,11 @@ impl Refusal {
 }
 
 // The number of the refusal, 0 where there is none.
-pub fn code(outcome: Result<(), Refusal>) -> u8
+pub fn code<T: Copy>(outcome: Result<T, Refusal>) -> u8
     ensures { result ≡ refusal_code outcome }
 {
     match outcome {
-        Ok(()) => 0,
+        Ok(_) => 0,
         Err(refusal) => refusal.number(),
     }
 }

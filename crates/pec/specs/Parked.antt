@@ -2,8 +2,7 @@
 -- is made', and S-8's writing in the new form.
 use Rattle.std.specs.Prelude.{ℕ, cond, List, eqb}
 use Rattle.board.specs.Calls.{fresh_of}
-use Rattle.parking.specs.declared.Writing.{Writing}
-use Rattle.parking.specs.Parking.{default_form, writing_of, buffer_after}
+use Rattle.parking.specs.Parking.{Writing, default_form, writing_of, buffer_after}
 
 -- what it answers, with this room for the image
 unfoldable pub fresh_writing : ℕ → ℕ → Writing

@@ -3,8 +3,7 @@ use Rattle.std.specs.Prelude.{ℕ, zero, suc, cond, List, length, eqb}
 use Rattle.board.specs.declared.Board.{Board}
 use Rattle.board.specs.Fields.{fresh_board}
 use Rattle.board.specs.Calls.{fresh_of}
-use Rattle.list.specs.declared.Outcome.{Outcome}
-use Rattle.list.specs.Run.{run_of, over, nothing_done}
+use Rattle.list.specs.Run.{Outcome, run_of, over, nothing_done}
 
 -- what the last run gave, and what the buffer holds after it
 pub record Held : Type 0 where

@@ -3,7 +3,10 @@
 #![tactic(auto)]
 
 ghost use Rattle.std.specs.Prelude.{◌≡◌, ◌+◌, ◌*◌, ◌≤◌, length};
+ghost use Rattle.std.specs.Result.{result_unwrap_or};
 ghost use Rattle.board.specs.Fields.{fresh_board};
+ghost use Rattle.board.specs.Refusals.{refusal_code};
+ghost use Rattle.list.specs.Run.{outcome_of};
 ghost use Rattle.image.specs.declared.Form.TheVariants.{Old, New};
 ghost use Rattle.parking.specs.Parking.{default_form, writing_of, buffer_after, reading_refusal};
 ghost use Rattle.parking.specs.Moves.{move_of, moved_buffer};
@@ -14,6 +17,7 @@ ghost use Rattle.pec.specs.Repeats.{started_on, started, ran, repeats, ran_at, r
 ghost use Rattle.pec.specs.Parked.{fresh_writing, fresh_buffer};
 
 use board::Board;
+use board::refusal::{self, Refusal};
 use image::Form;
 use list::Outcome;
 
@@ -22,7 +26,7 @@ mod irqc;
 // Runs a list over a board, and then another list a number of times, each time over the board that the run before it
 // left. Each run writes its answers from the buffer's first byte.
 fn repeated(board: Board, first: &[u8], list: &[u8], times: u64, answers: &mut [u8]) -> Outcome
-    ensures value { result ≡ (repeats times list.now
+    ensures value { outcome_of result ≡ (repeats times list.now
         (ran first.now (started_on board answers.old))).outcome }
     ensures answers_after { answers.new ≡ (repeats times list.now
         (ran first.now (started_on board answers.old))).buffer }
@@ -37,23 +41,46 @@ fn repeated(board: Board, first: &[u8], list: &[u8], times: u64, answers: &mut [
 
 // The same over a fresh board at a rate. A rate that no sound board has is refused, and nothing is run.
 fn repeated_at(rate: u32, first: &[u8], list: &[u8], times: u64, answers: &mut [u8]) -> Outcome
-    ensures value { result ≡ (repeats_at rate first.now list.now times answers.old
-        ).outcome }
+    ensures value { outcome_of result
+        ≡ (repeats_at rate first.now list.now times answers.old).outcome }
     ensures answers_after { answers.new
         ≡ (repeats_at rate first.now list.now times answers.old).buffer }
 {
     let fresh = Board::fresh_at(rate);
     let board = fresh.board;
-    if fresh.refusal != 0 {
+    if let Err(refusal) = fresh.answer {
         return Outcome {
             board,
             calls: 0,
             used: 0,
             written: 0,
-            refusal: fresh.refusal,
+            end: Err(refusal),
         };
     }
     repeated(board, first, list, times, answers)
+}
+
+// Gives a run's counts to the caller, and the number of its refusal as the result, 0 for none.
+fn give(run: Outcome, calls: &mut usize, used: &mut usize, written: &mut usize) -> u8
+    ensures value { result ≡ (outcome_of run).refusal }
+    ensures calls_after { calls.new ≡ (outcome_of run).calls }
+    ensures used_after { used.new ≡ (outcome_of run).used }
+    ensures written_after { written.new ≡ (outcome_of run).written }
+{
+    *calls = run.calls;
+    *used = run.used;
+    *written = run.written;
+    refusal::code(run.end)
+}
+
+// Gives the bytes of an image to the caller, 0 where it is refused, and the number of the refusal as the result, 0 for
+// none.
+fn give_written(image: Result<usize, Refusal>, written: &mut usize) -> u8
+    ensures value { result ≡ refusal_code image }
+    ensures written_after { written.new ≡ result_unwrap_or image 0 }
+{
+    *written = image.unwrap_or(0);
+    refusal::code(image)
 }
 
 // Runs a list over a fresh board into a lent buffer. Gives the calls done, the list bytes that they used, the answer
@@ -73,11 +100,8 @@ pub extern "C" fn pec_run(
     ensures written_after { written.new
         ≡ (ran list.now (started answers.old)).outcome.written }
 {
-    let r = list::run(Board::fresh(), list, answers);
-    *calls = r.calls;
-    *used = r.used;
-    *written = r.written;
-    r.refusal
+    let run = list::run(Board::fresh(), list, answers);
+    give(run, calls, used, written)
 }
 
 // Runs a list over a fresh board, and then another list a number of times, each time over the board that the run before
@@ -103,11 +127,8 @@ pub extern "C" fn pec_run_repeated(
     ensures written_after { written.new ≡ (repeats times list.now
         (ran first.now (started answers.old))).outcome.written }
 {
-    let r = repeated(Board::fresh(), first, list, times, answers);
-    *calls = r.calls;
-    *used = r.used;
-    *written = r.written;
-    r.refusal
+    let run = repeated(Board::fresh(), first, list, times, answers);
+    give(run, calls, used, written)
 }
 
 // Runs a list over a fresh board at a rate into a lent buffer, as `pec_run` does over one at 48,000,000. A rate other
@@ -127,11 +148,8 @@ pub extern "C" fn pec_run_at(
     ensures used_after { used.new ≡ (ran_at rate list.now answers.old).outcome.used }
     ensures written_after { written.new ≡ (ran_at rate list.now answers.old).outcome.written }
 {
-    let r = repeated_at(rate, list, list, 0, answers);
-    *calls = r.calls;
-    *used = r.used;
-    *written = r.written;
-    r.refusal
+    let run = repeated_at(rate, list, list, 0, answers);
+    give(run, calls, used, written)
 }
 
 // Runs a list over a fresh board at a rate, and then another list a number of times, as `pec_run_repeated` does over
@@ -158,11 +176,8 @@ pub extern "C" fn pec_run_repeated_at(
     ensures written_after { written.new
         ≡ (repeats_at rate first.now list.now times answers.old).outcome.written }
 {
-    let r = repeated_at(rate, first, list, times, answers);
-    *calls = r.calls;
-    *used = r.used;
-    *written = r.written;
-    r.refusal
+    let run = repeated_at(rate, first, list, times, answers);
+    give(run, calls, used, written)
 }
 
 // Writes the listing of a run's answers and of its end, which `listrun` prints, at the start of a lent buffer, as much
@@ -192,9 +207,8 @@ pub extern "C" fn pec_fresh(image: &mut [u8], written: &mut usize) -> u8
     ensures written_after { written.new
         ≡ (writing_of default_form fresh_board (length image.old)).written }
 {
-    let r = parking::write(Board::fresh(), image);
-    *written = r.written;
-    r.refusal
+    let parked = parking::park(Form::New, Board::fresh(), image);
+    give_written(parked, written)
 }
 
 // The same for a fresh board at a rate. A rate that no sound board has is refused with 15, ahead of 11.
@@ -205,14 +219,12 @@ pub extern "C" fn pec_fresh_at(rate: u32, image: &mut [u8], written: &mut usize)
     ensures written_after { written.new ≡ (fresh_writing rate (length image.old)).written }
 {
     let fresh = Board::fresh_at(rate);
-    if fresh.refusal != 0 {
-        *written = 0;
-        return fresh.refusal;
-    }
     let board = fresh.board;
-    let r = parking::write(board, image);
-    *written = r.written;
-    r.refusal
+    let parked = match fresh.answer {
+        Ok(()) => parking::park(Form::New, board, image),
+        Err(refusal) => Err(refusal),
+    };
+    give_written(parked, written)
 }
 
 // Moves an image of the old form to the new, with 48,000,000, at the start of a lent buffer. Gives the bytes written, 0
@@ -224,9 +236,8 @@ pub extern "C" fn pec_move_forward(image: &[u8], moved: &mut [u8], written: &mut
     ensures moved_after { moved.new ≡ moved_buffer New image.now moved.old }
     ensures written_after { written.new ≡ (move_of New image.now (length moved.old)).written }
 {
-    let r = parking::moves::move_image(Form::New, image, moved);
-    *written = r.written;
-    r.refusal
+    let image = parking::moves::move_image(Form::New, image, moved);
+    give_written(image, written)
 }
 
 // Moves an image of the new form back to the old in the same manner. Between 1 and 11 comes 16, where its board has
@@ -237,9 +248,8 @@ pub extern "C" fn pec_move_back(image: &[u8], moved: &mut [u8], written: &mut us
     ensures moved_after { moved.new ≡ moved_buffer Old image.now moved.old }
     ensures written_after { written.new ≡ (move_of Old image.now (length moved.old)).written }
 {
-    let r = parking::moves::move_image(Form::Old, image, moved);
-    *written = r.written;
-    r.refusal
+    let image = parking::moves::move_image(Form::Old, image, moved);
+    give_written(image, written)
 }
 
 // The refusal of reading an image, of either form: 12, 1, or 0 for none.
@@ -247,8 +257,7 @@ pub extern "C" fn pec_move_back(image: &[u8], moved: &mut [u8], written: &mut us
 pub extern "C" fn pec_image_refusal(image: &[u8]) -> u8
     ensures { result ≡ reading_refusal image.now }
 {
-    let r = parking::read(image);
-    r.refusal
+    refusal::code(parking::unpark(image))
 }
 
 // Runs a list over a parked board, and writes the board that the run left back into the image, in the form that it has.
@@ -275,11 +284,11 @@ pub extern "C" fn pec_run_parked(
     ensures written_after { written.new
         ≡ (resumed_of image.old list.now (length answers.old)).written }
 {
-    let r = resume::run(image, list, answers);
-    *calls = r.calls;
-    *used = r.used;
-    *written = r.written;
-    r.refusal
+    let run = resume::run(image, list, answers);
+    *calls = run.calls;
+    *used = run.used;
+    *written = run.written;
+    refusal::code(run.end)
 }
 
 // Whether a parked board's line would be high after each of some totals of further cycles: one byte for each, 1 or 0,
@@ -293,5 +302,5 @@ pub extern "C" fn pec_preview(image: &[u8], totals: &[u64], high: &mut [u8]) -> 
     ensures high_after { high.new
         ≡ parked_preview_buffer image.now totals.now high.old }
 {
-    preview::preview_parked(image, totals, high)
+    refusal::code(preview::preview_parked(image, totals, high))
 }

@@ -100,7 +100,7 @@ pub fn preview_parked(image: &[u8], totals: &[u64], high: &mut [u8]) -> Result<(
     ensures high_after { high.new
         ≡ parked_preview_buffer image.now totals.now high.old }
 {
-    let parked = parking::read(image)?;
+    let parked = parking::unpark(image)?;
     let board = parked.board;
     put_preview(board, totals, high)
 }
