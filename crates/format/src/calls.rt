@@ -150,7 +150,8 @@ pub fn controller_read_at(rest: &[u8], room: usize) -> Result<Call, Undecoded>
 
 pub fn controller_write_at(rest: &[u8], room: usize) -> Result<Call, Undecoded>
     requires { 3 ≤ length rest.now }
-    ensures { decoded result ≡ framed_as 5 (Call.ControllerWrite (be_at rest.now 7 1) (be_at rest.now 3 4)) rest.now room }
+    ensures { decoded result
+        ≡ framed_as 5 (Call.ControllerWrite (be_at rest.now 7 1) (be_at rest.now 3 4)) rest.now room }
 {
     check_value(rest, Tag::ControllerWrite)?;
     check_room(room, Tag::ControllerWrite)?;

@@ -22,9 +22,6 @@ use channel::Cycles;
 use wide::fields;
 use wide::number::Wide;
 
-// The number of the refusal of a buffer that is too short.
-pub const ANSWER_TOO_LONG: u8 = 11;
-
 // Bytes of a tag and a length.
 pub const HEADER_LENGTH: usize = 3;
 

@@ -6,20 +6,17 @@ use mathlib.Core.Bool.{true, false}
 use mathlib.Core.List.{List, [], append-nil}
 use lib.ListN.{length, get_or, drop, drop_of_length-le}
 use lib.Dec.{eqb}
-use borrow.Author.Tests.{eq-eqb, ne_eqb, le-ltb}
+use borrow.Author.Tests.{eq-eqb, le-ltb}
 use Rattle.clock.specs.Clock.{rate_of}
 use Rattle.board.specs.declared.Board.{Board}
 use Rattle.board.specs.Board.{sound}
-use Rattle.parking.specs.declared.Reading.{Reading}
 use Rattle.image.specs.declared.Form.{Form}
 use Rattle.image.specs.Image.{image_length, image_of}
-use Rattle.parking.specs.Parking.{form_takes, buffer_after, reading_refusal, reading_of}
+use Rattle.parking.specs.Parking.{Reading, form_takes, buffer_after, reading_refusal, reading_of}
 use Rattle.parking.proofs.RoundTrip.{refusal_is, accepted_sound, accepted-long, accepted-rate, accepted-fits}
-use Rattle.list.specs.declared.Outcome.{Outcome}
-use Rattle.list.specs.Run.{run_of, over}
+use Rattle.list.specs.Run.{Outcome, run_of, over}
 use Rattle.list.proofs.Kept.{run_sound, run-rate}
-use Rattle.resume.specs.declared.Resumed.{Resumed}
-use Rattle.resume.specs.Resumed.{run_parked, resumed_of, image_after, answers_after}
+use Rattle.resume.specs.Resumed.{Resumed, run_parked, resumed_of, image_after, answers_after}
 
 -- nothing done, with a refusal
 abbrev nothing : ℕ → Resumed
@@ -27,9 +24,9 @@ nothing n = record { refusal = n; calls = 0; used = 0; written = 0 }
 
 -- ---- a refused image
 
-module _ (image l a : List ℕ) (r : Reading) (e : r ≡ reading_of image) (n : r.refusal ≡ 0 → ⊥) where
+module _ (image l a : List ℕ) (r : Reading) (e : r ≡ reading_of image) (n : eqb r.refusal 0 ≡ false) where
   refused : eqb (reading_refusal image) 0 ≡ false
-  refused = ap (λ (k : ℕ). eqb k 0) (sym (refusal_is image r e)) ∙ ne_eqb r.refusal 0 n
+  refused = ap (λ (k : ℕ). eqb k 0) (sym (refusal_is image r e)) ∙ n
 
   pub resumed-refused : (nothing r.refusal ≡ resumed_of image l (length a))
       × ((image ≡ image_after image l (length a)) × (a ≡ answers_after image l a))

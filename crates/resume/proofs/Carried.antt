@@ -21,8 +21,7 @@ use Rattle.board.proofs.Good.{good, good-sound}
 use Rattle.format.specs.Codec.{frame_refusal, call_at, call_length, answer_record, refusal_at}
 use Rattle.format.proofs.Frames.{framed, call_least}
 use Rattle.format.proofs.Decoding.{clear}
-use Rattle.list.specs.declared.Outcome.{Outcome}
-use Rattle.list.specs.Run.{Result, done, refused, result_of, stepped, Run, run_on, nothing_done, run_of}
+use Rattle.list.specs.Run.{Outcome, Result, done, refused, result_of, stepped, Run, run_on, nothing_done, run_of}
 use Rattle.list.specs.Demand.{FrontIs, ListIs}
 use Rattle.list.proofs.Results.{result-refused, result-done, step_good}
 use Rattle.list.proofs.Runs.{go_on, stop_at, rest_bytes}

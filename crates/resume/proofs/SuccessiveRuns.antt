@@ -15,8 +15,7 @@ use Rattle.board.specs.Board.{BoardFits, line, exact_deadline, word_deadline, so
 use Rattle.board.specs.Calls.{is_present, or_zero}
 use Rattle.board.specs.Demand.{PassesTime, after, after_all, cycles_passed, PromiseAfter}
 use Rattle.board.proofs.Demand3.{demand_3}
-use Rattle.parking.specs.declared.Reading.{Reading}
-use Rattle.parking.specs.Parking.{reading_refusal, reading_of}
+use Rattle.parking.specs.Parking.{Reading, reading_refusal, reading_of}
 use Rattle.parking.proofs.RoundTrip.{refusal_is, accepted_sound, accepted-fits}
 use Rattle.list.proofs.Kept.{run_fits}
 use Rattle.resume.specs.Resumed.{run_parked, resumed_of, image_after}

@@ -11,10 +11,9 @@ use Rattle.board.specs.declared.Board.{Board}
 use Rattle.board.specs.Fields.{fresh_board_at}
 use Rattle.board.specs.Board.{BoardFits, sound}
 use Rattle.board.proofs.Kept.{fresh_fits}
-use Rattle.parking.specs.declared.Reading.{Reading}
 use Rattle.image.specs.declared.Form.{Form}
 use Rattle.image.specs.Image.{image_of}
-use Rattle.parking.specs.Parking.{form_takes, reading_refusal, reading_of}
+use Rattle.parking.specs.Parking.{Reading, form_takes, reading_refusal, reading_of}
 use Rattle.parking.specs.Demand.{parked_and_read}
 use Rattle.parking.proofs.RoundTrip.{refusal_is, read_back, accepted_sound, accepted-rate, accepted-fits}
 use Rattle.parking.proofs.Parkings.{parked_back}

@@ -3,7 +3,20 @@ use Rattle.std.specs.Prelude.{ℕ, cond, List, length, eqb}
 use Rattle.image.specs.Image.{image_of}
 use Rattle.parking.specs.Parking.{reading_of, reading_refusal}
 use Rattle.list.specs.Run.{Run, run_of, over}
-use Rattle.resume.specs.declared.Resumed.{Resumed}
+use Rattle.board.specs.Refusals.{refusal_code}
+use Rattle.resume.specs.declared.Resumed.{Resumed as Said}
+
+-- what a run over a parked board gives: the refusal, of the image or else of the run, 0 for none, and the run's counts:
+-- the calls done, the list bytes that they used, and the answer bytes
+pub record Resumed : Type 0 where
+  pub refusal : ℕ
+  pub calls : ℕ
+  pub used : ℕ
+  pub written : ℕ
+
+-- what the code's result says
+abbrev pub resumed_said : Said → Resumed
+resumed_said r = record { refusal = refusal_code r.end; calls = r.calls; used = r.used; written = r.written }
 
 -- document 01's run of a list over the board of an image, with this room for the answers
 abbrev pub run_parked : List ℕ → List ℕ → ℕ → Run

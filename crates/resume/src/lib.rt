@@ -3,41 +3,46 @@
 #![tactic(auto)]
 
 ghost use Rattle.std.specs.Prelude.{◌≡◌, length};
-ghost use Rattle.resume.specs.Resumed.{resumed_of, image_after, answers_after};
+ghost use Rattle.resume.specs.Resumed.{resumed_said, resumed_of, image_after, answers_after};
 
-// The refusal, of the image or else of the run, 0 for none, and the run's counts: the calls done, the list bytes that
-// they used, and the answer bytes.
+use board::refusal::Refusal;
+
+// How the run ended, or why the image is refused; and the run's counts: the calls done, the list bytes that they used,
+// and the answer bytes.
 #[derive(Clone, Copy)]
 pub struct Resumed {
-    pub refusal: u8,
+    pub end: Result<(), Refusal>,
     pub calls: usize,
     pub used: usize,
     pub written: usize,
 }
 
 pub fn run(image: &mut [u8], list: &[u8], answers: &mut [u8]) -> Resumed
-    ensures value { result ≡ resumed_of image.old list.now (length answers.old) }
+    ensures value { resumed_said result ≡ resumed_of image.old list.now (length answers.old) }
     ensures image_after { image.new
         ≡ image_after image.old list.now (length answers.old) }
     ensures answers_after { answers.new
         ≡ answers_after image.old list.now answers.old }
 {
-    let parked = parking::read(image);
-    if parked.refusal != 0 {
-        return Resumed {
-            refusal: parked.refusal,
-            calls: 0,
-            used: 0,
-            written: 0,
-        };
-    }
+    let parked = match parking::unpark(image) {
+        Ok(parked) => parked,
+        Err(refusal) => {
+            return Resumed {
+                end: Err(refusal),
+                calls: 0,
+                used: 0,
+                written: 0,
+            };
+        }
+    };
     let board = parked.board;
     let r = list::run(board, list, answers);
     let left = r.board;
     let form = parked.form;
-    parking::write_in(form, left, image);
+    // this is accepted: a run leaves a sound board at its rate, and the image is as long as its form
+    let _ = parking::park(form, left, image);
     Resumed {
-        refusal: r.refusal,
+        end: r.end,
         calls: r.calls,
         used: r.used,
         written: r.written,
