@@ -82,10 +82,10 @@ pub fn run(board: Board, list: &[u8], answers: &mut [u8]) -> Outcome
                     let r = reads::reading_at(b, timer, offset);
                     let after = r.latches;
                     b.latches = after;
-                    b.clock.alarm.pending = r.pending;
-                    b.clock.alarm.armed = r.armed;
-                    moved = r.rose;
-                    steps::put_byte(answers, written, r.byte);
+                    b.clock.alarm.pending = r.plain.pending;
+                    b.clock.alarm.armed = r.plain.armed;
+                    moved = r.plain.rose;
+                    steps::put_byte(answers, written, r.plain.byte);
                 }
                 used += Tag::Read.call_length();
                 size = Tag::Read.record_length();

@@ -34,7 +34,7 @@ use Rattle.registers.specs.declared.reads.LatchedReading.{LatchedReading}
 use Rattle.registers.specs.declared.reads.PlainReading.{PlainReading}
 use Rattle.registers.specs.declared.writes.WritePart.{WritePart}
 use Rattle.registers.specs.declared.writes.WritePart.TheVariants.{Nothing, Enable, Acknowledge, Clock, Channel}
-use Rattle.registers.specs.CodeReads.{channel_index, offset_reading, after_reading, plain_at, plain_of}
+use Rattle.registers.specs.CodeReads.{channel_index, offset_reading, after_reading, plain_at}
 use Rattle.registers.specs.CodeWrites.{part_of, written_by, moves_line}
 use Rattle.registers.proofs.CodeReads.{read_parts}
 use Rattle.registers.proofs.CodeWrites.{written_is}
@@ -84,8 +84,8 @@ module _ (b : Board) (s : sound b ≡ true) (at : ℕ) (buf : List ℕ) where
 
   module _ (call : Call) (offset : ℕ) (r : Reads call offset) (y : Board) (moved : Bool) (buf' : List ℕ) where
     -- with the latches
-    pub read_carried : (t : LatchedReading) → t ≡ offset_reading offset b → y ≡ after_reading t b → moved ≡ t.rose →
-        buf' ≡ sets buf at (record_of 2 (answer_bytes 2 (t.byte ∷ []))) → Carried call b at buf y moved buf'
+    pub read_carried : (t : LatchedReading) → t ≡ offset_reading offset b → y ≡ after_reading t b → moved ≡ t.plain.rose →
+        buf' ≡ sets buf at (record_of 2 (answer_bytes 2 (t.plain.byte ∷ []))) → Carried call b at buf y moved buf'
     read_carried t e f h p =
         let k = read_parts r.address b in
         let y' : y ≡ after_reading (offset_reading offset b) b = rw e at f in
@@ -93,31 +93,24 @@ module _ (b : Board) (s : sound b ≡ true) (at : ℕ) (buf : List ℕ) where
         (by_effect (Read r.address) y moved buf'
         (y' ∙ ap (λ (o : ℕ). after_reading (offset_reading o b) b) r.at ∙ sym k.0)
         (λ n. still_wired b y s
-        (ap line y' ∙ read_still offset b (sym (ap (λ (q : LatchedReading). q.rose) e) ∙ sym h ∙ n))
+        (ap line y' ∙ read_still offset b (sym (ap (λ (q : LatchedReading). q.plain.rose) e) ∙ sym h ∙ n))
         (ap (λ (x : Board). x.controller) y'))
-        (p ∙ ap (λ (q : LatchedReading). sets buf at (record_of 2 (answer_bytes 2 (q.byte ∷ [])))) e
-        ∙ ap (λ (o : ℕ). sets buf at (record_of 2 (answer_bytes 2 ((offset_reading o b).byte ∷ [])))) r.at
+        (p ∙ ap (λ (q : LatchedReading). sets buf at (record_of 2 (answer_bytes 2 (q.plain.byte ∷ [])))) e
+        ∙ ap (λ (o : ℕ). sets buf at (record_of 2 (answer_bytes 2 ((offset_reading o b).plain.byte ∷ [])))) r.at
         ∙ ap (λ (ms : List ℕ). sets buf at (record_of 2 (answer_bytes 2 ms))) (sym k.1)))
 
     -- a reading without the latches, which stay
     abbrev whole : PlainReading → LatchedReading
-    whole t = record { latches = b.latches; byte = t.byte; pending = t.pending; armed = t.armed; rose = t.rose }
+    whole t = record { latches = b.latches; plain = t }
 
-    plain_whole : (t : PlainReading) → t ≡ plain_of (offset_reading offset b) → plain_at offset ≡ true →
+    plain_whole : (t : PlainReading) → t ≡ (offset_reading offset b).plain → plain_at offset ≡ true →
         whole t ≡ offset_reading offset b
     plain_whole t e q =
         ap whole e
-        ∙ ap
-        (λ (ls : Latches). record {
-          latches = ls;
-          byte = (offset_reading offset b).byte;
-          pending = (offset_reading offset b).pending;
-          armed = (offset_reading offset b).armed;
-          rose = (offset_reading offset b).rose;
-        })
+        ∙ ap (λ (ls : Latches). record { latches = ls; plain = (offset_reading offset b).plain })
         (sym (plain-latches offset q b))
 
-    pub plain_carried : plain_at offset ≡ true → (t : PlainReading) → t ≡ plain_of (offset_reading offset b) →
+    pub plain_carried : plain_at offset ≡ true → (t : PlainReading) → t ≡ (offset_reading offset b).plain →
         y ≡ after_reading (whole t) b → moved ≡ t.rose →
         buf' ≡ sets buf at (record_of 2 (answer_bytes 2 (t.byte ∷ []))) → Carried call b at buf y moved buf'
     plain_carried q t e f h p = read_carried (whole t) (plain_whole t e q) f h p
