@@ -3,70 +3,70 @@ use Prim.Native.Nat.{ℕ}
 use mathlib.Core.Path.{◌≡◌, refl, ap, ◌∙◌}
 use mathlib.Core.List.{List}
 use lib.ListN.{length}
-use borrow.Author.Tests.{eq-eqb, ne_eqb}
+use Rattle.std.specs.Prelude.{Result, Ok, Err}
+use Rattle.std.specs.Result.{result_unwrap_or}
 use Rattle.board.specs.declared.Board.{Board}
-use Rattle.board.specs.declared.calls.EmptyAnswer.{EmptyAnswer}
+use Rattle.board.specs.declared.refusal.Refusal.{Refusal}
+use Rattle.board.specs.Refusals.{refusal_number, refusal_code}
 use Rattle.board.specs.Fields.{fresh_board}
 use Rattle.board.specs.Calls.{fresh_of}
-use Rattle.parking.specs.declared.Writing.{Writing}
-use Rattle.parking.specs.declared.moves.Moved.{Moved}
-use Rattle.parking.specs.Parking.{default_form, writing_of, buffer_after}
-use Rattle.resume.specs.declared.Resumed.{Resumed}
+use Rattle.board.specs.declared.calls.Answered.{Answered}
+use Rattle.board.specs.CodeCalls.{answered, no_members}
+use Rattle.board.proofs.Answers.{some_refusal}
+use Rattle.parking.specs.Parking.{Writing, default_form, writing_of, buffer_after}
+use Rattle.parking.specs.Moves.{Moved}
+use Rattle.parking.specs.declared.Parked.{Parked}
+use Rattle.parking.specs.CodeReads.{writing_said, move_said, reading_said}
 use Rattle.pec.specs.Parked.{fresh_writing, fresh_buffer}
 
--- an answer of which two numbers are told, with what is told between them
-told : {A P : Type 0} (first second : A → ℕ) (r s : A) → r ≡ s → P → (first r ≡ first s) × (P × (second r ≡ second s))
-told first second r s e p = (ap first e, (p, ap second e))
+-- what C is given of a writing is what the rule's record of it says
+pub writing_is : (b : Board) (r : Result ℕ Refusal) →
+    (refusal_code r ≡ (writing_said b r).refusal) × (result_unwrap_or r 0 ≡ (writing_said b r).written)
+writing_is b (Ok n) = (refl, refl)
+writing_is b (Err refusal) = (refl, refl)
 
--- a writing: its refusal, the buffer and the bytes written
-written : {P : Type 0} (r s : Writing) → r ≡ s → P → (r.refusal ≡ s.refusal) × (P × (r.written ≡ s.written))
-written r s e p = told (λ (x : Writing). x.refusal) (λ (x : Writing). x.written) r s e p
+-- and of a move
+pub move_is : (r : Result ℕ Refusal) →
+    (refusal_code r ≡ (move_said r).refusal) × (result_unwrap_or r 0 ≡ (move_said r).written)
+move_is (Ok n) = (refl, refl)
+move_is (Err refusal) = (refl, refl)
+
+-- and of a reading
+pub reading_is : (r : Result Parked Refusal) → refusal_code r ≡ (reading_said r).refusal
+reading_is (Ok parked) = refl
+reading_is (Err refusal) = refl
 
 -- a board that is fresh
-pub parked_fresh : (b : Board) (r : Writing) (old new : List ℕ) → b ≡ fresh_board →
-    r ≡ writing_of default_form b (length old) → new ≡ buffer_after default_form b old →
-    (r.refusal ≡ (writing_of default_form fresh_board (length old)).refusal)
+pub parked_fresh : (b : Board) (r : Result ℕ Refusal) (old new : List ℕ) → b ≡ fresh_board →
+    writing_said b r ≡ writing_of default_form b (length old) → new ≡ buffer_after default_form b old →
+    (refusal_code r ≡ (writing_of default_form fresh_board (length old)).refusal)
     × ((new ≡ buffer_after default_form fresh_board old)
-    × (r.written ≡ (writing_of default_form fresh_board (length old)).written))
+    × (result_unwrap_or r 0 ≡ (writing_of default_form fresh_board (length old)).written))
 parked_fresh b r old new e f g =
-    written r (writing_of default_form fresh_board (length old))
-    (f ∙ ap (λ (x : Board). writing_of default_form x (length old)) e)
-    (g ∙ ap (λ (x : Board). buffer_after default_form x old) e)
+    let whole = f ∙ ap (λ (x : Board). writing_of default_form x (length old)) e in (
+      (writing_is b r).0 ∙ ap (λ (x : Writing). x.refusal) whole,
+      (
+        g ∙ ap (λ (x : Board). buffer_after default_form x old) e,
+        (writing_is b r).1 ∙ ap (λ (x : Writing). x.written) whole,
+      ),
+    )
 
 -- one of a rate, which is refused or not
-module _ (rate : ℕ) (a : EmptyAnswer) (made : a ≡ fresh_of rate) (old : List ℕ) where
-  pub fresh-refused : (a.refusal ≡ 0 → ⊥) →
-      (a.refusal ≡ (fresh_writing rate (length old)).refusal)
+module _ (rate : ℕ) (a : Answered Unit) (made : answered no_members a ≡ fresh_of rate) (old : List ℕ) where
+  pub fresh-refused : (refusal : Refusal) → a.answer ≡ Err refusal →
+      (refusal_number refusal ≡ (fresh_writing rate (length old)).refusal)
       × ((old ≡ fresh_buffer rate old) × (0 ≡ (fresh_writing rate (length old)).written))
   unfolding fresh_writing fresh_buffer
-  fresh-refused n = rw (← made, ne_eqb a.refusal 0 n) (refl, (refl, refl))
+  fresh-refused refusal e = rw (← made, e, some_refusal refusal) (refl, (refl, refl))
 
-  pub fresh-written : a.refusal ≡ 0 → (r : Writing) (new : List ℕ) →
-      r ≡ writing_of default_form a.board (length old) → new ≡ buffer_after default_form a.board old →
-      (r.refusal ≡ (fresh_writing rate (length old)).refusal)
-      × ((new ≡ fresh_buffer rate old) × (r.written ≡ (fresh_writing rate (length old)).written))
+  pub fresh-written : (u : Unit) → a.answer ≡ Ok u → (r : Result ℕ Refusal) (new : List ℕ) →
+      writing_said a.board r ≡ writing_of default_form a.board (length old) →
+      new ≡ buffer_after default_form a.board old →
+      (refusal_code r ≡ (fresh_writing rate (length old)).refusal)
+      × ((new ≡ fresh_buffer rate old) × (result_unwrap_or r 0 ≡ (fresh_writing rate (length old)).written))
   unfolding fresh_writing fresh_buffer
-  fresh-written z r new f g =
-      rw (← made, eq-eqb a.refusal 0 z) (written r (writing_of default_form a.board (length old)) f g)
-
--- a run over a parked board: its refusal, the image, the answers, and its counts
-pub parked_run : {P Q : Type 0} (r s : Resumed) → r ≡ s → P → Q →
-    (r.refusal ≡ s.refusal) × (P × (Q × ((r.calls ≡ s.calls) × ((r.used ≡ s.used)
-    × (r.written ≡ s.written)))))
-parked_run r s e p q = (
-  ap (λ (x : Resumed). x.refusal) e,
-  (
-    p,
-    (
-      q,
-      (
-        ap (λ (x : Resumed). x.calls) e,
-        (ap (λ (x : Resumed). x.used) e, ap (λ (x : Resumed). x.written) e),
-      ),
-    ),
-  ),
-)
-
--- a move, the same
-pub moved : {P : Type 0} (r s : Moved) → r ≡ s → P → (r.refusal ≡ s.refusal) × (P × (r.written ≡ s.written))
-moved r s e p = told (λ (x : Moved). x.refusal) (λ (x : Moved). x.written) r s e p
+  fresh-written u e r new f g =
+      rw (← made, e) (
+        (writing_is a.board r).0 ∙ ap (λ (x : Writing). x.refusal) f,
+        (g, (writing_is a.board r).1 ∙ ap (λ (x : Writing). x.written) f),
+      )

@@ -4,13 +4,15 @@ use mathlib.Core.List.{List}
 use Prim.Native.Nat.{ℕ, suc, ◌+◌, ◌≤◌, ◌<◌}
 use native.Mathlib.Omega.{arith}
 use lib.ListN.{length}
-use borrow.Author.Tests.{eq-eqb, ne_eqb}
+use Rattle.std.specs.Prelude.{Ok, Err}
 use Rattle.board.specs.declared.Board.{Board}
-use Rattle.list.specs.declared.Outcome.{Outcome}
-use Rattle.list.specs.Run.{run_of, over}
-use Rattle.board.specs.declared.calls.EmptyAnswer.{EmptyAnswer}
+use Rattle.board.specs.declared.calls.Answered.{Answered}
+use Rattle.board.specs.declared.refusal.Refusal.{Refusal}
+use Rattle.board.specs.Refusals.{refusal_number}
+use Rattle.board.specs.CodeCalls.{answered, no_members}
+use Rattle.board.proofs.Answers.{some_refusal}
+use Rattle.list.specs.Run.{Outcome, run_of, over, nothing_done}
 use Rattle.board.specs.Calls.{fresh_of}
-use Rattle.list.specs.Run.{nothing_done}
 use Rattle.pec.specs.Repeats.{Held, started_on, ran, repeats, repeats_at}
 
 -- an outcome and a buffer together
@@ -89,17 +91,18 @@ started_same first l times buffer b c r x e h =
 
 -- ---- over a fresh board of a rate
 
-module _ (rate : ℕ) (first l : List ℕ) (times : ℕ) (buffer : List ℕ) (a : EmptyAnswer) (made : a ≡ fresh_of rate) where
+module _ (rate : ℕ) (first l : List ℕ) (times : ℕ) (buffer : List ℕ) (a : Answered Unit)
+    (made : answered no_members a ≡ fresh_of rate) where
   -- refused: nothing is run
-  pub at-refused : (a.refusal ≡ 0 → ⊥) →
-      (nothing_done a.board a.refusal ≡ (repeats_at rate first l times buffer).outcome)
+  pub at-refused : (refusal : Refusal) → a.answer ≡ Err refusal →
+      (nothing_done a.board (refusal_number refusal) ≡ (repeats_at rate first l times buffer).outcome)
       × (buffer ≡ (repeats_at rate first l times buffer).buffer)
   unfolding repeats_at
-  at-refused n = rw (← made, ne_eqb a.refusal 0 n) (refl, refl)
+  at-refused refusal e = rw (← made, e, some_refusal refusal) (refl, refl)
 
-  pub at-run : a.refusal ≡ 0 → (r : Outcome) (x : List ℕ) →
+  pub at-run : (u : Unit) → a.answer ≡ Ok u → (r : Outcome) (x : List ℕ) →
       (r ≡ (repeats times l (ran first (started_on a.board buffer))).outcome)
       × (x ≡ (repeats times l (ran first (started_on a.board buffer))).buffer) →
       (r ≡ (repeats_at rate first l times buffer).outcome) × (x ≡ (repeats_at rate first l times buffer).buffer)
   unfolding repeats_at
-  at-run z r x h = rw (← made, eq-eqb a.refusal 0 z) h
+  at-run u e r x h = rw (← made, e) h

@@ -48,16 +48,16 @@ fn repeated_at(rate: u32, first: &[u8], list: &[u8], times: u64, answers: &mut [
 {
     let fresh = Board::fresh_at(rate);
     let board = fresh.board;
-    if let Err(refusal) = fresh.answer {
-        return Outcome {
+    match fresh.answer {
+        Ok(()) => repeated(board, first, list, times, answers),
+        Err(refusal) => Outcome {
             board,
             calls: 0,
             used: 0,
             written: 0,
             end: Err(refusal),
-        };
+        },
     }
-    repeated(board, first, list, times, answers)
 }
 
 // Gives a run's counts to the caller, and the number of its refusal as the result, 0 for none.
@@ -100,8 +100,12 @@ pub extern "C" fn pec_run(
     ensures written_after { written.new
         ≡ (ran list.now (started answers.old)).outcome.written }
 {
-    let run = list::run(Board::fresh(), list, answers);
-    give(run, calls, used, written)
+    give(
+        list::run(Board::fresh(), list, answers),
+        calls,
+        used,
+        written,
+    )
 }
 
 // Runs a list over a fresh board, and then another list a number of times, each time over the board that the run before
@@ -127,8 +131,12 @@ pub extern "C" fn pec_run_repeated(
     ensures written_after { written.new ≡ (repeats times list.now
         (ran first.now (started answers.old))).outcome.written }
 {
-    let run = repeated(Board::fresh(), first, list, times, answers);
-    give(run, calls, used, written)
+    give(
+        repeated(Board::fresh(), first, list, times, answers),
+        calls,
+        used,
+        written,
+    )
 }
 
 // Runs a list over a fresh board at a rate into a lent buffer, as `pec_run` does over one at 48,000,000. A rate other
@@ -148,8 +156,12 @@ pub extern "C" fn pec_run_at(
     ensures used_after { used.new ≡ (ran_at rate list.now answers.old).outcome.used }
     ensures written_after { written.new ≡ (ran_at rate list.now answers.old).outcome.written }
 {
-    let run = repeated_at(rate, list, list, 0, answers);
-    give(run, calls, used, written)
+    give(
+        repeated_at(rate, list, list, 0, answers),
+        calls,
+        used,
+        written,
+    )
 }
 
 // Runs a list over a fresh board at a rate, and then another list a number of times, as `pec_run_repeated` does over
@@ -176,8 +188,12 @@ pub extern "C" fn pec_run_repeated_at(
     ensures written_after { written.new
         ≡ (repeats_at rate first.now list.now times answers.old).outcome.written }
 {
-    let run = repeated_at(rate, first, list, times, answers);
-    give(run, calls, used, written)
+    give(
+        repeated_at(rate, first, list, times, answers),
+        calls,
+        used,
+        written,
+    )
 }
 
 // Writes the listing of a run's answers and of its end, which `listrun` prints, at the start of a lent buffer, as much
@@ -207,8 +223,7 @@ pub extern "C" fn pec_fresh(image: &mut [u8], written: &mut usize) -> u8
     ensures written_after { written.new
         ≡ (writing_of default_form fresh_board (length image.old)).written }
 {
-    let parked = parking::park(Form::New, Board::fresh(), image);
-    give_written(parked, written)
+    give_written(parking::park(Form::New, Board::fresh(), image), written)
 }
 
 // The same for a fresh board at a rate. A rate that no sound board has is refused with 15, ahead of 11.
@@ -220,11 +235,10 @@ pub extern "C" fn pec_fresh_at(rate: u32, image: &mut [u8], written: &mut usize)
 {
     let fresh = Board::fresh_at(rate);
     let board = fresh.board;
-    let parked = match fresh.answer {
-        Ok(()) => parking::park(Form::New, board, image),
-        Err(refusal) => Err(refusal),
-    };
-    give_written(parked, written)
+    match fresh.answer {
+        Ok(()) => give_written(parking::park(Form::New, board, image), written),
+        Err(refusal) => give_written(Err(refusal), written),
+    }
 }
 
 // Moves an image of the old form to the new, with 48,000,000, at the start of a lent buffer. Gives the bytes written, 0
@@ -236,8 +250,7 @@ pub extern "C" fn pec_move_forward(image: &[u8], moved: &mut [u8], written: &mut
     ensures moved_after { moved.new ≡ moved_buffer New image.now moved.old }
     ensures written_after { written.new ≡ (move_of New image.now (length moved.old)).written }
 {
-    let image = parking::moves::move_image(Form::New, image, moved);
-    give_written(image, written)
+    give_written(parking::moves::move_image(Form::New, image, moved), written)
 }
 
 // Moves an image of the new form back to the old in the same manner. Between 1 and 11 comes 16, where its board has
@@ -248,8 +261,7 @@ pub extern "C" fn pec_move_back(image: &[u8], moved: &mut [u8], written: &mut us
     ensures moved_after { moved.new ≡ moved_buffer Old image.now moved.old }
     ensures written_after { written.new ≡ (move_of Old image.now (length moved.old)).written }
 {
-    let image = parking::moves::move_image(Form::Old, image, moved);
-    give_written(image, written)
+    give_written(parking::moves::move_image(Form::Old, image, moved), written)
 }
 
 // The refusal of reading an image, of either form: 12, 1, or 0 for none.

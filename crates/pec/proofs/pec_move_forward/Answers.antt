@@ -1,10 +1,16 @@
 -- `pec_move_forward` meets its contract. Assumes nothing.
-use Rattle.pec.proofs.Parked.{moved}
+use mathlib.Core.Path.{ap, ◌∙◌}
+use Rattle.parking.specs.Moves.{Moved}
+use Rattle.pec.proofs.Parked.{move_is}
 use Rattle.pec.proofs.pec_move_forward.Goals as goal
 
 pub returns : goal.returns
 returns c =
-    let whole =
-    let done = c.move_image-r.ensures in
-    moved _ _ done.value done.buffer_after in
-    record { value = whole.0; moved_after = whole.1.0; written_after = whole.1.1 }
+    let given = c.give_written.ensures in
+    let done = c.move_image.ensures in
+    let is = move_is c.move_image.result in
+    record {
+      value = given.value ∙ is.0 ∙ ap (λ (x : Moved). x.refusal) done.value;
+      moved_after = done.buffer_after;
+      written_after = given.written_after ∙ is.1 ∙ ap (λ (x : Moved). x.written) done.value;
+    }

@@ -1,4 +1,5 @@
 -- `pec_run_at` meets its contract. Assumes nothing.
+use mathlib.Core.Path.{◌∙◌}
 use Rattle.pec.specs.Repeats.{repeats, ran_at, repeats_at}
 use Rattle.pec.proofs.Runs.{results}
 use Rattle.pec.proofs.pec_run_at.Goals as goal
@@ -6,12 +7,13 @@ use Rattle.pec.proofs.pec_run_at.Goals as goal
 pub returns : goal.returns
 unfolding ran_at repeats_at repeats
 returns c =
+    let given = c.give.ensures in
     let whole =
-    results _ _ _ (c.repeated_at-r.ensures.value, c.repeated_at-r.ensures.answers_after) in
+    results _ _ _ (c.repeated_at.ensures.value, c.repeated_at.ensures.answers_after) in
     record {
-      value = whole.0;
+      value = given.value ∙ whole.0;
       answers_after = whole.1.0;
-      calls_after = whole.1.1.0;
-      used_after = whole.1.1.1.0;
-      written_after = whole.1.1.1.1;
+      calls_after = given.calls_after ∙ whole.1.1.0;
+      used_after = given.used_after ∙ whole.1.1.1.0;
+      written_after = given.written_after ∙ whole.1.1.1.1;
     }

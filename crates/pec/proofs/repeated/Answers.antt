@@ -1,5 +1,6 @@
 -- `repeated` meets its contract. Assumes nothing.
 use mathlib.Core.Path.{refl}
+use Rattle.list.specs.Run.{outcome_of}
 use Rattle.pec.specs.Repeats.{started_on}
 use Rattle.pec.proofs.Runs.{held, ran_of, begun, more, ended}
 use Rattle.pec.proofs.repeated.Goals as goal
@@ -12,7 +13,7 @@ loop-preserved c =
     let i = c.loop in
     more _ _ _ _ _ _ _ i.invariant c.loop-test.true _ _
     c.run-r-in-loop.auto.answers
-    (ran_of _ (held i.r i.answers) _ _ _ refl c.run-r-in-loop.ensures.value
+    (ran_of _ (held (outcome_of i.r) i.answers) _ _ _ refl c.run-r-in-loop.ensures.value
     c.run-r-in-loop.ensures.answers_after)
 
 pub returns : goal.returns
