@@ -40,11 +40,7 @@ impl ChannelNumber {
     pub fn selected(self, timer_enable: u8) -> bool
         ensures { result ≡ bit self.0 timer_enable }
     {
-        let n = self.0;
-        if Self::TIMER_ENABLE_BITS <= n {
-            return false;
-        }
-        (timer_enable >> n) % 2 == 1
+        self.0 < Self::TIMER_ENABLE_BITS && (timer_enable >> self.0) % 2 == 1
     }
 }
 
