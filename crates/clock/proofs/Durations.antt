@@ -27,7 +27,8 @@ before_is a n b m p q = grind (arith, nat_tests)
 -- ---- the signed difference
 
 -- v says whether it is negative, and d is its magnitude
-pub since_is : (v : Bool) (a b : ℕ) (d : Duration) → ltb a b ≡ v → duration_of d ≡ cond v (b - a) (a - b) → d.nanoseconds < nanos_per_second →
+pub since_is : (v : Bool) (a b : ℕ) (d : Duration) → ltb a b ≡ v → duration_of d ≡ cond v (b - a) (a - b) →
+    d.nanoseconds < nanos_per_second →
     ◌≡◌ {A = Offset} (record { negative = v; seconds = d.seconds; nanoseconds = d.nanoseconds })
     (signed_difference a b)
 unfolding signed_difference

@@ -72,7 +72,7 @@ pub fn put(buf: &mut [u8], at: usize, value: u64, width: usize)
 }
 
 // The value with its byte that has n bytes below it replaced.
-#[tactic(auto, using(crate::proofs::BigEndian::unit_pos, crate::proofs::BigEndian::stored_fits), unfolding(crate::specs::Fields::with_byte))]
+#[tactic(auto, using(crate::proofs::BigEndian::with_byte_laws), unfolding(crate::specs::Fields::with_byte))]
 pub fn with_byte(value: u64, n: usize, byte: u8) -> u64
     requires { n < 8 }
     ensures { result ≡ with_byte n byte value }
