@@ -7,8 +7,7 @@ ghost use Rattle.wide.specs.Fields.{be_at};
 ghost use Rattle.list.specs.Run.{run_of, over};
 ghost use Rattle.recording.specs.Record.{start_of, results_of, header_at, Fits, Agrees};
 
-use board::Board;
-use board::refusal;
+use board::{Board, refusal};
 use listing::first_record;
 use wide::fields::get;
 
