@@ -80,23 +80,18 @@ impl Board {
 
     // ---- what a call computes of a sound board
 
-    fn advanced(self, cycles: Cycles) -> Moved
+    fn advanced(mut self, cycles: Cycles) -> Moved
         requires { sound self ≡ true }
         ensures { (result.board ≡ advanced_board cycles.0 self)
             × (result.matches ≡ matches_given self.timer_enable cycles.0 self.timers) }
     {
-        let mut b = self;
-        let timers = b.timers;
-        let timer_enable = b.timer_enable;
-        let moved = advance_all(timers, timer_enable, cycles);
-        let after = moved.timers;
-        b.timers = after;
-        let clock = b.clock;
-        let later = clock.advance(cycles);
-        b.clock = later;
+        let moved = advance_all(self.timers, self.timer_enable, cycles);
+        let timers = moved.timers;
         let matches = moved.matches;
+        self.timers = timers;
+        self.clock = self.clock.advance(cycles);
         Moved {
-            board: b.wired(),
+            board: self.wired(),
             matches,
         }
     }
@@ -121,8 +116,7 @@ impl Board {
         requires { sound self ≡ true }
         ensures { result ≡ length_given (skip_length self) }
     {
-        let controller = self.controller;
-        if controller::level_of(controller, Self::LINE_SOURCE) {
+        if controller::level_of(self.controller, Self::LINE_SOURCE) {
             return Ok(None);
         }
         let Some(exact) = self.exact_deadline() else {
@@ -157,10 +151,8 @@ impl Board {
                 answer: Err(refusal),
             };
         }
-        let clock = self.clock;
-        let board = self.with_clock(clock.with_host(host)).wired();
         Answered {
-            board,
+            board: self.with_clock(self.clock.with_host(host)).wired(),
             answer: Ok(()),
         }
     }
@@ -176,8 +168,8 @@ impl Board {
         }
         let moved = self.advanced(cycles);
         let board = moved.board;
-        let matches = moved.matches;
         let line = board.line();
+        let matches = moved.matches;
         Answered {
             board,
             answer: Ok(Advance { line, matches }),
@@ -215,22 +207,20 @@ impl Board {
         }
         match self.skip_length() {
             Ok(Some(passed)) => {
-                let moved = self.advanced(passed);
-                let board = moved.board;
+                let board = self.advanced(passed).board;
                 let line = board.line();
                 Answered {
                     board,
                     answer: Ok(Skip { passed, line }),
                 }
             }
-            Ok(None) => {
-                let passed = Cycles(0);
-                let line = self.line();
-                Answered {
-                    board: self,
-                    answer: Ok(Skip { passed, line }),
-                }
-            }
+            Ok(None) => Answered {
+                board: self,
+                answer: Ok(Skip {
+                    passed: Cycles(0),
+                    line: self.line(),
+                }),
+            },
             Err(refusal) => Answered {
                 board: self,
                 answer: Err(refusal),
@@ -247,11 +237,9 @@ impl Board {
                 answer: Err(refusal),
             };
         }
-        let controller = self.controller;
-        let set = controller::with_source(controller, number, level == 1);
-        let board = self.with_controller(set).wired();
+        let set = controller::with_source(self.controller, number, level == 1);
         Answered {
-            board,
+            board: self.with_controller(set).wired(),
             answer: Ok(()),
         }
     }
@@ -265,10 +253,9 @@ impl Board {
                 answer: Err(refusal),
             };
         }
-        let controller = self.controller;
         Answered {
             board: self,
-            answer: Ok(controller::read_of(controller, address)),
+            answer: Ok(controller::read_of(self.controller, address)),
         }
     }
 
@@ -281,11 +268,9 @@ impl Board {
                 answer: Err(refusal),
             };
         }
-        let controller = self.controller;
-        let set = controller::written(controller, address, value);
-        let board = self.with_controller(set).wired();
+        let set = controller::written(self.controller, address, value);
         Answered {
-            board,
+            board: self.with_controller(set).wired(),
             answer: Ok(()),
         }
     }
@@ -299,10 +284,9 @@ impl Board {
                 answer: Err(refusal),
             };
         }
-        let controller = self.controller;
         Answered {
             board: self,
-            answer: Ok(controller::output_of(controller)),
+            answer: Ok(controller::output_of(self.controller)),
         }
     }
 }

@@ -85,23 +85,16 @@ impl Board {
     fn fresh_with(rate: u32) -> Self
         ensures { result ≡ fresh_board_at rate }
     {
-        let t = HardwareTimer::fresh();
-        let timers = [t; 4];
-        let l = CountLatch { high: None };
-        let counts = [l; 4];
-        let latches = Latches {
-            counts,
-            low: None,
-            high: None,
-        };
-        let clock = Clock::fresh_at(rate);
-        let controller = IrqController::new();
         Board {
-            timers,
+            timers: [HardwareTimer::fresh(); Self::CHANNELS],
             timer_enable: 0,
-            clock,
-            latches,
-            controller,
+            clock: Clock::fresh_at(rate),
+            latches: Latches {
+                counts: [CountLatch { high: None }; Self::CHANNELS],
+                low: None,
+                high: None,
+            },
+            controller: IrqController::new(),
         }
     }
 }

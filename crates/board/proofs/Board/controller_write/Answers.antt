@@ -12,7 +12,7 @@ pub returns : goal.returns
 returns c = let a = c.args in
     rw (
       answer-accepted (ControllerWrite a.value a.address) a.self (sym c.in_default.ensures.refused),
-      c.wired-board.ensures,
+      c.wired.ensures,
       c.with_controller.ensures,
       c.written-set.ensures,
     )

@@ -14,7 +14,7 @@ returns c = let a = c.args in
     let z = refused_and a.self _ _ _ _ c.check_sound.ensures.refused c.check_host_time.ensures c.in_default.ensures in
     rw (
       answer-accepted (host_time_to a.host) a.self (sym z),
-      c.wired-board.ensures,
+      c.wired.ensures,
       c.with_clock.ensures,
       c.with_host.ensures,
     )

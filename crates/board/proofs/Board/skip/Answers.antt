@@ -23,8 +23,8 @@ returns-in-Err c = let b = c.args.self in
 pub skip_length-requires : goal.skip_length-requires
 skip_length-requires c = accepted_sound c.args.self 0 (sym c.in_default.ensures.refused)
 
-pub advanced-moved-requires : goal.advanced-moved-requires
-advanced-moved-requires c = accepted_sound c.args.self 0 (sym c.in_default.ensures.refused)
+pub advanced-requires : goal.advanced-requires
+advanced-requires c = accepted_sound c.args.self 0 (sym c.in_default.ensures.refused)
 
 pub returns-in-Ok-Some-clause-value : goal.returns-in-Ok-Some-clause-value
 unfolding advanced_board
@@ -36,7 +36,7 @@ returns-in-Ok-Some-clause-value c = let b = c.args.self in
       answer-accepted Skip b (rw s (sym (length-refused _ (skip_length b) k))),
       length-made _ (skip_length b) k refl,
       c.line-line.ensures,
-      c.advanced-moved.ensures.0,
+      c.advanced.ensures.0,
       wired_line (moved_board n b),
     )
 
@@ -51,7 +51,7 @@ returns-in-Ok-None-clause-value c = let b = c.args.self in
     rw (
       answer-accepted Skip b (rw s (sym (length-refused _ (skip_length b) k))),
       length-made _ (skip_length b) k refl,
-      c.line-line-in-Ok-None.ensures,
+      c.line.ensures,
       wired_sound b s,
     )
 

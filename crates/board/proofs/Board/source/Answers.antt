@@ -14,7 +14,7 @@ returns c = let a = c.args in
     let z = refused_and a.self _ _ _ _ c.check_sound.ensures.refused c.check_source.ensures c.in_default.ensures in
     rw (
       answer-accepted (Source a.number.0 a.level) a.self (sym z),
-      c.wired-board.ensures,
+      c.wired.ensures,
       c.with_controller.ensures,
       c.with_source-set.ensures,
     )
