@@ -20,12 +20,6 @@ at_most_is a b =
 pub by_one : (n p c : ℕ) → n ≡ 0 → 0 ≡ (p + c) % (n + 1)
 by_one n p c e = rw e (sym (mod-one (p + c)))
 
--- and with phase p = 0 each of c cycles is a tick
-pub each_is : (n p c : ℕ) → n ≡ 0 → p ≤ n → c ≡ (p + c) / (n + 1)
-each_is n p c e h =
-    let z : p ≡ 0 = omega arith in
-    rw (e, z, zero-add c) (sym (div-one c))
-
 -- v is the divisor, p the phase and c the cycles
 module _ (v p c : ℕ) where
   -- fewer cycles than to the first tick
@@ -44,9 +38,6 @@ module _ (v p c : ℕ) where
 
   pub later-fits : p < v → v - p ≤ c → c < 2 ^ 64 → (c - (v - p)) / v + 1 < 2 ^ 64
   later-fits h k f = omega (arith, div-le_self (c - (v - p)) v)
-
-  pub rest-fits : p < v → v ≤ 2 ^ 32 → (c - (v - p)) % v < 2 ^ 32
-  rest-fits h f = lt_of_lt_of_le (mod-lt (c - (v - p)) (omega arith)) f
 
   -- the cycles of c ticks and one more are at most 2^96
   pub cycles-fit : v ≤ 2 ^ 32 → c < 2 ^ 64 → v - p + c * v < 2 ^ 128

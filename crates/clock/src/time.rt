@@ -11,7 +11,7 @@ use crate::{Clock, HostTime, Offset, from_host};
 use wide::number::Wide;
 
 // A length of time.
-#[derive(Clone, Copy)]
+#[derive(Clone, Copy, PartialEq, Eq, PartialOrd, Ord)]
 pub struct Duration {
     pub seconds: u64,
     pub nanoseconds: u32,
@@ -25,18 +25,6 @@ pub struct Time {
 }
 
 impl Duration {
-    fn before(self, other: Duration) -> bool
-        requires { (self.nanoseconds < nanos_per_second) × (other.nanoseconds < nanos_per_second) }
-        ensures { result ≡ ltb (duration_of self) (duration_of other) }
-    {
-        let s = self.seconds;
-        let t = other.seconds;
-        if s == t {
-            return self.nanoseconds < other.nanoseconds;
-        }
-        s < t
-    }
-
     // The difference, or 0 where it is negative.
     fn minus(self, other: Duration) -> Self
         requires { (self.nanoseconds < nanos_per_second) × (other.nanoseconds < nanos_per_second) }
@@ -46,7 +34,7 @@ impl Duration {
         let n = self.nanoseconds;
         let t = other.seconds;
         let m = other.nanoseconds;
-        if self.before(other) {
+        if self < other {
             return Duration {
                 seconds: 0,
                 nanoseconds: 0,
@@ -82,20 +70,17 @@ impl Duration {
         requires { (self.nanoseconds < nanos_per_second) × (host.nanoseconds < nanos_per_second) }
         ensures { result ≡ signed_difference (duration_of self) (host_nanoseconds host) }
     {
-        let other = host.duration();
-        if self.before(other) {
-            let d = other.minus(self);
-            return Offset {
-                negative: true,
-                seconds: d.seconds,
-                nanoseconds: d.nanoseconds,
-            };
-        }
-        let d = self.minus(other);
+        let other = Duration::from(host);
+        let negative = self < other;
+        let by = if negative {
+            other.minus(self)
+        } else {
+            self.minus(other)
+        };
         Offset {
-            negative: false,
-            seconds: d.seconds,
-            nanoseconds: d.nanoseconds,
+            negative,
+            seconds: by.seconds,
+            nanoseconds: by.nanoseconds,
         }
     }
 
@@ -110,22 +95,25 @@ impl Duration {
     }
 }
 
-impl HostTime {
-    fn duration(self) -> Duration
-        ensures { (result.seconds ≡ self.seconds) × (result.nanoseconds ≡ self.nanoseconds) }
-    {
+impl From<HostTime> for Duration {
+    ghost from_gives = { λ h r. (r.seconds ≡ h.seconds) × (r.nanoseconds ≡ h.nanoseconds) };
+
+    fn from(host: HostTime) -> Duration {
         Duration {
-            seconds: self.seconds,
-            nanoseconds: self.nanoseconds,
+            seconds: host.seconds,
+            nanoseconds: host.nanoseconds,
         }
     }
+}
 
+impl HostTime {
     // Host time plus the offset, but never below 0.
+    #[tactic(auto, unfolding(crate::specs::Clock::shifted))]
     fn shifted(self, offset: Offset) -> Time
         requires { (self.nanoseconds < nanos_per_second) × (offset.nanoseconds < nanos_per_second) }
         ensures { TimeIs (shifted self offset) result }
     {
-        let host = self.duration();
+        let host = Duration::from(self);
         let by = Duration {
             seconds: offset.seconds,
             nanoseconds: offset.nanoseconds,
@@ -139,6 +127,7 @@ impl HostTime {
 
 impl Clock {
     // The clock's own time, from seconds and subsecond.
+    #[tactic(auto, unfolding(crate::specs::Clock::own_nanoseconds))]
     pub(crate) fn own_duration(self) -> Duration
         requires { Timed (rate_of self) self }
         ensures { DurationIs (own_nanoseconds (rate_of self) self) result }
@@ -151,6 +140,7 @@ impl Clock {
         }
     }
 
+    #[tactic(auto, unfolding(crate::specs::Clock::time_of))]
     pub(crate) fn time(self) -> Time
         requires { Timed (rate_of self) self }
         ensures { TimeIs (time_of (rate_of self) self) result }
@@ -161,6 +151,7 @@ impl Clock {
         self.own_duration().time()
     }
 
+    #[tactic(auto, unfolding(crate::specs::Clock::time_seconds))]
     pub fn time_seconds(self) -> u64
         requires { Timed (rate_of self) self }
         ensures { result ≡ time_seconds (rate_of self) self }
@@ -168,6 +159,7 @@ impl Clock {
         self.time().seconds.capped()
     }
 
+    #[tactic(auto, unfolding(crate::specs::Registers::time_nanoseconds))]
     pub fn time_nanoseconds(self) -> u32
         requires { Timed (rate_of self) self }
         ensures { result ≡ time_nanoseconds (rate_of self) self }

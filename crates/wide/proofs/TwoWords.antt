@@ -5,7 +5,8 @@ use Rattle.std.proofs.Common.{mul-le-mul_right, zero-add, zero-mul, arith, ltb-f
 use Rattle.std.proofs.lemmas.Bool.Decides.{nat_tests}
 use Rattle.std.specs.declared.option.Option.{Option}
 use Rattle.std.specs.declared.option.Option.TheVariants.{Some}
-use Rattle.std.specs.Ordering.{partial_ordering_then, partial_le, is_some_and, nat_cmp, ordering_then, ord_min, is_le, is_lt}
+use Rattle.std.specs.Ordering.{partial_ordering_then, partial_le, is_some_and, nat_cmp, ordering_then, ord_min, is_le}
+use Rattle.std.specs.Ordering.{is_lt}
 use Rattle.std.specs.declared.cmp.Ordering.{Ordering}
 use Rattle.wide.specs.declared.number.Wide.{Wide}
 use Rattle.wide.specs.Number.{value_of, largest}
