@@ -17,15 +17,13 @@ pub mod reads;
 pub mod writes;
 
 // The board with a reading's latches and flags.
-fn after_reading(board: Board, reading: LatchedReading) -> Board
+fn after_reading(mut board: Board, reading: LatchedReading) -> Board
     ensures { result ≡ after_reading reading board }
 {
-    let latches = reading.latches;
-    let mut after = board.with_latches(latches);
-    let plain = reading.plain;
-    after.clock.alarm.pending = plain.pending;
-    after.clock.alarm.armed = plain.armed;
-    after
+    board.latches = reading.latches;
+    board.clock.alarm.pending = reading.plain.pending;
+    board.clock.alarm.armed = reading.plain.armed;
+    board
 }
 
 // The byte read at an address. It is refused for a board that is not sound, then for an address from 0x380 on.

@@ -80,16 +80,13 @@ pub(crate) fn written_at(board: Board, offset: u32, value: u8) -> Board
     requires { Timed (rate_of board.clock) board.clock }
     ensures { result ≡ written_at offset value board }
 {
-    let timers = board.timers;
-    let clock = board.clock;
-    let part = part_at(offset);
-    match part {
+    match part_at(offset) {
         WritePart::Nothing => board,
         WritePart::Enable => {
             board.with_timer_enable(enable_after(board.timer_enable, offset, value))
         }
-        WritePart::Acknowledge => board.with_timers(acknowledged(timers, value)),
-        WritePart::Clock => board.with_clock(clock_after(clock, offset, value)),
+        WritePart::Acknowledge => board.with_timers(acknowledged(board.timers, value)),
+        WritePart::Clock => board.with_clock(clock_after(board.clock, offset, value)),
         WritePart::Channel => {
             let number = channel_of(offset);
             let timer = channel_at(board, number);
