@@ -48,7 +48,7 @@ impl Board {
         requires { number.0 < 4 }
         ensures { result ≡ with_channel number.0 timer self }
     {
-        self.timers[number.0 as usize] = timer;
+        self.timers[usize::from(number.0)] = timer;
         self
     }
 }

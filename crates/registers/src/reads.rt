@@ -48,7 +48,7 @@ pub fn channel_index(offset: u32) -> usize
     ensures { (result ≡ channel_index offset) × (result < 4) }
 {
     if in_channels(offset) {
-        return channel_of(offset).0 as usize;
+        return usize::from(channel_of(offset).0);
     }
     0
 }

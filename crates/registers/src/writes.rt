@@ -55,8 +55,8 @@ pub fn enable_after(timer_enable: u8, offset: u32, value: u8) -> u8
     ensures { result ≡ merge_byte (byte_of offset) value timer_enable % 16 }
 {
     let byte = (offset % 4) as usize;
-    let merged = wide::fields::with_byte(timer_enable as u64, 3 - byte, value);
-    (merged % Board::TIMER_ENABLE_VALUES as u64) as u8
+    let merged = wide::fields::with_byte(u64::from(timer_enable), 3 - byte, value);
+    (merged % u64::from(Board::TIMER_ENABLE_VALUES)) as u8
 }
 
 pub fn clock_after(clock: Clock, offset: u32, value: u8) -> Clock

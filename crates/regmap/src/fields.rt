@@ -38,5 +38,5 @@ pub fn channel_at(board: Board, number: ChannelNumber) -> HardwareTimer
     requires { number.0 < 4 }
     ensures { result ≡ channel_at number.0 board }
 {
-    board.timers[number.0 as usize]
+    board.timers[usize::from(number.0)]
 }
