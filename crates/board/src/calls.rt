@@ -1,6 +1,6 @@
 // The calls, and the direct calls except read and write. Each direct call tests soundness first, then its own refusal.
 // A refused call returns the board given.
-ghost use Rattle.std.specs.Prelude.{◌≡◌, true};
+ghost use Rattle.std.specs.Prelude.{◌≡◌, true, Err};
 ghost use Rattle.board.specs.Board.{BoardFits, sound, exact_deadline};
 ghost use Rattle.board.specs.Calls.{refusal_of, answer_of, flag_at, member_at, advance_by, host_time_to};
 ghost use Rattle.board.specs.Calls.{host_time_refusal, address_refusal, advanced_board, skip_length, source_refusal};
@@ -142,14 +142,21 @@ impl Board {
         Err(Refusal::NotSound)
     }
 
+    // The answer of a call that is refused on this board.
+    pub fn refused<T>(self, refusal: Refusal) -> Answered<T>
+        ensures { result ≡ record { board = self; answer = Err refusal } }
+    {
+        Answered {
+            board: self,
+            answer: Err(refusal),
+        }
+    }
+
     pub fn host_time(self, host: HostTime) -> Answered<()>
         ensures { answered no_members result ≡ answer_of (host_time_to host) self }
     {
         if let Err(refusal) = self.check_sound().and(check_host_time(host)) {
-            return Answered {
-                board: self,
-                answer: Err(refusal),
-            };
+            return self.refused(refusal);
         }
         Answered {
             board: self.with_clock(self.clock.with_host(host)).wired(),
@@ -161,10 +168,7 @@ impl Board {
         ensures { answered advance_members result ≡ answer_of (advance_by cycles.0) self }
     {
         if let Err(refusal) = self.check_sound() {
-            return Answered {
-                board: self,
-                answer: Err(refusal),
-            };
+            return self.refused(refusal);
         }
         let moved = self.advanced(cycles);
         let board = moved.board;
@@ -183,10 +187,7 @@ impl Board {
             (member_at 2 (answered deadline_members result)) }
     {
         if let Err(refusal) = self.check_sound() {
-            return Answered {
-                board: self,
-                answer: Err(refusal),
-            };
+            return self.refused(refusal);
         }
         Answered {
             board: self,
@@ -200,10 +201,7 @@ impl Board {
         ensures skip_promise { SkipPromise self (answered skip_members result) }
     {
         if let Err(refusal) = self.check_sound() {
-            return Answered {
-                board: self,
-                answer: Err(refusal),
-            };
+            return self.refused(refusal);
         }
         match self.skip_length() {
             Ok(Some(passed)) => {
@@ -221,10 +219,7 @@ impl Board {
                     line: self.line(),
                 }),
             },
-            Err(refusal) => Answered {
-                board: self,
-                answer: Err(refusal),
-            },
+            Err(refusal) => self.refused(refusal),
         }
     }
 
@@ -232,10 +227,7 @@ impl Board {
         ensures { answered no_members result ≡ answer_of (Call.Source number.0 level) self }
     {
         if let Err(refusal) = self.check_sound().and(check_source(number, level)) {
-            return Answered {
-                board: self,
-                answer: Err(refusal),
-            };
+            return self.refused(refusal);
         }
         let set = controller::with_source(self.controller, number, level == 1);
         Answered {
@@ -248,10 +240,7 @@ impl Board {
         ensures { answered byte_members result ≡ answer_of (Call.ControllerRead address) self }
     {
         if let Err(refusal) = self.check_sound() {
-            return Answered {
-                board: self,
-                answer: Err(refusal),
-            };
+            return self.refused(refusal);
         }
         Answered {
             board: self,
@@ -263,10 +252,7 @@ impl Board {
         ensures { answered no_members result ≡ answer_of (Call.ControllerWrite value address) self }
     {
         if let Err(refusal) = self.check_sound() {
-            return Answered {
-                board: self,
-                answer: Err(refusal),
-            };
+            return self.refused(refusal);
         }
         let set = controller::written(self.controller, address, value);
         Answered {
@@ -279,10 +265,7 @@ impl Board {
         ensures { answered output_members result ≡ answer_of Call.Output self }
     {
         if let Err(refusal) = self.check_sound() {
-            return Answered {
-                board: self,
-                answer: Err(refusal),
-            };
+            return self.refused(refusal);
         }
         Answered {
             board: self,

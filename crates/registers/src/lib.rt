@@ -31,10 +31,7 @@ pub fn read(board: Board, address: u16) -> Answered<u8>
     ensures { answered byte_members result ≡ answer_of (Call.Read address) board }
 {
     if let Err(refusal) = board.check_sound().and(check_address(address)) {
-        return Answered {
-            board,
-            answer: Err(refusal),
-        };
+        return board.refused(refusal);
     }
     let offset = u32::from(address) + Registers::BASE;
     let timer = board.timers[channel_index(offset)];
@@ -50,10 +47,7 @@ pub fn write(board: Board, address: u16, value: u8) -> Answered<()>
     ensures { answered no_members result ≡ answer_of (Call.Write value address) board }
 {
     if let Err(refusal) = board.check_sound().and(check_address(address)) {
-        return Answered {
-            board,
-            answer: Err(refusal),
-        };
+        return board.refused(refusal);
     }
     Answered {
         board: written_at(board, u32::from(address) + Registers::BASE, value).wired(),

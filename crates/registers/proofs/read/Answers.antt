@@ -10,8 +10,9 @@ use Rattle.registers.proofs.read.Goals as goal
 
 pub returns-in-Err : goal.returns-in-Err
 returns-in-Err c = let a = c.args in
-    answer-refused (Read a.address) a.board c.in-Err.refusal
-    (refused_and a.board _ _ _ _ c.check_sound.ensures.refused c.check_address.ensures c.in-Err.ensures)
+    rw c.refused.ensures
+    (answer-refused (Read a.address) a.board c.in-Err.refusal
+    (refused_and a.board _ _ _ _ c.check_sound.ensures.refused c.check_address.ensures c.in-Err.ensures))
 
 pub reading_at-reading-requires : goal.reading_at-reading-requires
 reading_at-reading-requires c = let b = c.args.board in

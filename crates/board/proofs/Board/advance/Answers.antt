@@ -9,7 +9,8 @@ use Rattle.board.proofs.Board.advance.Goals as goal
 
 pub returns-in-Err : goal.returns-in-Err
 returns-in-Err c =
-    answer-refused (advance_by c.args.cycles.0) c.args.self c.in-Err.refusal c.in-Err.ensures.refused
+    rw c.refused.ensures
+    (answer-refused (advance_by c.args.cycles.0) c.args.self c.in-Err.refusal c.in-Err.ensures.refused)
 
 pub advanced-moved-requires : goal.advanced-moved-requires
 advanced-moved-requires c = accepted_sound c.args.self 0 (sym c.in_default.ensures.refused)

@@ -7,7 +7,8 @@ use Rattle.board.proofs.Board.controller_read.Goals as goal
 
 pub returns-in-Err : goal.returns-in-Err
 returns-in-Err c =
-    answer-refused (ControllerRead c.args.address) c.args.self c.in-Err.refusal c.in-Err.ensures.refused
+    rw c.refused.ensures
+    (answer-refused (ControllerRead c.args.address) c.args.self c.in-Err.refusal c.in-Err.ensures.refused)
 
 pub returns : goal.returns
 returns c = let a = c.args in

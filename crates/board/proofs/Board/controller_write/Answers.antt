@@ -6,7 +6,8 @@ use Rattle.board.proofs.Board.controller_write.Goals as goal
 
 pub returns-in-Err : goal.returns-in-Err
 returns-in-Err c = let a = c.args in
-    answer-refused (ControllerWrite a.value a.address) a.self c.in-Err.refusal c.in-Err.ensures.refused
+    rw c.refused.ensures
+    (answer-refused (ControllerWrite a.value a.address) a.self c.in-Err.refusal c.in-Err.ensures.refused)
 
 pub returns : goal.returns
 returns c = let a = c.args in

@@ -6,7 +6,8 @@ use Rattle.board.proofs.Answers.{answer-refused, answer-accepted, accepted_sound
 use Rattle.board.proofs.Board.output.Goals as goal
 
 pub returns-in-Err : goal.returns-in-Err
-returns-in-Err c = answer-refused Output c.args.self c.in-Err.refusal c.in-Err.ensures.refused
+returns-in-Err c = rw c.refused.ensures
+    (answer-refused Output c.args.self c.in-Err.refusal c.in-Err.ensures.refused)
 
 pub returns : goal.returns
 returns c = let b = c.args.self in

@@ -6,8 +6,9 @@ use Rattle.board.proofs.Board.source.Goals as goal
 
 pub returns-in-Err : goal.returns-in-Err
 returns-in-Err c = let a = c.args in
-    answer-refused (Source a.number.0 a.level) a.self c.in-Err.refusal
-    (refused_and a.self _ _ _ _ c.check_sound.ensures.refused c.check_source.ensures c.in-Err.ensures)
+    rw c.refused.ensures
+    (answer-refused (Source a.number.0 a.level) a.self c.in-Err.refusal
+    (refused_and a.self _ _ _ _ c.check_sound.ensures.refused c.check_source.ensures c.in-Err.ensures))
 
 pub returns : goal.returns
 returns c = let a = c.args in
