@@ -52,7 +52,8 @@ use Rattle.board.specs.Calls.{
   member_at,
   flag_at,
 }
-use Rattle.board.specs.CodeCalls.{deadline_members, deadline_given, length_given}
+use Rattle.board.specs.Answers.{deadline_members}
+use Rattle.board.specs.CodeCalls.{deadline_given, length_given}
 use Rattle.board.specs.Demand.{Promise}
 use Rattle.board.proofs.Demand3.{demand_3}
 

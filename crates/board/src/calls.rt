@@ -4,8 +4,9 @@ ghost use Rattle.std.specs.Prelude.{◌≡◌, true, Err};
 ghost use Rattle.board.specs.Board.{BoardFits, sound, exact_deadline};
 ghost use Rattle.board.specs.Calls.{refusal_of, answer_of, flag_at, member_at, advance_by, host_time_to};
 ghost use Rattle.board.specs.Calls.{host_time_refusal, address_refusal, advanced_board, skip_length, source_refusal};
-ghost use Rattle.board.specs.CodeCalls.{answered, no_members, byte_members, advance_members, deadline_members};
-ghost use Rattle.board.specs.CodeCalls.{skip_members, output_members, deadline_given, length_given, matches_given};
+ghost use Rattle.board.specs.Answers.{answered, no_members, byte_members, advance_members, deadline_members};
+ghost use Rattle.board.specs.Answers.{skip_members, output_members};
+ghost use Rattle.board.specs.CodeCalls.{deadline_given, length_given, matches_given};
 ghost use Rattle.board.specs.Demand.{Promise, SkipPromise};
 ghost use Rattle.board.specs.Refusals.{refusal_code};
 

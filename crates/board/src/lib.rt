@@ -4,7 +4,7 @@
 ghost use Rattle.std.specs.Prelude.{◌≡◌};
 ghost use Rattle.board.specs.Fields.{fresh_board_at, fresh_board};
 ghost use Rattle.board.specs.Calls.{fresh_of};
-ghost use Rattle.board.specs.CodeCalls.{answered, no_members};
+ghost use Rattle.board.specs.Answers.{answered, no_members};
 
 use crate::calls::Answered;
 use crate::refusal::Refusal;

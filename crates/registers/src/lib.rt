@@ -4,7 +4,7 @@
 
 ghost use Rattle.std.specs.Prelude.{◌≡◌};
 ghost use Rattle.board.specs.Calls.{answer_of};
-ghost use Rattle.board.specs.CodeCalls.{answered, no_members, byte_members};
+ghost use Rattle.board.specs.Answers.{answered, no_members, byte_members};
 ghost use Rattle.registers.specs.CodeReads.{after_reading};
 
 use crate::reads::{LatchedReading, channel_index, reading_at};
@@ -17,13 +17,14 @@ pub mod reads;
 pub mod writes;
 
 // The board with a reading's latches and flags.
-fn after_reading(mut board: Board, reading: LatchedReading) -> Board
+fn after_reading(board: Board, reading: LatchedReading) -> Board
     ensures { result ≡ after_reading reading board }
 {
-    board.latches = reading.latches;
-    board.clock.alarm.pending = reading.plain.pending;
-    board.clock.alarm.armed = reading.plain.armed;
-    board
+    let latches = reading.latches;
+    let mut after = board.with_latches(latches);
+    after.clock.alarm.pending = reading.plain.pending;
+    after.clock.alarm.armed = reading.plain.armed;
+    after
 }
 
 // The byte read at an address. It is refused for a board that is not sound, then for an address from 0x380 on.
