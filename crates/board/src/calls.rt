@@ -153,6 +153,7 @@ impl Board {
         }
     }
 
+    #[tactic(auto, using(crate::proofs::Answers::answer_laws))]
     pub fn host_time(self, host: HostTime) -> Answered<()>
         ensures { answered no_members result ≡ answer_of (host_time_to host) self }
     {
@@ -165,6 +166,11 @@ impl Board {
         }
     }
 
+    #[tactic(
+        auto,
+        using(crate::proofs::Answers::answer_laws, crate::proofs::Answers::advance_laws),
+        unfolding(crate::specs::Calls::advanced_board)
+    )]
     pub fn advance(self, cycles: Cycles) -> Answered<Advance>
         ensures { answered advance_members result ≡ answer_of (advance_by cycles.0) self }
     {
@@ -224,6 +230,7 @@ impl Board {
         }
     }
 
+    #[tactic(auto, using(crate::proofs::Answers::answer_laws))]
     pub fn source(self, number: SourceNumber, level: u8) -> Answered<()>
         ensures { answered no_members result ≡ answer_of (Call.Source number.0 level) self }
     {
@@ -237,6 +244,7 @@ impl Board {
         }
     }
 
+    #[tactic(auto, using(crate::proofs::Answers::answer_laws))]
     pub fn controller_read(self, address: u32) -> Answered<u8>
         ensures { answered byte_members result ≡ answer_of (Call.ControllerRead address) self }
     {
@@ -249,6 +257,7 @@ impl Board {
         }
     }
 
+    #[tactic(auto, using(crate::proofs::Answers::answer_laws))]
     pub fn controller_write(self, address: u32, value: u8) -> Answered<()>
         ensures { answered no_members result ≡ answer_of (Call.ControllerWrite value address) self }
     {
@@ -262,6 +271,7 @@ impl Board {
         }
     }
 
+    #[tactic(auto, using(crate::proofs::Answers::answer_laws))]
     pub fn output(self) -> Answered<IrqOutput>
         ensures { answered output_members result ≡ answer_of Call.Output self }
     {
