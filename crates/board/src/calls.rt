@@ -98,6 +98,7 @@ impl Board {
     }
 
     // The members of the deadline's answer, or none without a deadline.
+    #[tactic(auto, using(wide::proofs::Forms::value_wide))]
     pub fn deadline_members(self) -> Option<DeadlineGiven>
         requires { sound self ≡ true }
         ensures { result ≡ deadline_given (exact_deadline self) }
@@ -113,6 +114,7 @@ impl Board {
 
     // The cycles of a skip's advance: those of the deadline, or none with the line high or no deadline. A deadline
     // above the largest word is refused. On a sound board the level of source 3 is the line.
+    #[tactic(auto, using(crate::proofs::Soundness::sound_line, wide::proofs::TwoWords::at_most_is))]
     pub fn skip_length(self) -> Result<Option<Cycles>, Refusal>
         requires { sound self ≡ true }
         ensures { result ≡ length_given (skip_length self) }
@@ -166,11 +168,7 @@ impl Board {
         }
     }
 
-    #[tactic(
-        auto,
-        using(crate::proofs::Answers::answer_laws, crate::proofs::Answers::advance_laws),
-        unfolding(crate::specs::Calls::advanced_board)
-    )]
+    #[tactic(auto, using(crate::proofs::Answers::answer_laws, crate::proofs::Answers::advance_laws), unfolding(crate::specs::Calls::advanced_board))]
     pub fn advance(self, cycles: Cycles) -> Answered<Advance>
         ensures { answered advance_members result ≡ answer_of (advance_by cycles.0) self }
     {

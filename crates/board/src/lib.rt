@@ -66,6 +66,7 @@ impl Board {
     }
 
     // A fresh board at a rate. A rate that no sound board has is refused, and the board is then that of `fresh`.
+    #[tactic(auto, unfolding(crate::specs::Calls::fresh_of))]
     pub fn fresh_at(rate: u32) -> Answered<()>
         ensures { answered no_members result ≡ fresh_of rate }
     {

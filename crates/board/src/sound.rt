@@ -7,6 +7,7 @@ use crate::channels::all_sound;
 use clock::rates::sound_rate;
 
 impl Board {
+    #[tactic(auto, using(crate::proofs::Soundness::latches_sound), unfolding(crate::specs::Board::sound_parts))]
     fn sound_parts(self) -> bool
         ensures { result ≡ sound_parts self }
     {
