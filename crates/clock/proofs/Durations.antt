@@ -13,11 +13,10 @@ use Rattle.std.proofs.lemmas.Bool.Decides.{nat_tests}
 use Rattle.wide.specs.declared.number.Wide.{Wide}
 use Rattle.wide.specs.Number.{value_of, largest}
 use Rattle.clock.specs.declared.Offset.{Offset}
-use Rattle.clock.specs.declared.HostTime.{HostTime}
 use Rattle.clock.specs.declared.time.Duration.{Duration}
-use Rattle.clock.specs.Clock.{nanos_per_second, in_nanoseconds, host_nanoseconds}
+use Rattle.clock.specs.Clock.{nanos_per_second, in_nanoseconds}
 use Rattle.clock.specs.Registers.{signed_difference}
-use Rattle.clock.specs.CodeTime.{duration_of, DurationIs}
+use Rattle.clock.specs.CodeTime.{duration_of}
 
 -- the order that `Duration` derives is that of the numbers: a s n ns against b s m ns
 pub before_is : (a n b m : ℕ) → n < nanos_per_second → m < nanos_per_second →
@@ -28,14 +27,15 @@ before_is a n b m p q = grind (arith, nat_tests)
 -- ---- the signed difference
 
 -- v says whether it is negative, and d is its magnitude
-pub since_is : (v : Bool) (a b : ℕ) (d : Duration) → ltb a b ≡ v → DurationIs (cond v (b - a) (a - b)) d →
+pub since_is : (v : Bool) (a b : ℕ) (d : Duration) → ltb a b ≡ v → duration_of d ≡ cond v (b - a) (a - b) →
+    d.nanoseconds < nanos_per_second →
     ◌≡◌ {A = Offset} (record { negative = v; seconds = d.seconds; nanoseconds = d.nanoseconds })
     (signed_difference a b)
 unfolding signed_difference
-since_is v a b d e h =
+since_is v a b d e h l =
     let m = cond v (b - a) (a - b) in
-    let w = whole d.seconds d.nanoseconds m h.total h.small in
-    let r = rest d.seconds d.nanoseconds m h.total h.small in
+    let w = whole d.seconds d.nanoseconds m h l in
+    let r = rest d.seconds d.nanoseconds m h l in
     rw (e, ← w, ← r)
   where
     whole : (s n m : ℕ) → in_nanoseconds s n ≡ m → n < nanos_per_second → s ≡ m / nanos_per_second
@@ -63,10 +63,6 @@ module _ (rate n : ℕ) (h : n < nanos_per_second) where
   cycles-fit k = lt_of_le_of_lt (mul-le-mul_left n k) (omega arith)
 
 -- ---- times
-
-pub host_total : (d : Duration) (h : HostTime) → (d.seconds ≡ h.seconds) × (d.nanoseconds ≡ h.nanoseconds) →
-    duration_of d ≡ host_nanoseconds h
-host_total d h e = rw (e.0, e.1)
 
 -- ---- the words of a time
 

@@ -33,7 +33,7 @@ impl Clock {
 
     #[tactic(auto, unfolding(crate::specs::Registers::set_time))]
     fn set_time(self, time: Time) -> Self
-        requires { (time.nanoseconds < nanos_per_second) × (sound_rate (rate_of self) ≡ true) }
+        requires { sound_rate (rate_of self) ≡ true }
         ensures { result ≡ set_time (rate_of self) (moment_of time) self }
     {
         let n = time.nanoseconds as u64;

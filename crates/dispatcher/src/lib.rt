@@ -31,7 +31,7 @@ pub fn fresh_number() -> SourceNumber
 fn number_read(last: SourceNumber) -> SourceNumber
     ensures { result.0 ≡ number_read last.0 }
 {
-    SourceNumber(last.0.min(HIGHEST))
+    last.min(SourceNumber(HIGHEST))
 }
 
 // The next enabled pending source after `last`, going round: the lowest of those above it, or, where there is none

@@ -118,6 +118,11 @@ module _ (x y : Wide) (r : ℕ) (p : x.low < 2 ^ 64) (q : y.low < 2 ^ 64) (below
         low : (l m s : ℕ) → l < 2 ^ 64 → m < 2 ^ 64 → s ≡ (l + (2 ^ 64 - m)) % 2 ^ 64 → m ≤ l → l ≡ s + m
         low l m s a b e n = omega arith
 
+-- what the proofs of `sum` and `difference` need
+pub ruleset sum_laws = (carry-is, no-carry-is, carry-fits, no-carry-fits)
+
+pub ruleset difference_laws = (borrow-is, no-borrow-is, borrow-fits, no-borrow-fits)
+
 -- ---- order
 
 -- the order that `Wide` derives: the high words decide, and the low words where they are equal

@@ -17,7 +17,7 @@ returns-then-high-eq0 c =
     let n = c.args.time.nanoseconds in
     c.own_time_set.ensures
     ∙ ap (λ (rate : ℕ). own_time_set w.low (n * rate / nanos_per_second) k) c.rate.ensures
-    ∙ set_word (rate_of k) w.low n k c.requires.0 (omega arith)
+    ∙ set_word (rate_of k) w.low n k c.args.time.small (omega arith)
     ∙ ap (λ (s : ℕ). set_time (rate_of k) (in_nanoseconds s n) k) (sym (one_word w c.if-high-eq0.true))
 
 pub returns : goal.returns
@@ -25,4 +25,4 @@ returns c =
     let a = c.args in
     c.own_time_set-2.ensures
     ∙ set_past (rate_of a.self) (value_of a.time.seconds) a.time.nanoseconds a.self
-    c.requires.0 (high_word_is a.time.seconds c.if-high-eq0.false)
+    c.args.time.small (high_word_is a.time.seconds c.if-high-eq0.false)

@@ -11,4 +11,4 @@ returns-then-from_host c =
     c.with_offset.ensures
     ∙ host-taken (rate_of a.self) a.new a.self c.since.result (duration_of c.own_duration.result)
     (rw (c.from_host.ensures, c.from_host-2.ensures) at c.if-from_host.true)
-    c.own_duration.ensures.total c.since.ensures
+    c.own_duration.ensures c.since.ensures
