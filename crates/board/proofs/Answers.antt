@@ -40,23 +40,12 @@ use Rattle.board.specs.declared.calls.Call.TheVariants.{Deadline}
 use Rattle.board.specs.Loops.{map_from}
 use Rattle.board.specs.Board.{BoardFits, word_deadline, sound}
 use Rattle.board.specs.Refusals.{refusal_number, refusal_code}
-use Rattle.board.specs.Calls.{
-  is_present,
-  or_zero,
-  length_refusal,
-  DirectAnswer,
-  effect_of,
-  refusal_of,
-  board_after,
-  answer_of,
-  member_at,
-  flag_at,
-}
+use Rattle.board.specs.Calls.{is_present, or_zero, length_refusal, DirectAnswer, effect_of, refusal_of, board_after, answer_of}
 use Rattle.board.specs.Answers.{deadline_members}
 use Rattle.channel.specs.Matches.{matches_of}
 use Rattle.board.specs.Channels.{matches_all}
 use Rattle.board.specs.CodeCalls.{matches_given, deadline_given, length_given}
-use Rattle.board.specs.Demand.{Promise}
+use Rattle.board.specs.Demand.{DeadlinePromise}
 use Rattle.board.proofs.Demand3.{demand_3}
 use Rattle.board.proofs.Soundness.{wired_line, wired_sound}
 
@@ -164,7 +153,7 @@ module _ (r : Result (Given Cycles) Refusal) where
 
 -- what is promised of a deadline, by the members of the answer
 pub answer_promises : (b : Board) → BoardFits b → (r : DirectAnswer) → r ≡ answer_of Deadline b →
-    Promise b (flag_at 0 r) (member_at 1 r) (member_at 2 r)
+    DeadlinePromise b r
 answer_promises b f r e s low o calls w =
     rw (e, answer-accepted Deadline b (rw s), flag_back) (demand_3 b f s low o calls w)
 
@@ -176,4 +165,4 @@ advance_lists b c = values_given (λ k h. matches_of (bit k b.timer_enable) c h)
 -- what the direct calls' contracts take
 pub ruleset answer_laws = (accepted_sound, answer-refused, answer-accepted, refused_and, wired_sound)
 
-pub ruleset advance_laws = (wired_line, advance_lists)
+pub ruleset advance_laws = (answer_laws, wired_line, advance_lists)

@@ -2,12 +2,12 @@
 // A refused call returns the board given.
 ghost use Rattle.std.specs.Prelude.{◌≡◌, true, Err};
 ghost use Rattle.board.specs.Board.{BoardFits, sound, exact_deadline};
-ghost use Rattle.board.specs.Calls.{refusal_of, answer_of, flag_at, member_at, advance_by, host_time_to};
+ghost use Rattle.board.specs.Calls.{refusal_of, answer_of, advance_by, host_time_to};
 ghost use Rattle.board.specs.Calls.{host_time_refusal, address_refusal, advanced_board, skip_length, source_refusal};
 ghost use Rattle.board.specs.Answers.{answered, no_members, byte_members, advance_members, deadline_members};
 ghost use Rattle.board.specs.Answers.{skip_members, output_members};
 ghost use Rattle.board.specs.CodeCalls.{deadline_given, length_given, matches_given};
-ghost use Rattle.board.specs.Demand.{Promise, SkipPromise};
+ghost use Rattle.board.specs.Demand.{DeadlinePromise, SkipPromise};
 ghost use Rattle.board.specs.Refusals.{refusal_code};
 
 use crate::Board;
@@ -168,7 +168,7 @@ impl Board {
         }
     }
 
-    #[tactic(auto, using(crate::proofs::Answers::answer_laws, crate::proofs::Answers::advance_laws), unfolding(crate::specs::Calls::advanced_board))]
+    #[tactic(auto, using(crate::proofs::Answers::advance_laws), unfolding(crate::specs::Calls::advanced_board))]
     pub fn advance(self, cycles: Cycles) -> Answered<Advance>
         ensures { answered advance_members result ≡ answer_of (advance_by cycles.0) self }
     {
@@ -188,8 +188,7 @@ impl Board {
     // The deadline, with its promise.
     pub fn deadline(self) -> Answered<Option<DeadlineGiven>>
         ensures value { answered deadline_members result ≡ answer_of Call.Deadline self }
-        ensures promise { Promise self (flag_at 0 (answered deadline_members result)) (member_at 1 (answered deadline_members result))
-            (member_at 2 (answered deadline_members result)) }
+        ensures promise { DeadlinePromise self (answered deadline_members result) }
     {
         if let Err(refusal) = self.check_sound() {
             return self.refused(refusal);
