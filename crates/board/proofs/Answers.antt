@@ -40,7 +40,8 @@ use Rattle.board.specs.declared.calls.Call.TheVariants.{Deadline}
 use Rattle.board.specs.Loops.{map_from}
 use Rattle.board.specs.Board.{BoardFits, word_deadline, sound}
 use Rattle.board.specs.Refusals.{refusal_number, refusal_code}
-use Rattle.board.specs.Calls.{is_present, or_zero, length_refusal, DirectAnswer, effect_of, refusal_of, board_after, answer_of}
+use Rattle.board.specs.Calls.{is_present, or_zero, length_refusal}
+use Rattle.board.specs.Calls.{DirectAnswer, effect_of, refusal_of, board_after, answer_of}
 use Rattle.board.specs.Answers.{deadline_members}
 use Rattle.channel.specs.Matches.{matches_of}
 use Rattle.board.specs.Channels.{matches_all}

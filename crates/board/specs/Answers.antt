@@ -1,5 +1,5 @@
--- A direct call's answer, as the code gives it: a board, and the members of the answer or a refusal. Each kind of answer
--- has its list of members as numbers, in document 01's order; by it the answer is that of the rules.
+-- A direct call's answer, as the code gives it: a board, and the members of the answer or a refusal. Each kind has its
+-- list of members as numbers, in document 01's order; by it the answer is that of the rules.
 use Rattle.std.specs.Prelude.{ℕ, List, [], ◌∷◌, map, Option, None, Some, Result, Ok, Err}
 use Rattle.wide.specs.Bits.{flag_of}
 use Rattle.wide.specs.Number.{value_of}

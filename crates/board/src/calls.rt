@@ -312,7 +312,7 @@ pub fn check_source(number: SourceNumber, level: u8) -> Result<(), Refusal>
     if 15 < number.0 {
         return Err(Refusal::SourceTooLarge);
     }
-    if number.0 == Board::LINE_SOURCE.0 {
+    if number == Board::LINE_SOURCE {
         return Err(Refusal::SourceOfLine);
     }
     if 1 < level {

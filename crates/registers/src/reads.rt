@@ -17,8 +17,8 @@ use regmap::fields::{byte_of_word, channel_of, place_of};
 use regmap::words::{clock_word, timer_word};
 use wide::words::{high, low};
 
-// What a read that leaves the latches unchanged gives and stores: the byte, the alarm's two flags, and whether its alarm
-// check set pending.
+// What a read gives and stores that leaves the latches unchanged: the byte, the alarm's two flags, and whether its
+// alarm check set pending.
 #[derive(Clone, Copy)]
 pub struct PlainReading {
     pub byte: u8,

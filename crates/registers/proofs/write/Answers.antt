@@ -8,7 +8,8 @@ use Rattle.registers.proofs.write.Goals as goal
 pub returns-in-Err : goal.returns-in-Err
 returns-in-Err c = let a = c.args in
     rw c.refused.ensures
-    (and-answers (Write a.value a.address) a.board _ _ _ c.check_sound.ensures.refused c.check_address.ensures c.in-Err.ensures)
+    (and-answers (Write a.value a.address) a.board _ _ _
+    c.check_sound.ensures.refused c.check_address.ensures c.in-Err.ensures)
 
 pub written_at-requires : goal.written_at-requires
 written_at-requires c = let b = c.args.board in

@@ -6,4 +6,5 @@ use Rattle.board.proofs.Board.host_time.Goals as goal
 pub returns-in-Err : goal.returns-in-Err
 returns-in-Err c = let a = c.args in
     rw c.refused.ensures
-    (and-answers (host_time_to a.host) a.self _ _ _ c.check_sound.ensures.refused c.check_host_time.ensures c.in-Err.ensures)
+    (and-answers (host_time_to a.host) a.self _ _ _
+    c.check_sound.ensures.refused c.check_host_time.ensures c.in-Err.ensures)

@@ -6,4 +6,5 @@ use Rattle.board.proofs.Board.source.Goals as goal
 pub returns-in-Err : goal.returns-in-Err
 returns-in-Err c = let a = c.args in
     rw c.refused.ensures
-    (and-answers (Source a.number.0 a.level) a.self _ _ _ c.check_sound.ensures.refused c.check_source.ensures c.in-Err.ensures)
+    (and-answers (Source a.number.0 a.level) a.self _ _ _
+    c.check_sound.ensures.refused c.check_source.ensures c.in-Err.ensures)
