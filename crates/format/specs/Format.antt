@@ -5,7 +5,7 @@ use mathlib.Core.List.{List, [], ◌∷◌, ◌++◌, foldr}
 use Rattle.wide.specs.Fields.{be_at, be}
 use Rattle.board.specs.declared.refusal.Refusal.TheVariants.{HeaderCut, TagUnknown, LengthWrong, ValueCut, BufferShort}
 use Rattle.board.specs.Refusals.{refusal_number}
-use Rattle.board.specs.CodeCalls.{deadline_members}
+use Rattle.board.specs.Answers.{deadline_members}
 use Rattle.format.specs.declared.Answer.{Answer}
 use Rattle.format.specs.declared.Answer.TheVariants.{Empty, Byte, Deadline, Skip, Pair}
 

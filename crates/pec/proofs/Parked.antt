@@ -11,7 +11,7 @@ use Rattle.board.specs.Refusals.{refusal_number, refusal_code}
 use Rattle.board.specs.Fields.{fresh_board}
 use Rattle.board.specs.Calls.{fresh_of}
 use Rattle.board.specs.declared.calls.Answered.{Answered}
-use Rattle.board.specs.CodeCalls.{answered, no_members}
+use Rattle.board.specs.Answers.{answered, no_members}
 use Rattle.board.proofs.Answers.{some_refusal}
 use Rattle.parking.specs.Parking.{Writing, default_form, writing_of, buffer_after}
 use Rattle.parking.specs.Moves.{Moved}

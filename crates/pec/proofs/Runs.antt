@@ -9,7 +9,7 @@ use Rattle.board.specs.declared.Board.{Board}
 use Rattle.board.specs.declared.calls.Answered.{Answered}
 use Rattle.board.specs.declared.refusal.Refusal.{Refusal}
 use Rattle.board.specs.Refusals.{refusal_number}
-use Rattle.board.specs.CodeCalls.{answered, no_members}
+use Rattle.board.specs.Answers.{answered, no_members}
 use Rattle.board.proofs.Answers.{some_refusal}
 use Rattle.list.specs.Run.{Outcome, run_of, over, nothing_done}
 use Rattle.board.specs.Calls.{fresh_of}

@@ -13,7 +13,7 @@ use Rattle.std.proofs.Common.{Option as Given, Result, Ok, Err}
 use Rattle.channel.specs.declared.Cycles.{Cycles}
 use Rattle.board.specs.declared.refusal.Refusal.{Refusal}
 use Rattle.board.specs.Refusals.{refusal_number, refusal_code}
-use Rattle.board.specs.CodeCalls.{answered, no_members}
+use Rattle.board.specs.Answers.{answered, no_members}
 use Rattle.board.specs.Board.{BoardFits, sound}
 use Rattle.board.specs.Calls.{refusal_of}
 use Rattle.board.proofs.Answers.{some_refusal, unsound_first}

@@ -5,7 +5,7 @@
 ghost use Rattle.std.specs.Prelude.{◌≡◌, true, cond, map, ◌++◌, ◌≤◌, length, drop, ltb};
 ghost use Rattle.wide.specs.Bits.{flag_of};
 ghost use Rattle.board.specs.Board.{sound};
-ghost use Rattle.board.specs.CodeCalls.{answered, no_members};
+ghost use Rattle.board.specs.Answers.{answered, no_members};
 ghost use Rattle.board.specs.Refusals.{refusal_code};
 ghost use Rattle.parking.specs.Parking.{buffer_short};
 ghost use Rattle.preview.specs.CodeReach.{high_from, reaches};

@@ -4,7 +4,7 @@
 
 ghost use Rattle.std.specs.Prelude.{◌≡◌};
 ghost use Rattle.board.specs.Calls.{answer_of};
-ghost use Rattle.board.specs.CodeCalls.{answered, no_members, byte_members};
+ghost use Rattle.board.specs.Answers.{answered, no_members, byte_members};
 ghost use Rattle.registers.specs.CodeReads.{after_reading};
 
 use crate::reads::{LatchedReading, channel_index, reading_at};
@@ -22,9 +22,8 @@ fn after_reading(board: Board, reading: LatchedReading) -> Board
 {
     let latches = reading.latches;
     let mut after = board.with_latches(latches);
-    let plain = reading.plain;
-    after.clock.alarm.pending = plain.pending;
-    after.clock.alarm.armed = plain.armed;
+    after.clock.alarm.pending = reading.plain.pending;
+    after.clock.alarm.armed = reading.plain.armed;
     after
 }
 
@@ -33,10 +32,7 @@ pub fn read(board: Board, address: u16) -> Answered<u8>
     ensures { answered byte_members result ≡ answer_of (Call.Read address) board }
 {
     if let Err(refusal) = board.check_sound().and(check_address(address)) {
-        return Answered {
-            board,
-            answer: Err(refusal),
-        };
+        return board.refused(refusal);
     }
     let offset = u32::from(address) + Registers::BASE;
     let timer = board.timers[channel_index(offset)];
@@ -52,10 +48,7 @@ pub fn write(board: Board, address: u16, value: u8) -> Answered<()>
     ensures { answered no_members result ≡ answer_of (Call.Write value address) board }
 {
     if let Err(refusal) = board.check_sound().and(check_address(address)) {
-        return Answered {
-            board,
-            answer: Err(refusal),
-        };
+        return board.refused(refusal);
     }
     Answered {
         board: written_at(board, u32::from(address) + Registers::BASE, value).wired(),

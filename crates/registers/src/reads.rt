@@ -17,8 +17,8 @@ use regmap::fields::{byte_of_word, channel_of, place_of};
 use regmap::words::{clock_word, timer_word};
 use wide::words::{high, low};
 
-// What a read that leaves the latches unchanged gives and stores: the byte, the alarm's two flags, and whether its alarm
-// check set pending.
+// What a read gives and stores that leaves the latches unchanged: the byte, the alarm's two flags, and whether its
+// alarm check set pending.
 #[derive(Clone, Copy)]
 pub struct PlainReading {
     pub byte: u8,
@@ -48,8 +48,7 @@ pub fn channel_index(offset: u32) -> usize
     ensures { (result ≡ channel_index offset) × (result < 4) }
 {
     if in_channels(offset) {
-        let number = channel_of(offset);
-        return number.0 as usize;
+        return usize::from(channel_of(offset).0);
     }
     0
 }
@@ -107,11 +106,9 @@ fn count_serving(latches: Latches, offset: u32) -> Option<u32>
 fn serving(latches: Latches, offset: u32) -> Option<u32>
     ensures { result ≡ serving offset latches }
 {
-    let low = latches.low;
-    let high = latches.high;
     match offset {
-        Registers::RTC_SECONDS_LO..=Registers::RTC_SECONDS_LO_LAST => low,
-        Registers::RTC_SECONDS_HI..=Registers::RTC_SECONDS_HI_LAST => high,
+        Registers::RTC_SECONDS_LO..=Registers::RTC_SECONDS_LO_LAST => latches.low,
+        Registers::RTC_SECONDS_HI..=Registers::RTC_SECONDS_HI_LAST => latches.high,
         _ => count_serving(latches, offset),
     }
 }
@@ -197,8 +194,6 @@ fn reading_of(
         // byte 0 of the clock's low seconds fills both of the clock's latches, and the low word's serves this read
         let seconds = clock.time_seconds();
         let word = low(seconds);
-        let pending = clock.alarm.pending;
-        let armed = clock.alarm.armed;
         return LatchedReading {
             latches: Latches {
                 low: Some(word),
@@ -207,37 +202,32 @@ fn reading_of(
             },
             plain: PlainReading {
                 byte: byte_of_word(word, 0),
-                pending,
-                armed,
+                pending: clock.alarm.pending,
+                armed: clock.alarm.armed,
                 rose: false,
             },
         };
     }
-    let latch = serving(latches, offset);
-    let Some(word) = latch else {
+    let Some(word) = serving(latches, offset) else {
         let checked = clock.check_alarm();
         let word = word_at(timer, checked, shared, offset);
-        let before = clock.alarm.pending;
         let pending = checked.alarm.pending;
-        let armed = checked.alarm.armed;
         return LatchedReading {
             latches: count_filled(latches, timer.counter, offset),
             plain: PlainReading {
                 byte: byte_of_word(word, offset % 4),
                 pending,
-                armed,
-                rose: pending != before,
+                armed: checked.alarm.armed,
+                rose: pending != clock.alarm.pending,
             },
         };
     };
-    let pending = clock.alarm.pending;
-    let armed = clock.alarm.armed;
     LatchedReading {
         latches: freed_at(latches, offset),
         plain: PlainReading {
             byte: byte_of_word(word, offset % 4),
-            pending,
-            armed,
+            pending: clock.alarm.pending,
+            armed: clock.alarm.armed,
             rose: false,
         },
     }
@@ -248,11 +238,8 @@ pub fn reading_at(board: Board, timer: HardwareTimer, offset: u32) -> LatchedRea
     requires { Timed (rate_of board.clock) board.clock × (timer ≡ channel_at (channel_index offset) board) }
     ensures { result ≡ offset_reading offset board }
 {
-    let timers = board.timers;
-    let shared = shared_at(timers, board.timer_enable, offset);
-    let clock = board.clock;
-    let latches = board.latches;
-    reading_of(timer, shared, clock, latches, offset)
+    let shared = shared_at(board.timers, board.timer_enable, offset);
+    reading_of(timer, shared, board.clock, board.latches, offset)
 }
 
 // ---- without the latches
@@ -275,16 +262,13 @@ pub fn plain_at(board: Board, timer: HardwareTimer, offset: u32) -> PlainReading
         × (timer ≡ channel_at (channel_index offset) board) }
     ensures { result ≡ (offset_reading offset board).plain }
 {
-    let clock = board.clock;
-    let before = clock.alarm.pending;
-    let checked = clock.check_alarm();
+    let checked = board.clock.check_alarm();
     let word = timer.read_word(place_of(offset) / 4 * 4);
     let pending = checked.alarm.pending;
-    let armed = checked.alarm.armed;
     PlainReading {
         byte: byte_of_word(word, offset % 4),
         pending,
-        armed,
-        rose: pending != before,
+        armed: checked.alarm.armed,
+        rose: pending != board.clock.alarm.pending,
     }
 }

@@ -6,7 +6,8 @@ use mathlib.Core.Bool.{true, false, and-false}
 use lib.Dec.{leb}
 use borrow.Author.Tests.{leb-true, le-leb, lt-leb}
 use Rattle.wide.proofs.Choices.{and_parts}
-use Rattle.board.specs.Registers.{seconds_low_at, seconds_high_at, Range, behind, Inside, within, last_of, four_bytes, in_register}
+use Rattle.board.specs.Registers.{seconds_low_at, seconds_high_at, Range, behind, Inside, within, last_of}
+use Rattle.board.specs.Registers.{four_bytes, in_register}
 
 -- ---- one range
 

@@ -30,7 +30,7 @@ pub fn timer_word(timers: [HardwareTimer; 4], timer_enable: u8, register: u32) -
 {
     match register {
         Registers::TIMER_ID => ID,
-        Registers::TIMER_ENABLE => timer_enable as u32,
+        Registers::TIMER_ENABLE => u32::from(timer_enable),
         Registers::TIMER_PENDING => timer_pending(timers),
         _ => 0,
     }
@@ -44,14 +44,14 @@ pub fn clock_word(clock: Clock, register: u32) -> u32
 {
     let alarm = clock.alarm;
     match register {
-        Registers::RTC_CTRL => clock.control as u32,
+        Registers::RTC_CTRL => u32::from(clock.control),
         Registers::RTC_STATUS => alarm.status(),
         Registers::RTC_SECONDS_LO => low(clock.time_seconds()),
         Registers::RTC_SECONDS_HI => high(clock.time_seconds()),
         Registers::RTC_SUBSEC => clock.time_nanoseconds(),
         Registers::RTC_ALARM_LO => low(alarm.seconds),
         Registers::RTC_ALARM_HI => high(alarm.seconds),
-        Registers::RTC_IRQ_CTRL => alarm.enable as u32,
+        Registers::RTC_IRQ_CTRL => u32::from(alarm.enable),
         _ => 0,
     }
 }

@@ -6,13 +6,6 @@ ghost use Rattle.wide.specs.Fields.{be_at, be, with_byte};
 
 use crate::number::Wide;
 
-// A byte as a word.
-pub fn widened(x: u8) -> u64
-    ensures { (result ≡ x) × (result < 256) }
-{
-    x as u64
-}
-
 // The number in the width bytes of s from index at on, most significant first.
 pub fn get(s: &[u8], at: usize, width: usize) -> u64
     requires { (width ≤ 8) × (at + width ≤ length s.now) }

@@ -1,9 +1,8 @@
 // Numbers that the layers above share: two-word numbers, optional deadlines, big-endian fields of a byte slice, the
-// words of a register pair, and flags.
+// words of a register pair.
 #![tactic(auto)]
 
 pub mod deadline;
 pub mod fields;
-pub mod flags;
 pub mod number;
 pub mod words;

@@ -3,15 +3,15 @@ use Prim.Native.Nat.{ℕ}
 use mathlib.Core.Path.{sym, ap}
 use Rattle.board.specs.declared.calls.Call.TheVariants.{Read}
 use Rattle.board.specs.Fields.{channel_at}
-use Rattle.board.proofs.Answers.{accepted_sound, refused_and, answer-refused, answer-accepted}
+use Rattle.board.proofs.Answers.{accepted_sound, refused_and, and-answers, answer-accepted}
 use Rattle.registers.proofs.Timing.{sound_times}
 use Rattle.registers.proofs.CodeReads.{read_parts}
 use Rattle.registers.proofs.read.Goals as goal
 
 pub returns-in-Err : goal.returns-in-Err
 returns-in-Err c = let a = c.args in
-    answer-refused (Read a.address) a.board c.in-Err.refusal
-    (refused_and a.board _ _ _ _ c.check_sound.ensures.refused c.check_address.ensures c.in-Err.ensures)
+    rw c.refused.ensures
+    (and-answers (Read a.address) a.board _ _ _ c.check_sound.ensures.refused c.check_address.ensures c.in-Err.ensures)
 
 pub reading_at-reading-requires : goal.reading_at-reading-requires
 reading_at-reading-requires c = let b = c.args.board in
