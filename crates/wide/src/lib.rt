@@ -1,4 +1,4 @@
-// Numbers that the layers above share: two-word numbers, optional deadlines, big-endian fields of a byte slice, the
+// Numbers that the layers above share: two-word numbers, optional deadlines, big-endian fields of a byte slice, and the
 // words of a register pair.
 #![tactic(auto)]
 
