@@ -58,7 +58,7 @@ pub struct HardwareTimer {
     pub reload: u64,
 }
 
-// What ticks do to a channel.
+// What ticks do to a channel, by bits 0 and 1 of its control. An idle one they leave as it is.
 #[derive(Clone, Copy, PartialEq, Eq)]
 pub enum Mode {
     OneShot,
@@ -113,6 +113,7 @@ impl HardwareTimer {
         }
     }
 
+    // The channel's mode, from control.
     pub fn mode(self) -> Mode
         ensures { mode_number result ≡ mode_of self.control }
     {
