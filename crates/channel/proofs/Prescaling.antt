@@ -2,7 +2,7 @@
 use Rattle.std.proofs.Common.{◌≡◌, ℕ, zero, suc, ◌+◌, ◌-◌, ◌*◌, ◌/◌, ◌%◌, ◌^◌, ◌<◌, ◌≤◌, ltb, leb, ◌↔◌, sym, refl, ap}
 use Rattle.std.proofs.Common.{◌∙◌, lt_of_lt_of_le, le_of_lt, mod-eq_of_lt, mul-le-mul, le-div_iff_mul-le}
 use Rattle.std.proofs.Common.{div-le_self, sub-one, arith, lit≤, le-ltb, lt-ltb, leb-false}
-use Rattle.std.proofs.Common.{leb-true}
+use Rattle.std.proofs.Common.{leb-true, zero-add, div-one}
 use mathlib.Core.Option.{Option, none, some}
 use native.Mathlib.Nat.{add-div_right, add-mod_right, div-eq_of_lt, mod-one}
 use Rattle.wide.proofs.Choices.{either, leb_same}
