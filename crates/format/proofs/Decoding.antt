@@ -1,7 +1,7 @@
 -- What the code finds of the call at the front of a list is what the rules say of it. Assumes nothing.
 use Prim.Native.Nat.{ℕ, ◌+◌, ◌-◌, ◌≤◌, ◌<◌}
 use native.Mathlib.Omega.{arith}
-use mathlib.Core.Path.{◌≡◌, refl, sym, ap, ◌∙◌}
+use mathlib.Core.Path.{◌≡◌, refl, sym, ◌∙◌}
 use mathlib.Core.Bool.{true, false, cond, not, false≢true}
 use mathlib.Core.List.{List}
 use lib.ListN.{length}
@@ -59,15 +59,13 @@ module _ (l : List ℕ) (room : ℕ) where
   unfolding frame_refusal decoded_of
   decoded-unknown h k = rw (le-ltb (length l) header_length h, k)
 
-  -- by the tag that is found
-  pub as-tag : header_length ≤ length l → (tag : Tag) → tag_number tag ≡ tag_at l → (given : Tag) → tag ≡ given →
-      framed_as (value_length (tag_number given)) (call_of (tag_number given) (members_at l header_length
-      (row_of (tag_number given)).value)) l room
+  -- by the tag that stands there
+  pub as-tag : header_length ≤ length l → (tag : Tag) → tag_at l ≡ tag_number tag →
+      framed_as (value_length (tag_number tag)) (call_of (tag_number tag) (members_at l header_length
+      (row_of (tag_number tag)).value)) l room
       ≡ decoded_of l room
   unfolding frame_refusal value_frame framed_as decoded_of
-  as-tag h tag e given g =
-      let t : tag_at l ≡ tag_number given = sym e ∙ ap tag_number g in
-      rw (le-ltb (length l) header_length h, t, tag-known given)
+  as-tag h tag e = rw (le-ltb (length l) header_length h, e, tag-known tag)
 
 -- ---- what a caller learns of it
 

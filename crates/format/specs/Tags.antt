@@ -1,11 +1,8 @@
 -- Not document 01's sentences: the tags as the code names them. The rule is `tag_of` of Codec.
-use Rattle.std.specs.Prelude.{ℕ, ◌≡◌, false, Result, MatchResult}
-use Rattle.board.specs.declared.refusal.Refusal.{Refusal}
-use Rattle.board.specs.declared.refusal.Refusal.TheVariants.{TagUnknown}
+use Rattle.std.specs.Prelude.{ℕ}
 use Rattle.format.specs.declared.tag.Tag.{Tag}
 use Rattle.format.specs.declared.tag.Tag.TheVariants.{HostTime, Read, Write, Advance, Deadline, Skip, Source}
 use Rattle.format.specs.declared.tag.Tag.TheVariants.{ControllerRead, ControllerWrite, Output}
-use Rattle.format.specs.Format.{known}
 
 -- 'Tags are hexadecimal.'
 abbrev pub tag_number : Tag → ℕ
@@ -19,7 +16,3 @@ tag_number Source = 0x07
 tag_number ControllerRead = 0x08
 tag_number ControllerWrite = 0x09
 tag_number Output = 0x0A
-
--- what becomes of a byte where a tag must stand
-abbrev pub IsTag : ℕ → Result Tag Refusal → Type 0
-IsTag byte r = MatchResult r (λ tag. tag_number tag ≡ byte) (λ e. (e ≡ TagUnknown) × (known byte ≡ false))

@@ -1,10 +1,9 @@
 // The calls of a list by their tags, and how long their values and answers are.
 ghost use Rattle.std.specs.Prelude.{◌≡◌, ◌+◌, ◌<◌};
 ghost use Rattle.format.specs.Format.{value_length, answer_length, header_length};
-ghost use Rattle.format.specs.Tags.{tag_number, IsTag};
+ghost use Rattle.format.specs.Tags.{tag_number};
 
 use crate::HEADER_LENGTH;
-use board::refusal::Refusal;
 
 #[derive(Clone, Copy)]
 pub enum Tag {
@@ -18,28 +17,6 @@ pub enum Tag {
     ControllerRead = 8,
     ControllerWrite = 9,
     Output = 10,
-}
-
-impl TryFrom<u8> for Tag {
-    type Error = Refusal;
-
-    ghost try_from_gives = { IsTag };
-
-    fn try_from(byte: u8) -> Result<Tag, Refusal> {
-        match byte {
-            1 => Ok(Tag::HostTime),
-            2 => Ok(Tag::Read),
-            3 => Ok(Tag::Write),
-            4 => Ok(Tag::Advance),
-            5 => Ok(Tag::Deadline),
-            6 => Ok(Tag::Skip),
-            7 => Ok(Tag::Source),
-            8 => Ok(Tag::ControllerRead),
-            9 => Ok(Tag::ControllerWrite),
-            10 => Ok(Tag::Output),
-            _ => Err(Refusal::TagUnknown),
-        }
-    }
 }
 
 impl Tag {

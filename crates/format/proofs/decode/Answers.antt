@@ -1,67 +1,65 @@
 -- `decode` meets its contract: by the tag that is found. Assumes nothing.
 use mathlib.Core.Path.{◌∙◌}
-use Rattle.std.proofs.lemmas.Result.{err_from_is_err_and}
 use Rattle.format.specs.declared.tag.Tag.TheVariants as T
 use Rattle.format.specs.Format.{members_at}
 use Rattle.format.specs.Codec.{call_of}
 use Rattle.format.proofs.Decoding.{decoded-cut, decoded-unknown, as-tag}
+use native.Mathlib.Omega.{arith}
+use Rattle.std.proofs.lemmas.Grind.{common_steps}
 use Rattle.format.proofs.decode.Goals as goal
 
 pub returns-then-rest-lt-HEADER_LENGTH : goal.returns-then-rest-lt-HEADER_LENGTH
 returns-then-rest-lt-HEADER_LENGTH c = decoded-cut _ _ c.if-rest-lt-HEADER_LENGTH.true
 
-pub returns-in_err-try_from : goal.returns-in_err-try_from
-returns-in_err-try_from c =
-    let p = err_from_is_err_and c.from_residual.result c.from_residual.ensures.1 in
-    rw (p.1, p.2, c.in_err-try_from.ensures.0)
-    (decoded-unknown _ _ c.if-rest-lt-HEADER_LENGTH.false c.in_err-try_from.ensures.1)
+pub returns-in_default : goal.returns-in_default
+returns-in_default c = decoded-unknown _ _ c.if-rest-lt-HEADER_LENGTH.false (grind (arith, common_steps))
 
-pub returns-in-HostTime : goal.returns-in-HostTime
+pub returns-in-1 : goal.returns-in-1
 unfolding call_of members_at
-returns-in-HostTime c = c.host_time_at.ensures
-    ∙ as-tag _ _ c.if-rest-lt-HEADER_LENGTH.false _ c.in_ok-try_from.ensures T.HostTime c.in-HostTime.is
+returns-in-1 c = c.host_time_at.ensures
+    ∙ as-tag _ _ c.if-rest-lt-HEADER_LENGTH.false T.HostTime c.in-1.is
 
-pub returns-in-Read : goal.returns-in-Read
+pub returns-in-2 : goal.returns-in-2
 unfolding call_of members_at
-returns-in-Read c = c.read_at.ensures
-    ∙ as-tag _ _ c.if-rest-lt-HEADER_LENGTH.false _ c.in_ok-try_from.ensures T.Read c.in-Read.is
+returns-in-2 c = c.read_at.ensures
+    ∙ as-tag _ _ c.if-rest-lt-HEADER_LENGTH.false T.Read c.in-2.is
 
-pub returns-in-Write : goal.returns-in-Write
+pub returns-in-3 : goal.returns-in-3
 unfolding call_of members_at
-returns-in-Write c = c.write_at.ensures
-    ∙ as-tag _ _ c.if-rest-lt-HEADER_LENGTH.false _ c.in_ok-try_from.ensures T.Write c.in-Write.is
+returns-in-3 c = c.write_at.ensures
+    ∙ as-tag _ _ c.if-rest-lt-HEADER_LENGTH.false T.Write c.in-3.is
 
-pub returns-in-Advance : goal.returns-in-Advance
+pub returns-in-4 : goal.returns-in-4
 unfolding call_of members_at
-returns-in-Advance c = c.advance_at.ensures
-    ∙ as-tag _ _ c.if-rest-lt-HEADER_LENGTH.false _ c.in_ok-try_from.ensures T.Advance c.in-Advance.is
+returns-in-4 c = c.advance_at.ensures
+    ∙ as-tag _ _ c.if-rest-lt-HEADER_LENGTH.false T.Advance c.in-4.is
 
-pub returns-in-Deadline : goal.returns-in-Deadline
+pub returns-in-5 : goal.returns-in-5
 unfolding call_of members_at
-returns-in-Deadline c = c.bare_at.ensures
-    ∙ as-tag _ _ c.if-rest-lt-HEADER_LENGTH.false _ c.in_ok-try_from.ensures T.Deadline c.in-Deadline.is
+returns-in-5 c = c.bare_at.ensures
+    ∙ as-tag _ _ c.if-rest-lt-HEADER_LENGTH.false T.Deadline c.in-5.is
 
-pub returns-in-Skip : goal.returns-in-Skip
+pub returns-in-6 : goal.returns-in-6
 unfolding call_of members_at
-returns-in-Skip c = c.bare_at-in-Skip.ensures
-    ∙ as-tag _ _ c.if-rest-lt-HEADER_LENGTH.false _ c.in_ok-try_from.ensures T.Skip c.in-Skip.is
+returns-in-6 c = c.bare_at-in-6.ensures
+    ∙ as-tag _ _ c.if-rest-lt-HEADER_LENGTH.false T.Skip c.in-6.is
 
-pub returns-in-Source : goal.returns-in-Source
+pub returns-in-7 : goal.returns-in-7
 unfolding call_of members_at
-returns-in-Source c = c.source_at.ensures
-    ∙ as-tag _ _ c.if-rest-lt-HEADER_LENGTH.false _ c.in_ok-try_from.ensures T.Source c.in-Source.is
+returns-in-7 c = c.source_at.ensures
+    ∙ as-tag _ _ c.if-rest-lt-HEADER_LENGTH.false T.Source c.in-7.is
 
-pub returns-in-ControllerRead : goal.returns-in-ControllerRead
+pub returns-in-8 : goal.returns-in-8
 unfolding call_of members_at
-returns-in-ControllerRead c = c.controller_read_at.ensures
-    ∙ as-tag _ _ c.if-rest-lt-HEADER_LENGTH.false _ c.in_ok-try_from.ensures T.ControllerRead c.in-ControllerRead.is
+returns-in-8 c = c.controller_read_at.ensures
+    ∙ as-tag _ _ c.if-rest-lt-HEADER_LENGTH.false T.ControllerRead c.in-8.is
 
-pub returns-in-ControllerWrite : goal.returns-in-ControllerWrite
+pub returns-in-9 : goal.returns-in-9
 unfolding call_of members_at
-returns-in-ControllerWrite c = c.controller_write_at.ensures
-    ∙ as-tag _ _ c.if-rest-lt-HEADER_LENGTH.false _ c.in_ok-try_from.ensures T.ControllerWrite c.in-ControllerWrite.is
+returns-in-9 c = c.controller_write_at.ensures
+    ∙ as-tag _ _ c.if-rest-lt-HEADER_LENGTH.false T.ControllerWrite c.in-9.is
 
-pub returns-in-Output : goal.returns-in-Output
+pub returns-in-10 : goal.returns-in-10
 unfolding call_of members_at
-returns-in-Output c = c.bare_at-in-Output.ensures
-    ∙ as-tag _ _ c.if-rest-lt-HEADER_LENGTH.false _ c.in_ok-try_from.ensures T.Output c.in-Output.is
+returns-in-10 c = c.bare_at-in-10.ensures
+    ∙ as-tag _ _ c.if-rest-lt-HEADER_LENGTH.false T.Output c.in-10.is
