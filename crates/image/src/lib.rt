@@ -1,4 +1,4 @@
-// The image of a board: the bytes of its fields, put into a buffer.
+// The image of a board: the bytes of its fields, put into a buffer, and the members of a field read from bytes.
 #![tactic(auto)]
 
 ghost use Rattle.std.specs.Prelude.{◌≡◌, true};
