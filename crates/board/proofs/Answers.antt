@@ -9,7 +9,7 @@ use lib.Dec.{ltb, eqb}
 use borrow.Author.Tests.{eqb-true}
 use Rattle.std.specs.Prelude.{map, Option as Given, Some, None, Result, Ok, Err}
 use Rattle.std.specs.Result.{result_and}
-use Rattle.wide.specs.Bits.{flag_of}
+use Rattle.wide.specs.Bits.{bit, flag_of}
 use Rattle.wide.specs.Number.{value_of, wide_of, largest}
 use Rattle.wide.proofs.Choices.{either}
 use Rattle.wide.proofs.Forms.{wide_value, flag_back}
@@ -40,21 +40,15 @@ use Rattle.board.specs.declared.calls.Call.TheVariants.{Deadline}
 use Rattle.board.specs.Loops.{map_from}
 use Rattle.board.specs.Board.{BoardFits, word_deadline, sound}
 use Rattle.board.specs.Refusals.{refusal_number, refusal_code}
-use Rattle.board.specs.Calls.{
-  is_present,
-  or_zero,
-  length_refusal,
-  DirectAnswer,
-  effect_of,
-  refusal_of,
-  board_after,
-  answer_of,
-  member_at,
-  flag_at,
-}
-use Rattle.board.specs.CodeCalls.{deadline_members, deadline_given, length_given}
-use Rattle.board.specs.Demand.{Promise}
+use Rattle.board.specs.Calls.{is_present, or_zero, length_refusal}
+use Rattle.board.specs.Calls.{DirectAnswer, effect_of, refusal_of, board_after, answer_of}
+use Rattle.board.specs.Answers.{deadline_members}
+use Rattle.channel.specs.Matches.{matches_of}
+use Rattle.board.specs.Channels.{matches_all}
+use Rattle.board.specs.CodeCalls.{matches_given, deadline_given, length_given}
+use Rattle.board.specs.Demand.{DeadlinePromise}
 use Rattle.board.proofs.Demand3.{demand_3}
+use Rattle.board.proofs.Soundness.{wired_line, wired_sound}
 
 -- ---- refused or accepted
 
@@ -120,6 +114,12 @@ refused_and b own x y r e f g = rw g (both x e)
     both (Ok _) e = rw (accepted_sound b 0 (sym e)) f
     both (Err x) e = unsound_first b own x e
 
+-- the same where it refuses
+pub and-answers : (call : Call) (b : Board) (x y : Result (Unit {0}) Refusal) (r : Refusal) →
+    refusal_code x ≡ refusal_of b 0 → refusal_code y ≡ (effect_of call b).refusal → Err r ≡ result_and x y →
+    record { board = b; refusal = refusal_number r; members = [] } ≡ answer_of call b
+and-answers call b x y r e f g = answer-refused call b r (refused_and b (effect_of call b).refusal x y (Err r) e f g)
+
 -- ---- the members of answers
 
 -- the counts of the channels
@@ -154,6 +154,16 @@ module _ (r : Result (Given Cycles) Refusal) where
 
 -- what is promised of a deadline, by the members of the answer
 pub answer_promises : (b : Board) → BoardFits b → (r : DirectAnswer) → r ≡ answer_of Deadline b →
-    Promise b (flag_at 0 r) (member_at 1 r) (member_at 2 r)
+    DeadlinePromise b r
 answer_promises b f r e s low o calls w =
     rw (e, answer-accepted Deadline b (rw s), flag_back) (demand_3 b f s low o calls w)
+
+-- the answer of an advance, by its members
+pub advance_lists : (b : Board) (c : ℕ) →
+    map value_of (matches_given b.timer_enable c b.timers) ≡ matches_all b.timer_enable c b.timers
+advance_lists b c = values_given (λ k h. matches_of (bit k b.timer_enable) c h) 0 b.timers
+
+-- what the direct calls' contracts take
+pub ruleset answer_laws = (accepted_sound, answer-refused, answer-accepted, refused_and, wired_sound)
+
+pub ruleset advance_laws = (answer_laws, wired_line, advance_lists)

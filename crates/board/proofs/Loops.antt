@@ -15,6 +15,17 @@ use Rattle.board.specs.Loops.{All, map_from, fold_from}
 -- ---- joining
 
 module _ {A B : Type 0} (f : ℕ → A → B) (g : B → B → B) (z : B) where
+  -- the element i and those behind it
+  pub fold-next : (xs : List A) (d : A) (i : ℕ) → i < length xs →
+      fold_from f g z i (drop i xs) ≡ g (f i (get_or xs i d)) (fold_from f g z (i + 1) (drop (i + 1) xs))
+  unfolding fold_from
+  fold-next xs d i h = rw (add-one, drop-cons xs i d h)
+
+  -- nothing is left behind the last
+  pub fold-past : (xs : List A) (i : ℕ) → length xs ≤ i → fold_from f g z i (drop i xs) ≡ z
+  unfolding fold_from
+  fold-past xs i h = rw (drop_of_length-le xs {i = i} h)
+
   -- what a loop that joins from the first on keeps: a is what is joined of the elements below i, and with what is
   -- joined of those behind it is what is joined of all
   abbrev pub Joined : List A → ℕ → B → Type 0
@@ -23,15 +34,11 @@ module _ {A B : Type 0} (f : ℕ → A → B) (g : B → B → B) (z : B) where
   -- one turn: v is what the element i gives
   pub fold-goes : ((a b c : B) → g (g a b) c ≡ g a (g b c)) → (xs : List A) (d : A) (i : ℕ) (a v : B) → i < length xs →
       v ≡ f i (get_or xs i d) → Joined xs i a → Joined xs (i + 1) (g a v)
-  unfolding fold_from
-  fold-goes joins xs d i a v h e t =
-      rw (e, add-one) (joins a (f i (get_or xs i d)) _ ∙ rw (drop-cons xs i d h) at t)
+  fold-goes joins xs d i a v h e t = rw e (joins a (f i (get_or xs i d)) _ ∙ rw (fold-next xs d i h) at t)
 
-  -- nothing is left behind the last
   pub fold-ends : ((a : B) → g a z ≡ a) → (xs : List A) (i : ℕ) (a : B) → length xs ≤ i → Joined xs i a →
       a ≡ fold_from f g z 0 xs
-  unfolding fold_from
-  fold-ends alone xs i a h t = sym (alone a) ∙ rw (drop_of_length-le xs {i = i} h) at t
+  fold-ends alone xs i a h t = sym (alone a) ∙ rw (fold-past xs i h) at t
 
 -- ---- changing each
 

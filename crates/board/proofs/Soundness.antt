@@ -86,6 +86,9 @@ module _ (b : Board) where
         level = beq_true (bit 3 b.controller.levels) (line b) p.1;
       }
 
+  pub sound_line : sound b ≡ true → bit 3 b.controller.levels ≡ line b
+  sound_line e = (sound_facts e).level
+
   pub facts_sound : SoundFacts b → sound b ≡ true
   unfolding sound sound_parts
   facts_sound f =

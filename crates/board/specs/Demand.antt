@@ -97,6 +97,10 @@ Promise b present d word =
     (calls : List Call) → All PassesTime calls →
     PromiseAfter present d word b (cycles_passed calls b) (after_all calls b)
 
+-- the promise of the deadline, by an answer whose members are 'present 1, D 16, 64-bit deadline 8'
+abbrev pub DeadlinePromise : Board → DirectAnswer → Type 0
+DeadlinePromise b r = Promise b (flag_at 0 r) (member_at 1 r) (member_at 2 r)
+
 -- ---- skip
 
 -- what an accepted skip does, whatever the clock runs from: b is the board before it, r the answer, whose members are

@@ -8,6 +8,7 @@ pub mod RegisterWrites
 pub mod RegisterReads
 pub mod Calls
 pub mod Refusals
+pub mod Answers
 pub mod Splits
 pub mod CodeCalls
 pub mod Demand

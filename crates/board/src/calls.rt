@@ -1,12 +1,13 @@
 // The calls, and the direct calls except read and write. Each direct call tests soundness first, then its own refusal.
 // A refused call returns the board given.
-ghost use Rattle.std.specs.Prelude.{◌≡◌, true};
+ghost use Rattle.std.specs.Prelude.{◌≡◌, true, Err};
 ghost use Rattle.board.specs.Board.{BoardFits, sound, exact_deadline};
-ghost use Rattle.board.specs.Calls.{refusal_of, answer_of, flag_at, member_at, advance_by, host_time_to};
+ghost use Rattle.board.specs.Calls.{refusal_of, answer_of, advance_by, host_time_to};
 ghost use Rattle.board.specs.Calls.{host_time_refusal, address_refusal, advanced_board, skip_length, source_refusal};
-ghost use Rattle.board.specs.CodeCalls.{answered, no_members, byte_members, advance_members, deadline_members};
-ghost use Rattle.board.specs.CodeCalls.{skip_members, output_members, deadline_given, length_given, matches_given};
-ghost use Rattle.board.specs.Demand.{Promise, SkipPromise};
+ghost use Rattle.board.specs.Answers.{answered, no_members, byte_members, advance_members, deadline_members};
+ghost use Rattle.board.specs.Answers.{skip_members, output_members};
+ghost use Rattle.board.specs.CodeCalls.{deadline_given, length_given, matches_given};
+ghost use Rattle.board.specs.Demand.{DeadlinePromise, SkipPromise};
 ghost use Rattle.board.specs.Refusals.{refusal_code};
 
 use crate::Board;
@@ -80,28 +81,24 @@ impl Board {
 
     // ---- what a call computes of a sound board
 
-    fn advanced(self, cycles: Cycles) -> Moved
+    fn advanced(mut self, cycles: Cycles) -> Moved
         requires { sound self ≡ true }
         ensures { (result.board ≡ advanced_board cycles.0 self)
             × (result.matches ≡ matches_given self.timer_enable cycles.0 self.timers) }
     {
-        let mut b = self;
-        let timers = b.timers;
-        let timer_enable = b.timer_enable;
-        let moved = advance_all(timers, timer_enable, cycles);
-        let after = moved.timers;
-        b.timers = after;
-        let clock = b.clock;
-        let later = clock.advance(cycles);
-        b.clock = later;
+        let moved = advance_all(self.timers, self.timer_enable, cycles);
+        let timers = moved.timers;
         let matches = moved.matches;
+        self.timers = timers;
+        self.clock = self.clock.advance(cycles);
         Moved {
-            board: b.wired(),
+            board: self.wired(),
             matches,
         }
     }
 
     // The members of the deadline's answer, or none without a deadline.
+    #[tactic(auto, using(wide::proofs::Forms::value_wide))]
     pub fn deadline_members(self) -> Option<DeadlineGiven>
         requires { sound self ≡ true }
         ensures { result ≡ deadline_given (exact_deadline self) }
@@ -117,12 +114,12 @@ impl Board {
 
     // The cycles of a skip's advance: those of the deadline, or none with the line high or no deadline. A deadline
     // above the largest word is refused. On a sound board the level of source 3 is the line.
+    #[tactic(auto, using(crate::proofs::Soundness::sound_line, wide::proofs::TwoWords::at_most_is))]
     pub fn skip_length(self) -> Result<Option<Cycles>, Refusal>
         requires { sound self ≡ true }
         ensures { result ≡ length_given (skip_length self) }
     {
-        let controller = self.controller;
-        if controller::level_of(controller, Self::LINE_SOURCE) {
+        if controller::level_of(self.controller, Self::LINE_SOURCE) {
             return Ok(None);
         }
         let Some(exact) = self.exact_deadline() else {
@@ -148,36 +145,40 @@ impl Board {
         Err(Refusal::NotSound)
     }
 
+    // The answer of a call that is refused on this board.
+    pub fn refused<T>(self, refusal: Refusal) -> Answered<T>
+        ensures { result ≡ record { board = self; answer = Err refusal } }
+    {
+        Answered {
+            board: self,
+            answer: Err(refusal),
+        }
+    }
+
+    #[tactic(auto, using(crate::proofs::Answers::answer_laws))]
     pub fn host_time(self, host: HostTime) -> Answered<()>
         ensures { answered no_members result ≡ answer_of (host_time_to host) self }
     {
         if let Err(refusal) = self.check_sound().and(check_host_time(host)) {
-            return Answered {
-                board: self,
-                answer: Err(refusal),
-            };
+            return self.refused(refusal);
         }
-        let clock = self.clock;
-        let board = self.with_clock(clock.with_host(host)).wired();
         Answered {
-            board,
+            board: self.with_clock(self.clock.with_host(host)).wired(),
             answer: Ok(()),
         }
     }
 
+    #[tactic(auto, using(crate::proofs::Answers::advance_laws), unfolding(crate::specs::Calls::advanced_board))]
     pub fn advance(self, cycles: Cycles) -> Answered<Advance>
         ensures { answered advance_members result ≡ answer_of (advance_by cycles.0) self }
     {
         if let Err(refusal) = self.check_sound() {
-            return Answered {
-                board: self,
-                answer: Err(refusal),
-            };
+            return self.refused(refusal);
         }
         let moved = self.advanced(cycles);
         let board = moved.board;
-        let matches = moved.matches;
         let line = board.line();
+        let matches = moved.matches;
         Answered {
             board,
             answer: Ok(Advance { line, matches }),
@@ -187,14 +188,10 @@ impl Board {
     // The deadline, with its promise.
     pub fn deadline(self) -> Answered<Option<DeadlineGiven>>
         ensures value { answered deadline_members result ≡ answer_of Call.Deadline self }
-        ensures promise { Promise self (flag_at 0 (answered deadline_members result)) (member_at 1 (answered deadline_members result))
-            (member_at 2 (answered deadline_members result)) }
+        ensures promise { DeadlinePromise self (answered deadline_members result) }
     {
         if let Err(refusal) = self.check_sound() {
-            return Answered {
-                board: self,
-                answer: Err(refusal),
-            };
+            return self.refused(refusal);
         }
         Answered {
             board: self,
@@ -208,101 +205,79 @@ impl Board {
         ensures skip_promise { SkipPromise self (answered skip_members result) }
     {
         if let Err(refusal) = self.check_sound() {
-            return Answered {
-                board: self,
-                answer: Err(refusal),
-            };
+            return self.refused(refusal);
         }
         match self.skip_length() {
             Ok(Some(passed)) => {
-                let moved = self.advanced(passed);
-                let board = moved.board;
+                let board = self.advanced(passed).board;
                 let line = board.line();
                 Answered {
                     board,
                     answer: Ok(Skip { passed, line }),
                 }
             }
-            Ok(None) => {
-                let passed = Cycles(0);
-                let line = self.line();
-                Answered {
-                    board: self,
-                    answer: Ok(Skip { passed, line }),
-                }
-            }
-            Err(refusal) => Answered {
+            Ok(None) => Answered {
                 board: self,
-                answer: Err(refusal),
+                answer: Ok(Skip {
+                    passed: Cycles(0),
+                    line: self.line(),
+                }),
             },
+            Err(refusal) => self.refused(refusal),
         }
     }
 
+    #[tactic(auto, using(crate::proofs::Answers::answer_laws))]
     pub fn source(self, number: SourceNumber, level: u8) -> Answered<()>
         ensures { answered no_members result ≡ answer_of (Call.Source number.0 level) self }
     {
         if let Err(refusal) = self.check_sound().and(check_source(number, level)) {
-            return Answered {
-                board: self,
-                answer: Err(refusal),
-            };
+            return self.refused(refusal);
         }
-        let controller = self.controller;
-        let set = controller::with_source(controller, number, level == 1);
-        let board = self.with_controller(set).wired();
+        let set = controller::with_source(self.controller, number, level == 1);
         Answered {
-            board,
+            board: self.with_controller(set).wired(),
             answer: Ok(()),
         }
     }
 
+    #[tactic(auto, using(crate::proofs::Answers::answer_laws))]
     pub fn controller_read(self, address: u32) -> Answered<u8>
         ensures { answered byte_members result ≡ answer_of (Call.ControllerRead address) self }
     {
         if let Err(refusal) = self.check_sound() {
-            return Answered {
-                board: self,
-                answer: Err(refusal),
-            };
+            return self.refused(refusal);
         }
-        let controller = self.controller;
         Answered {
             board: self,
-            answer: Ok(controller::read_of(controller, address)),
+            answer: Ok(controller::read_of(self.controller, address)),
         }
     }
 
+    #[tactic(auto, using(crate::proofs::Answers::answer_laws))]
     pub fn controller_write(self, address: u32, value: u8) -> Answered<()>
         ensures { answered no_members result ≡ answer_of (Call.ControllerWrite value address) self }
     {
         if let Err(refusal) = self.check_sound() {
-            return Answered {
-                board: self,
-                answer: Err(refusal),
-            };
+            return self.refused(refusal);
         }
-        let controller = self.controller;
-        let set = controller::written(controller, address, value);
-        let board = self.with_controller(set).wired();
+        let set = controller::written(self.controller, address, value);
         Answered {
-            board,
+            board: self.with_controller(set).wired(),
             answer: Ok(()),
         }
     }
 
+    #[tactic(auto, using(crate::proofs::Answers::answer_laws))]
     pub fn output(self) -> Answered<IrqOutput>
         ensures { answered output_members result ≡ answer_of Call.Output self }
     {
         if let Err(refusal) = self.check_sound() {
-            return Answered {
-                board: self,
-                answer: Err(refusal),
-            };
+            return self.refused(refusal);
         }
-        let controller = self.controller;
         Answered {
             board: self,
-            answer: Ok(controller::output_of(controller)),
+            answer: Ok(controller::output_of(self.controller)),
         }
     }
 }
@@ -337,7 +312,7 @@ pub fn check_source(number: SourceNumber, level: u8) -> Result<(), Refusal>
     if 15 < number.0 {
         return Err(Refusal::SourceTooLarge);
     }
-    if number.0 == Board::LINE_SOURCE.0 {
+    if number == Board::LINE_SOURCE {
         return Err(Refusal::SourceOfLine);
     }
     if 1 < level {

@@ -13,9 +13,9 @@ impl Board {
         requires { sound self ≡ true }
         ensures { number_of result ≡ exact_deadline self }
     {
-        let timers = self.timers;
-        let timer_enable = self.timer_enable;
-        let clock = self.clock;
-        sooner(soonest(timers, timer_enable), clock.deadline())
+        sooner(
+            soonest(self.timers, self.timer_enable),
+            self.clock.deadline(),
+        )
     }
 }

@@ -48,8 +48,7 @@ impl Board {
         requires { number.0 < 4 }
         ensures { result ≡ with_channel number.0 timer self }
     {
-        let i = number.0 as usize;
-        self.timers[i] = timer;
+        self.timers[usize::from(number.0)] = timer;
         self
     }
 }

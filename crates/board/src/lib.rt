@@ -4,7 +4,7 @@
 ghost use Rattle.std.specs.Prelude.{◌≡◌};
 ghost use Rattle.board.specs.Fields.{fresh_board_at, fresh_board};
 ghost use Rattle.board.specs.Calls.{fresh_of};
-ghost use Rattle.board.specs.CodeCalls.{answered, no_members};
+ghost use Rattle.board.specs.Answers.{answered, no_members};
 
 use crate::calls::Answered;
 use crate::refusal::Refusal;
@@ -66,6 +66,7 @@ impl Board {
     }
 
     // A fresh board at a rate. A rate that no sound board has is refused, and the board is then that of `fresh`.
+    #[tactic(auto, unfolding(crate::specs::Calls::fresh_of))]
     pub fn fresh_at(rate: u32) -> Answered<()>
         ensures { answered no_members result ≡ fresh_of rate }
     {
@@ -85,23 +86,16 @@ impl Board {
     fn fresh_with(rate: u32) -> Self
         ensures { result ≡ fresh_board_at rate }
     {
-        let t = HardwareTimer::fresh();
-        let timers = [t; 4];
-        let l = CountLatch { high: None };
-        let counts = [l; 4];
-        let latches = Latches {
-            counts,
-            low: None,
-            high: None,
-        };
-        let clock = Clock::fresh_at(rate);
-        let controller = IrqController::new();
         Board {
-            timers,
+            timers: [HardwareTimer::fresh(); Self::CHANNELS],
             timer_enable: 0,
-            clock,
-            latches,
-            controller,
+            clock: Clock::fresh_at(rate),
+            latches: Latches {
+                counts: [CountLatch { high: None }; Self::CHANNELS],
+                low: None,
+                high: None,
+            },
+            controller: IrqController::new(),
         }
     }
 }

@@ -13,17 +13,14 @@ impl Board {
     pub fn line(self) -> bool
         ensures { result ≡ line self }
     {
-        let timers = self.timers;
-        let clock = self.clock;
-        any_asserted(timers) | clock.line()
+        any_asserted(self.timers) | self.clock.line()
     }
 
     // The controller with source 3 set to `line`.
     pub fn controller_wired(self, line: bool) -> IrqController
         ensures { result ≡ source_set self.controller 3 line }
     {
-        let controller = self.controller;
-        controller::with_source(controller, Self::LINE_SOURCE, line)
+        controller::with_source(self.controller, Self::LINE_SOURCE, line)
     }
 
     // The end of an accepted call: source 3 is set to the line.

@@ -7,16 +7,14 @@ use crate::channels::all_sound;
 use clock::rates::sound_rate;
 
 impl Board {
+    #[tactic(auto, using(crate::proofs::Soundness::latches_sound), unfolding(crate::specs::Board::sound_parts))]
     fn sound_parts(self) -> bool
         ensures { result ≡ sound_parts self }
     {
-        let timers = self.timers;
-        let timer_enable = self.timer_enable;
-        let clock = self.clock;
-        all_sound(timers)
-            & (timer_enable < Self::TIMER_ENABLE_VALUES)
-            & sound_rate(clock.rate)
-            & clock.sound()
+        all_sound(self.timers)
+            & (self.timer_enable < Self::TIMER_ENABLE_VALUES)
+            & sound_rate(self.clock.rate)
+            & self.clock.sound()
     }
 
     // Whether the board is sound. The contract also says that every field is within its width, which the promise of the
@@ -24,8 +22,7 @@ impl Board {
     pub fn sound(self) -> bool
         ensures { (result ≡ sound self) × BoardFits self }
     {
-        let controller = self.controller;
-        let level = controller::level_of(controller, Self::LINE_SOURCE);
+        let level = controller::level_of(self.controller, Self::LINE_SOURCE);
         self.sound_parts() & (level == self.line())
     }
 }

@@ -151,5 +151,12 @@ module _ (selected : Bool) (c : ℕ) (h : HardwareTimer) where
   unfolding advanced
   still-matches r = unmet-by (mode_of h.control) (advanced selected c) h (rw r)
 
--- the two cases of a channel that may run
-pub ruleset run_matches = (ran_matches, still-matches)
+-- ---- the laws of one function's branches, for its proof
+
+pub ruleset one_shot_laws = (one_shot_past, one_shot_reached, one_shot_ahead)
+
+pub ruleset matched_laws = (matched_past, matched_ahead)
+
+pub ruleset free_laws = (free_met, free_unmet)
+
+pub ruleset run_laws = (ran_matches, still-matches)

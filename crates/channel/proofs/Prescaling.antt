@@ -1,7 +1,7 @@
 -- Laws of the prescaler: the code's quotients are the rule's, and ticks as cycles. Assumes nothing.
 use Rattle.std.proofs.Common.{◌≡◌, ℕ, zero, suc, ◌+◌, ◌-◌, ◌*◌, ◌/◌, ◌%◌, ◌^◌, ◌<◌, ◌≤◌, ltb, leb, ◌↔◌, sym, refl, ap}
-use Rattle.std.proofs.Common.{◌∙◌, lt_of_lt_of_le, le_of_lt, mod-lt, mod-eq_of_lt, mul-le-mul, le-div_iff_mul-le}
-use Rattle.std.proofs.Common.{zero-add, div-le_self, div-one, sub-one, arith, lit≤, le-ltb, lt-ltb, leb-false}
+use Rattle.std.proofs.Common.{◌∙◌, lt_of_lt_of_le, le_of_lt, mod-eq_of_lt, mul-le-mul, le-div_iff_mul-le}
+use Rattle.std.proofs.Common.{div-le_self, sub-one, arith, lit≤, le-ltb, lt-ltb, leb-false}
 use Rattle.std.proofs.Common.{leb-true}
 use mathlib.Core.Option.{Option, none, some}
 use native.Mathlib.Nat.{add-div_right, add-mod_right, div-eq_of_lt, mod-one}
@@ -19,12 +19,6 @@ at_most_is a b =
 -- with prescaler n = 0 the phase becomes 0, whatever phase p was
 pub by_one : (n p c : ℕ) → n ≡ 0 → 0 ≡ (p + c) % (n + 1)
 by_one n p c e = rw e (sym (mod-one (p + c)))
-
--- and with phase p = 0 each of c cycles is a tick
-pub each_is : (n p c : ℕ) → n ≡ 0 → p ≤ n → c ≡ (p + c) / (n + 1)
-each_is n p c e h =
-    let z : p ≡ 0 = omega arith in
-    rw (e, z, zero-add c) (sym (div-one c))
 
 -- v is the divisor, p the phase and c the cycles
 module _ (v p c : ℕ) where
@@ -44,9 +38,6 @@ module _ (v p c : ℕ) where
 
   pub later-fits : p < v → v - p ≤ c → c < 2 ^ 64 → (c - (v - p)) / v + 1 < 2 ^ 64
   later-fits h k f = omega (arith, div-le_self (c - (v - p)) v)
-
-  pub rest-fits : p < v → v ≤ 2 ^ 32 → (c - (v - p)) % v < 2 ^ 32
-  rest-fits h f = lt_of_lt_of_le (mod-lt (c - (v - p)) (omega arith)) f
 
   -- the cycles of c ticks and one more are at most 2^96
   pub cycles-fit : v ≤ 2 ^ 32 → c < 2 ^ 64 → v - p + c * v < 2 ^ 128

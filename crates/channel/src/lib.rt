@@ -14,11 +14,11 @@ mod prescaler;
 mod timer_registers;
 
 // Cycles of the master clock. Only a channel's prescaler converts them to ticks.
-#[derive(Clone, Copy)]
+#[derive(Clone, Copy, PartialEq, Eq, PartialOrd, Ord)]
 pub struct Cycles(pub u64);
 
 // Ticks of a channel, which its prescaler gives.
-#[derive(Clone, Copy)]
+#[derive(Clone, Copy, PartialEq, Eq, PartialOrd, Ord)]
 pub struct Ticks(pub u64);
 
 // A channel after an advance, and how many compare points the advance met, at most 2^64.
@@ -29,7 +29,7 @@ pub struct Advanced {
 }
 
 // A channel's number on the board, 0 to 3.
-#[derive(Clone, Copy)]
+#[derive(Clone, Copy, PartialEq, Eq, PartialOrd, Ord)]
 pub struct ChannelNumber(pub u8);
 
 impl ChannelNumber {
@@ -40,11 +40,7 @@ impl ChannelNumber {
     pub fn selected(self, timer_enable: u8) -> bool
         ensures { result ≡ bit self.0 timer_enable }
     {
-        let n = self.0;
-        if Self::TIMER_ENABLE_BITS <= n {
-            return false;
-        }
-        (timer_enable >> n) % 2 == 1
+        self.0 < Self::TIMER_ENABLE_BITS && (timer_enable >> self.0) % 2 == 1
     }
 }
 
@@ -62,7 +58,7 @@ pub struct HardwareTimer {
     pub reload: u64,
 }
 
-// What ticks do to a channel.
+// What ticks do to a channel, by bits 0 and 1 of its control. An idle one they leave as it is.
 #[derive(Clone, Copy, PartialEq, Eq)]
 pub enum Mode {
     OneShot,
@@ -117,6 +113,7 @@ impl HardwareTimer {
         }
     }
 
+    // The channel's mode, from control.
     pub fn mode(self) -> Mode
         ensures { mode_number result ≡ mode_of self.control }
     {

@@ -40,7 +40,7 @@ impl HardwareTimer {
         }
     }
 
-    #[tactic(auto, using(crate::proofs::Counting::one_shot_past, crate::proofs::Counting::one_shot_reached, crate::proofs::Counting::one_shot_ahead), unfolding(crate::specs::Modes::one_shot))]
+    #[tactic(auto, using(crate::proofs::Counting::one_shot_laws), unfolding(crate::specs::Modes::one_shot))]
     fn advance_one_shot(mut self, ticks: Ticks) -> Advanced
         ensures { (result.timer ≡ one_shot ticks.0 self)
             × (value_of result.matches ≡ matches_in 0 (one_shot ticks.0) self) }
@@ -82,7 +82,7 @@ impl HardwareTimer {
         self.met(periods)
     }
 
-    #[tactic(auto, using(crate::proofs::Counting::matched_past, crate::proofs::Counting::matched_ahead), unfolding(crate::specs::Modes::matched))]
+    #[tactic(auto, using(crate::proofs::Counting::matched_laws), unfolding(crate::specs::Modes::matched))]
     fn matched(self) -> Advanced
         ensures { (result.timer ≡ matched self) × (value_of result.matches ≡ matches_in 1 matched self) }
     {
@@ -113,7 +113,7 @@ impl HardwareTimer {
         (distance != 0) & (distance <= ticks.0)
     }
 
-    #[tactic(auto, using(crate::proofs::Counting::free_met, crate::proofs::Counting::free_unmet), unfolding(crate::specs::Modes::free_running))]
+    #[tactic(auto, using(crate::proofs::Counting::free_laws), unfolding(crate::specs::Modes::free_running))]
     fn advance_free_running(mut self, ticks: Ticks) -> Advanced
         ensures { (result.timer ≡ free_running ticks.0 self)
             × (value_of result.matches ≡ matches_in 2 (free_running ticks.0) self) }

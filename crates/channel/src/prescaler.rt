@@ -61,7 +61,7 @@ impl HardwareTimer {
     }
 
     // The channel after the cycles, before `advance_cycles` rebuilds it field by field.
-    #[tactic(auto, using(crate::proofs::Counting::run_matches), unfolding(crate::specs::Prescaler::advanced))]
+    #[tactic(auto, using(crate::proofs::Counting::run_laws), unfolding(crate::specs::Prescaler::advanced))]
     fn advanced(self, selected: bool, cycles: Cycles) -> Advanced
         requires { self.phase ≤ self.prescaler }
         ensures { (result.timer ≡ advanced selected cycles.0 self)

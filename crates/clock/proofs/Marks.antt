@@ -1,7 +1,7 @@
 -- The mask of a shadow: a bit set. Assumes nothing.
 use Prim.Native.Nat.{ℕ, ◌+◌, ◌-◌, ◌*◌, ◌/◌, ◌%◌, ◌^◌, ◌<◌}
 use mathlib.Core.Path.{◌≡◌, sym, ap, ◌∙◌, subst⁻¹}
-use mathlib.Core.Bool.{true, false}
+use mathlib.Core.Bool.{false}
 use native.Mathlib.Nat.{
   one-mul,
   mod-lt,
@@ -56,19 +56,8 @@ pub marked_fits : (i m : ℕ) → i < 8 → m < 256 → marked i m < 256
 unfolding marked
 marked_fits i m h k = choose (λ n. n < 256) (bit i m) (λ _. k) (λ e. mark_fits i m h k (eqb-false (m / 2 ^ i % 2) 1 e))
 
--- u is the unit of bit i
-module _ (i m u : ℕ) (e : u ≡ 2 ^ i) where
-  pub mark-there : eqb (m / u % 2) 1 ≡ true → m ≡ marked i m
-  unfolding marked
-  mark-there h = rw (rw e at h)
-
-  module _ (h : eqb (m / u % 2) 1 ≡ false) where
-    clear : eqb (m / 2 ^ i % 2) 1 ≡ false
-    clear = rw e at h
-
-    pub mark-new : m + u ≡ marked i m
-    unfolding marked
-    mark-new = rw (clear, e)
-
-    pub mark-room : i < 8 → m < 256 → m + u < 256
-    mark-room p q = rw e (mark_fits i m p q (eqb-false (m / 2 ^ i % 2) 1 clear))
+-- u is the unit of bit i, which is not set
+pub mark-room : (i m u : ℕ) → u ≡ 2 ^ i → eqb (m / u % 2) 1 ≡ false → i < 8 → m < 256 → m + u < 256
+mark-room i m u e h p q =
+    let clear : eqb (m / 2 ^ i % 2) 1 ≡ false = rw e at h in
+    rw e (mark_fits i m p q (eqb-false (m / 2 ^ i % 2) 1 clear))

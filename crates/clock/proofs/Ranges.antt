@@ -4,19 +4,10 @@ use mathlib.Core.Path.{◌≡◌, subst⁻¹}
 use native.Mathlib.Nat.{mod-lt}
 use native.Mathlib.Omega.{arith}
 use Rattle.wide.proofs.Choices.{choose}
-use Rattle.clock.specs.declared.Alarm.{Alarm}
 use Rattle.clock.specs.declared.Shadow.{Shadow}
 use Rattle.clock.specs.declared.Clock.{Clock}
 use Rattle.clock.specs.Clock.{rate_of, nanos_per_second, from_host, host_nanoseconds, time_of, moved_time}
-use Rattle.clock.specs.Fields.{
-  with_control,
-  with_time,
-  with_offset,
-  with_alarm,
-  with_shadow,
-  with_poll,
-  with_alarm_shadow,
-}
+use Rattle.clock.specs.Fields.{with_control, with_time, with_offset, with_shadow}
 use Rattle.clock.specs.Registers.{signed_difference, time_kept, offset_for}
 use Rattle.clock.specs.Sound.{Timed}
 use Rattle.clock.proofs.Cases.{moved-cases, kept-cases}
@@ -45,17 +36,8 @@ module _ (rate : ℕ) (k : Clock) (t : Timed rate k) where
   pub control-timed : (n : ℕ) → Timed rate (with_control n k)
   control-timed n = timed t.own t.subsecond t.offset t.host
 
-  pub alarm-timed : (a : Alarm) → Timed rate (with_alarm a k)
-  alarm-timed a = timed t.own t.subsecond t.offset t.host
-
   pub shadow-timed : (s : Shadow) → Timed rate (with_shadow s k)
   shadow-timed s = timed t.own t.subsecond t.offset t.host
-
-  pub poll-timed : (n : ℕ) → Timed rate (with_poll n k)
-  poll-timed n = timed t.own t.subsecond t.offset t.host
-
-  pub alarm-shadow-timed : (s : Shadow) → Timed rate (with_alarm_shadow s k)
-  alarm-shadow-timed s = timed t.own t.subsecond t.offset t.host
 
   offset-timed : (a b : ℕ) → Timed rate (with_offset (signed_difference a b) k)
   offset-timed a b = timed t.own t.subsecond (signed_small a b) t.host

@@ -1,40 +1,12 @@
 -- Laws of joined tests, of the tests of control and of the alarm check. Assumes nothing.
 use Prim.Native.Nat.{ℕ, ◌≤◌, ◌<◌}
-use mathlib.Core.Path.{◌≡◌, refl, sym, ◌∙◌}
-use mathlib.Core.Bool.{Bool, true, false, not, ◌&&◌, ◌||◌, false≢true}
+use mathlib.Core.Path.{◌≡◌, refl, sym}
+use mathlib.Core.Bool.{Bool, true, false, not, ◌&&◌, ◌||◌}
 use lib.Dec.{leb, ltb}
 use borrow.Author.Tests.{leb-true, leb-false, not-true}
 use Rattle.wide.proofs.Choices.{and_parts}
 use Rattle.clock.specs.declared.Clock.{Clock}
 use Rattle.clock.specs.Clock.{enabled, realtime, from_host, own_time, time_seconds, alarm_reached, polls}
-
--- a conjunction with each side replaced by what it is
-pub and_is : {r a b x y : Bool} → r ≡ (a && b) → a ≡ x → b ≡ y → r ≡ (x && y)
-and_is e p q = e ∙ rw (p, q)
-
--- the same where the first side is what it is
-pub and_after : (a : Bool) {r b y : Bool} → r ≡ (a && b) → b ≡ y → r ≡ (a && y)
-and_after a e q = e ∙ rw q
-
--- a test of both, told to be t
-pub both_told : {r a b x y t : Bool} → r ≡ (a && b) → a ≡ x → b ≡ y → r ≡ t → (x && y) ≡ t
-both_told e p q h = sym (and_is e p q) ∙ h
-
-pub and_told : (a : Bool) {r b y t : Bool} → r ≡ (a && b) → b ≡ y → r ≡ t → (a && y) ≡ t
-and_told a e q h = sym (and_after a e q) ∙ h
-
--- a conjunction whose first three sides are tested ahead of the fourth
-pub and_last : (a b c d : Bool) → (a && (b && c)) ≡ true → d ≡ (a && (b && (c && d)))
-and_last true true true d e = refl
-and_last true true false d e = absurd (false≢true e)
-and_last true false c d e = absurd (false≢true e)
-and_last false b c d e = absurd (false≢true e)
-
-pub and_early : (a b c d : Bool) → (a && (b && c)) ≡ false → false ≡ (a && (b && (c && d)))
-and_early true true true d e = absurd (false≢true (sym e))
-and_early true true false d e = refl
-and_early true false c d e = refl
-and_early false b c d e = refl
 
 pub and-false : (a : Bool) → (a && false) ≡ false
 and-false true = refl

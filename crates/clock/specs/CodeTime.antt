@@ -1,9 +1,9 @@
 -- Not document 01's sentences: the code's durations and times in nanoseconds, and the periods that it divides by.
-use Rattle.std.specs.Prelude.{ℕ, ◌*◌, ◌<◌, ◌≡◌, Bool, ◌||◌}
+use Rattle.std.specs.Prelude.{ℕ, ◌*◌, Bool, ◌||◌}
 use Rattle.wide.specs.Number.{value_of}
 use Rattle.clock.specs.declared.time.Duration.{Duration}
 use Rattle.clock.specs.declared.time.Time.{Time}
-use Rattle.clock.specs.Clock.{nanos_per_second, in_nanoseconds}
+use Rattle.clock.specs.Clock.{in_nanoseconds}
 use Rattle.clock.specs.Sound.{sound_rate}
 
 abbrev pub duration_of : Duration → ℕ
@@ -11,16 +11,6 @@ duration_of d = in_nanoseconds d.seconds d.nanoseconds
 
 abbrev pub moment_of : Time → ℕ
 moment_of t = in_nanoseconds (value_of t.seconds) t.nanoseconds
-
--- the duration is n nanoseconds, its field of nanoseconds less than a second
-pub record DurationIs (n : ℕ) (d : Duration) : Type 0 where
-  pub total : duration_of d ≡ n
-  pub small : d.nanoseconds < nanos_per_second
-
--- the time is n nanoseconds, its field of nanoseconds less than a second
-pub record TimeIs (n : ℕ) (t : Time) : Type 0 where
-  pub total : moment_of t ≡ n
-  pub small : t.nanoseconds < nanos_per_second
 
 -- the cycles of a second of a sound board, or a thousandth of them
 unfoldable pub is_period : ℕ → Bool

@@ -8,7 +8,6 @@ ghost use Rattle.clock.specs.CodeTime.{is_period};
 use crate::rates::{Periods, divided};
 use crate::{Alarm, Clock, from_host, has_bit, own_time};
 use channel::Cycles;
-use wide::flags::both;
 
 // The whole periods in `part` and the cycles together, and the remainder. Their sum may exceed a word, so it is formed
 // only where the cycles are fewer than a period.
@@ -36,51 +35,42 @@ fn elapsed(part: u32, cycles: Cycles, period: u64) -> Periods
 }
 
 impl Clock {
+    #[tactic(auto, unfolding(crate::specs::Clock::alarm_reached))]
     fn alarm_reached(self) -> bool
         requires { Timed (rate_of self) self }
         ensures { result ≡ alarm_reached (rate_of self) self }
     {
-        let alarm = self.alarm.seconds;
-        let armed = self.alarm.armed;
-        let pending = self.alarm.pending;
-        let waits = both(armed, !pending);
         // The time is computed only where an alarm waits for it.
-        if both(has_bit(self.control, Self::ENABLE), waits) {
-            return alarm <= self.time_seconds();
-        }
-        false
+        let waits = has_bit(self.control, Self::ENABLE) & self.alarm.armed & !self.alarm.pending;
+        waits && self.alarm.seconds <= self.time_seconds()
     }
 
+    #[tactic(auto, unfolding(crate::specs::Clock::check_alarm))]
     pub fn check_alarm(self) -> Self
         requires { Timed (rate_of self) self }
         ensures { result ≡ check_alarm (rate_of self) self }
     {
-        let enable = self.alarm.enable;
-        let seconds = self.alarm.seconds;
         if self.alarm_reached() {
             return self.with_alarm(Alarm {
-                enable,
-                seconds,
                 pending: true,
                 armed: false,
+                ..self.alarm
             });
         }
         self
     }
 
+    #[tactic(auto, unfolding(crate::specs::Clock::moved_time))]
     fn moved_time(self, cycles: Cycles) -> Self
         requires { Timed (rate_of self) self }
         ensures { result ≡ moved_time (rate_of self) cycles.0 self }
     {
-        let seconds = self.seconds;
-        if both(own_time(self.control), 0 < cycles.0) {
+        if own_time(self.control) & (0 < cycles.0) {
             let e = elapsed(self.subsecond, cycles, self.rate());
-            let whole = e.whole;
-            let rest = e.rest;
-            if u64::MAX - seconds < whole {
-                return self.with_time(u64::MAX, 0);
-            }
-            return self.with_time(seconds + whole, rest as u32);
+            return match self.seconds.checked_add(e.whole) {
+                Some(seconds) => self.with_time(seconds, e.rest as u32),
+                None => self.with_time(u64::MAX, 0),
+            };
         }
         self
     }
@@ -92,28 +82,26 @@ impl Clock {
         ensures { result ≡ polled (rate_of self) (self.poll + cycles.0) self }
     {
         let e = elapsed(self.poll, cycles, self.poll_limit());
-        let whole = e.whole;
-        let rest = e.rest;
-        let k = self.with_poll(rest as u32);
-        if whole == 0 {
+        let k = self.with_poll(e.rest as u32);
+        if e.whole == 0 {
             return k;
         }
         k.check_alarm()
     }
 
+    #[tactic(auto, unfolding(crate::specs::Clock::end_advance))]
     fn end_advance(self, cycles: Cycles) -> Self
         requires { Timed (rate_of self) self }
         ensures { result ≡ end_advance (rate_of self) cycles.0 self }
     {
-        let armed = self.alarm.armed;
-        let pending = self.alarm.pending;
-        let waits = both(armed, both(!pending, 0 < cycles.0));
-        if both(from_host(self.control), waits) {
+        let waits = self.alarm.armed & !self.alarm.pending & (0 < cycles.0);
+        if from_host(self.control) & waits {
             return self.polled(cycles);
         }
         self.with_poll(0).check_alarm()
     }
 
+    #[tactic(auto, unfolding(crate::specs::Clock::advance_clock))]
     pub fn advance(self, cycles: Cycles) -> Self
         requires { Timed (rate_of self) self }
         ensures { result ≡ advance_clock (rate_of self) cycles.0 self }

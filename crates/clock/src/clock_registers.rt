@@ -8,9 +8,9 @@ ghost use Rattle.clock.specs.Sound.{Timed};
 
 use crate::time::Duration;
 use crate::{Alarm, Clock, Shadow, from_host, has_bit};
-use wide::flags::{both, pair};
 
 // The mask with the bit of a byte set.
+#[tactic(auto, unfolding(crate::specs::Registers::marked))]
 fn marked(mask: u8, byte: usize) -> u8
     requires { byte < 8 }
     ensures { result ≡ marked byte mask }
@@ -24,6 +24,7 @@ fn marked(mask: u8, byte: usize) -> u8
 
 impl Shadow {
     // The shadow after byte `byte` of the eight is written, 0 the most significant.
+    #[tactic(auto, unfolding(crate::specs::Registers::shadow_byte))]
     fn with_byte(self, byte: usize, value: u8) -> Self
         requires { byte < 8 }
         ensures { result ≡ shadow_byte byte value self }
@@ -37,6 +38,7 @@ impl Shadow {
 
 impl Clock {
     // Where the clock runs from host time, sets the offset that makes the time this many seconds.
+    #[tactic(auto, unfolding(crate::specs::Registers::offset_for))]
     fn offset_for(self, seconds: u64) -> Self
         requires { Timed (rate_of self) self }
         ensures { result ≡ offset_for seconds self }
@@ -51,6 +53,7 @@ impl Clock {
         self
     }
 
+    #[tactic(auto, unfolding(crate::specs::Registers::commit_seconds))]
     fn commit_seconds(self, shadow: Shadow) -> Self
         requires { Timed (rate_of self) self }
         ensures { result ≡ commit_seconds (rate_of self) shadow self }
@@ -61,6 +64,7 @@ impl Clock {
     }
 
     // The clock after byte `byte` of seconds is written, 0 the most significant. Without set enable nothing changes.
+    #[tactic(auto, unfolding(crate::specs::Registers::write_seconds))]
     pub fn write_seconds(self, byte: usize, value: u8) -> Self
         requires { (byte < 8) × Timed (rate_of self) self }
         ensures { result ≡ write_seconds (rate_of self) byte value self }
@@ -75,22 +79,23 @@ impl Clock {
         self
     }
 
+    #[tactic(auto, unfolding(crate::specs::Registers::commit_alarm))]
     fn commit_alarm(self, shadow: Shadow) -> Self
         requires { Timed (rate_of self) self }
         ensures { result ≡ commit_alarm (rate_of self) shadow self }
     {
         let value = shadow.value;
-        let enable = self.alarm.enable;
         let k = self.with_alarm(Alarm {
-            enable,
             seconds: value,
             pending: false,
             armed: true,
+            ..self.alarm
         });
         k.with_alarm_shadow(Shadow { value, mask: 0 }).check_alarm()
     }
 
     // The clock after byte `byte` of the alarm is written, 0 the most significant.
+    #[tactic(auto, unfolding(crate::specs::Registers::write_alarm))]
     pub fn write_alarm(self, byte: usize, value: u8) -> Self
         requires { (byte < 8) × Timed (rate_of self) self }
         ensures { result ≡ write_alarm (rate_of self) byte value self }
@@ -103,24 +108,28 @@ impl Clock {
     }
 
     // The clock after byte `byte` of the alarm's interrupt control is written, 0 the most significant.
+    #[tactic(auto, unfolding(crate::specs::Registers::write_alarm_enable))]
     pub fn write_alarm_enable(self, byte: usize, value: u8) -> Self
         requires { byte < 4 }
         ensures { result ≡ write_alarm_enable byte value self }
     {
-        let mut a = self.alarm;
-        let merged = wide::fields::with_byte(a.enable as u64, 3 - byte, value);
-        a.enable = (merged % Alarm::ENABLE_VALUES as u64) as u8;
-        self.with_alarm(a)
+        let merged = wide::fields::with_byte(self.alarm.enable as u64, 3 - byte, value);
+        self.with_alarm(Alarm {
+            enable: (merged % Alarm::ENABLE_VALUES as u64) as u8,
+            ..self.alarm
+        })
     }
 
     // The clock after byte `byte` of the acknowledge register is written, 0 the most significant.
+    #[tactic(auto, unfolding(crate::specs::Registers::acknowledge))]
     pub fn acknowledge(self, byte: usize, value: u8) -> Self
         ensures { result ≡ acknowledge byte value self }
     {
-        if both(byte == Alarm::ACK_BYTE, has_bit(value, Alarm::ACK)) {
-            let mut a = self.alarm;
-            a.pending = false;
-            return self.with_alarm(a);
+        if (byte == Alarm::ACK_BYTE) & has_bit(value, Alarm::ACK) {
+            return self.with_alarm(Alarm {
+                pending: false,
+                ..self.alarm
+            });
         }
         self
     }
@@ -131,6 +140,6 @@ impl Alarm {
     pub fn status(self) -> u32
         ensures { result ≡ status_word self }
     {
-        pair(self.pending, self.armed)
+        u32::from(self.pending) + 2 * u32::from(self.armed)
     }
 }

@@ -7,7 +7,6 @@ ghost use Rattle.clock.specs.CodeTime.{moment_of};
 
 use crate::time::Time;
 use crate::{Clock, Shadow, from_host, has_bit};
-use wide::flags::both;
 
 // Whether the change from old to new sets seconds and subsecond.
 fn takes_own(new: u8, old: u8) -> bool
@@ -15,7 +14,7 @@ fn takes_own(new: u8, old: u8) -> bool
 {
     let realtime = has_bit(new, Clock::REALTIME);
     if has_bit(new, Clock::ENABLE) {
-        return both(!realtime, has_bit(old, Clock::REALTIME));
+        return !realtime & has_bit(old, Clock::REALTIME);
     }
     has_bit(old, Clock::ENABLE)
 }
@@ -25,16 +24,16 @@ impl Clock {
     fn own_time_set(self, seconds: u64, subsecond: u32) -> Self
         ensures { result ≡ own_time_set seconds subsecond self }
     {
-        let mask = self.shadow.mask;
         let k = self.with_time(seconds, subsecond);
         k.with_shadow(Shadow {
             value: seconds,
-            mask,
+            ..self.shadow
         })
     }
 
+    #[tactic(auto, unfolding(crate::specs::Registers::set_time))]
     fn set_time(self, time: Time) -> Self
-        requires { (time.nanoseconds < nanos_per_second) × (sound_rate (rate_of self) ≡ true) }
+        requires { sound_rate (rate_of self) ≡ true }
         ensures { result ≡ set_time (rate_of self) (moment_of time) self }
     {
         let n = time.nanoseconds as u64;
@@ -50,13 +49,13 @@ impl Clock {
     }
 
     // Keeps the clock's time where the new control reads it: in the offset, or in seconds and subsecond.
+    #[tactic(auto, unfolding(crate::specs::Registers::time_kept))]
     fn time_kept(self, new: u8) -> Self
         requires { Timed (rate_of self) self }
         ensures { result ≡ time_kept (rate_of self) new self }
     {
         let old = self.control;
-        let before = from_host(old);
-        if both(from_host(new), !before) {
+        if from_host(new) & !from_host(old) {
             return self.with_offset(self.own_duration().since(self.host));
         }
         if takes_own(new, old) {
@@ -65,6 +64,7 @@ impl Clock {
         self
     }
 
+    #[tactic(auto, unfolding(crate::specs::Registers::change_control))]
     fn change_control(self, new: u8) -> Self
         requires { Timed (rate_of self) self }
         ensures { result ≡ change_control (rate_of self) new self }
@@ -73,6 +73,7 @@ impl Clock {
     }
 
     // The clock after byte `byte` of the control register is written, 0 the most significant.
+    #[tactic(auto, unfolding(crate::specs::Registers::write_control))]
     pub fn write_control(self, byte: usize, value: u8) -> Self
         requires { (byte < 4) × Timed (rate_of self) self }
         ensures { result ≡ write_control (rate_of self) byte value self }

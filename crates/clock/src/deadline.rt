@@ -5,7 +5,6 @@ ghost use Rattle.clock.specs.Clock.{rate_of};
 ghost use Rattle.clock.specs.Deadline.{clock_line, awaited, clock_deadline};
 
 use crate::{Alarm, Clock, has_bit, own_time};
-use wide::flags::both;
 use wide::number::Wide;
 
 impl Clock {
@@ -13,26 +12,19 @@ impl Clock {
     pub fn line(self) -> bool
         ensures { result ≡ clock_line self }
     {
-        let pending = self.alarm.pending;
-        let enable = self.alarm.enable;
-        both(pending, has_bit(enable, Alarm::IRQ_ENABLE))
+        self.alarm.pending & has_bit(self.alarm.enable, Alarm::IRQ_ENABLE)
     }
 
     // Whether cycles will bring the alarm's interrupt.
     fn awaited(self) -> bool
         ensures { result ≡ awaited self }
     {
-        let pending = self.alarm.pending;
-        let armed = self.alarm.armed;
-        let enable = self.alarm.enable;
-        let waits = both(armed, !pending);
-        both(
-            own_time(self.control),
-            both(has_bit(enable, Alarm::IRQ_ENABLE), waits),
-        )
+        let waits = self.alarm.armed & !self.alarm.pending;
+        own_time(self.control) & has_bit(self.alarm.enable, Alarm::IRQ_ENABLE) & waits
     }
 
     // The cycles until the alarm's interrupt, or none.
+    #[tactic(auto, using(crate::proofs::Branches::second_ahead), unfolding(crate::specs::Deadline::clock_deadline))]
     pub fn deadline(self) -> Option<Wide>
         requires { self.subsecond < rate_of self }
         ensures { number_of result ≡ clock_deadline (rate_of self) self }

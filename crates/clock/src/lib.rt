@@ -7,8 +7,6 @@ ghost use Rattle.clock.specs.Fields.{with_poll, with_alarm_shadow, with_host};
 ghost use Rattle.clock.specs.Fields.{fresh_clock_at};
 ghost use Rattle.clock.specs.Clock.{rate_of, poll_limit, from_host, own_time};
 
-use wide::flags::both;
-
 pub mod advance;
 pub mod clock_registers;
 pub mod control;
@@ -73,18 +71,14 @@ fn has_bit(n: u8, unit: u8) -> bool
 pub fn from_host(control: u8) -> bool
     ensures { result ≡ from_host control }
 {
-    both(
-        has_bit(control, Clock::ENABLE),
-        has_bit(control, Clock::REALTIME),
-    )
+    has_bit(control, Clock::ENABLE) & has_bit(control, Clock::REALTIME)
 }
 
 // Whether cycles move a clock with this control.
 fn own_time(control: u8) -> bool
     ensures { result ≡ own_time control }
 {
-    let realtime = has_bit(control, Clock::REALTIME);
-    both(has_bit(control, Clock::ENABLE), !realtime)
+    has_bit(control, Clock::ENABLE) & !has_bit(control, Clock::REALTIME)
 }
 
 impl Alarm {

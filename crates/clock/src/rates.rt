@@ -4,7 +4,6 @@ ghost use Rattle.clock.specs.Sound.{sound_rate};
 ghost use Rattle.clock.specs.CodeTime.{is_period};
 
 use crate::Clock;
-use wide::flags::either;
 
 // The periods of a sound board in cycles: a second, and the time between two polls, at each rate.
 const SECOND_48_MHZ: u64 = Clock::RATE as u64;
@@ -20,13 +19,11 @@ const POLL_12_MHZ: u64 = SECOND_12_MHZ / Clock::POLLS_PER_SECOND;
 const POLL_1_MHZ: u64 = SECOND_1_MHZ / Clock::POLLS_PER_SECOND;
 
 // Whether a sound board may have this rate.
+#[tactic(auto, unfolding(crate::specs::Sound::sound_rate))]
 pub fn sound_rate(rate: u32) -> bool
     ensures { result ≡ sound_rate rate }
 {
-    either(
-        rate == Clock::RATE_1_MHZ,
-        either(rate == Clock::RATE_12_MHZ, rate == Clock::RATE),
-    )
+    (rate == Clock::RATE_1_MHZ) | (rate == Clock::RATE_12_MHZ) | (rate == Clock::RATE)
 }
 
 // Whole periods, and the remainder.

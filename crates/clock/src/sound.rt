@@ -4,75 +4,52 @@ ghost use Rattle.clock.specs.Clock.{rate_of};
 ghost use Rattle.clock.specs.Sound.{sound_offset, sound_alarm, sound_fields, alarm_ahead, sound_clock};
 
 use crate::{Alarm, Clock, Offset, Shadow, own_time};
-use wide::flags::both;
 
 impl Offset {
+    #[tactic(auto, unfolding(crate::specs::Sound::sound_offset))]
     fn sound(self) -> bool
         ensures { result ≡ sound_offset self }
     {
-        let negative = self.negative;
-        let seconds = self.seconds;
-        let nanoseconds = self.nanoseconds;
-        let zero = both(seconds == 0, nanoseconds == 0);
-        let negative_zero = both(negative, zero);
-        both(nanoseconds < Clock::NANOS_PER_SECOND, !negative_zero)
+        let zero = (self.seconds == 0) & (self.nanoseconds == 0);
+        (self.nanoseconds < Clock::NANOS_PER_SECOND) & !(self.negative & zero)
     }
 }
 
 impl Alarm {
+    #[tactic(auto, unfolding(crate::specs::Sound::sound_alarm))]
     fn sound(self) -> bool
         ensures { result ≡ sound_alarm self }
     {
-        let enable = self.enable;
-        let twice = both(self.pending, self.armed);
-        both(enable < Self::ENABLE_VALUES, !twice)
+        (self.enable < Self::ENABLE_VALUES) & !(self.pending & self.armed)
     }
 }
 
 impl Clock {
+    #[tactic(auto, unfolding(crate::specs::Sound::sound_fields))]
     fn sound_parts(self) -> bool
         ensures { result ≡ sound_fields (rate_of self) self }
     {
-        let control = self.control;
-        let subsecond = self.subsecond as u64;
-        let mask = self.shadow.mask;
-        let poll = self.poll as u64;
-        let alarm_mask = self.alarm_shadow.mask;
-        let nanoseconds = self.host.nanoseconds;
-        let shadows = both(
-            mask < Shadow::FULL,
-            both(
-                poll < self.poll_limit(),
-                both(
-                    alarm_mask < Shadow::FULL,
-                    nanoseconds < Self::NANOS_PER_SECOND,
-                ),
-            ),
-        );
-        both(
-            control < Self::CONTROL_VALUES,
-            both(
-                subsecond < self.rate(),
-                both(self.offset.sound(), both(self.alarm.sound(), shadows)),
-            ),
-        )
+        (self.control < Self::CONTROL_VALUES)
+            & ((self.subsecond as u64) < self.rate())
+            & self.offset.sound()
+            & self.alarm.sound()
+            & (self.shadow.mask < Shadow::FULL)
+            & ((self.poll as u64) < self.poll_limit())
+            & (self.alarm_shadow.mask < Shadow::FULL)
+            & (self.host.nanoseconds < Self::NANOS_PER_SECOND)
     }
 
+    #[tactic(auto, unfolding(crate::specs::Sound::alarm_ahead))]
     fn alarm_ahead(self) -> bool
         ensures { result ≡ alarm_ahead self }
     {
-        let seconds = self.seconds;
-        let alarm = self.alarm.seconds;
-        let armed = self.alarm.armed;
-        if both(armed, own_time(self.control)) {
-            return seconds < alarm;
-        }
-        true
+        !(self.alarm.armed & own_time(self.control)) | (self.seconds < self.alarm.seconds)
     }
 
+    #[tactic(auto, unfolding(crate::specs::Sound::sound_clock))]
     pub fn sound(self) -> bool
         ensures { result ≡ sound_clock (rate_of self) self }
     {
-        both(self.sound_parts(), self.alarm_ahead())
+        self.sound_parts() & self.alarm_ahead()
     }
 }

@@ -4,17 +4,17 @@ ghost use Rattle.clock.specs.Clock.{rate_of, nanos_per_second, host_nanoseconds,
 ghost use Rattle.clock.specs.Clock.{own_nanoseconds, time_of, time_seconds};
 ghost use Rattle.clock.specs.Registers.{signed_difference, time_nanoseconds};
 ghost use Rattle.clock.specs.Sound.{Timed};
-ghost use Rattle.clock.specs.CodeTime.{duration_of, DurationIs, TimeIs};
 
 use crate::rates::divided;
 use crate::{Clock, HostTime, Offset, from_host};
 use wide::number::Wide;
 
 // A length of time.
-#[derive(Clone, Copy)]
+#[derive(Clone, Copy, PartialEq, Eq, PartialOrd, Ord)]
 pub struct Duration {
     pub seconds: u64,
     pub nanoseconds: u32,
+    pub ghost small: { nanoseconds < nanos_per_second },
 }
 
 // A time, whose seconds may exceed a word.
@@ -22,31 +22,21 @@ pub struct Duration {
 pub struct Time {
     pub seconds: Wide,
     pub nanoseconds: u32,
+    pub ghost small: { nanoseconds < nanos_per_second },
 }
 
 impl Duration {
-    fn before(self, other: Duration) -> bool
-        requires { (self.nanoseconds < nanos_per_second) × (other.nanoseconds < nanos_per_second) }
-        ensures { result ≡ ltb (duration_of self) (duration_of other) }
-    {
-        let s = self.seconds;
-        let t = other.seconds;
-        if s == t {
-            return self.nanoseconds < other.nanoseconds;
-        }
-        s < t
-    }
+    ghost use Rattle.clock.specs.CodeTime.{duration_of, moment_of};
 
     // The difference, or 0 where it is negative.
     fn minus(self, other: Duration) -> Self
-        requires { (self.nanoseconds < nanos_per_second) × (other.nanoseconds < nanos_per_second) }
-        ensures { DurationIs (duration_of self - duration_of other) result }
+        ensures { duration_of result ≡ duration_of self - duration_of other }
     {
         let s = self.seconds;
         let n = self.nanoseconds;
         let t = other.seconds;
         let m = other.nanoseconds;
-        if self.before(other) {
+        if self < other {
             return Duration {
                 seconds: 0,
                 nanoseconds: 0,
@@ -65,8 +55,7 @@ impl Duration {
     }
 
     fn plus(self, other: Duration) -> Time
-        requires { (self.nanoseconds < nanos_per_second) × (other.nanoseconds < nanos_per_second) }
-        ensures { TimeIs (duration_of self + duration_of other) result }
+        ensures { moment_of result ≡ duration_of self + duration_of other }
     {
         let n = self.nanoseconds + other.nanoseconds;
         let whole = Wide::from(self.seconds).sum(Wide::from(other.seconds));
@@ -79,29 +68,28 @@ impl Duration {
 
     // The offset from host time to this time. 0 is not negative.
     pub(crate) fn since(self, host: HostTime) -> Offset
-        requires { (self.nanoseconds < nanos_per_second) × (host.nanoseconds < nanos_per_second) }
+        requires { host.nanoseconds < nanos_per_second }
         ensures { result ≡ signed_difference (duration_of self) (host_nanoseconds host) }
     {
-        let other = host.duration();
-        if self.before(other) {
-            let d = other.minus(self);
-            return Offset {
-                negative: true,
-                seconds: d.seconds,
-                nanoseconds: d.nanoseconds,
-            };
-        }
-        let d = self.minus(other);
+        let other = Duration {
+            seconds: host.seconds,
+            nanoseconds: host.nanoseconds,
+        };
+        let negative = self < other;
+        let by = if negative {
+            other.minus(self)
+        } else {
+            self.minus(other)
+        };
         Offset {
-            negative: false,
-            seconds: d.seconds,
-            nanoseconds: d.nanoseconds,
+            negative,
+            seconds: by.seconds,
+            nanoseconds: by.nanoseconds,
         }
     }
 
     fn time(self) -> Time
-        requires { self.nanoseconds < nanos_per_second }
-        ensures { TimeIs (duration_of self) result }
+        ensures { moment_of result ≡ duration_of self }
     {
         Time {
             seconds: Wide::from(self.seconds),
@@ -111,21 +99,18 @@ impl Duration {
 }
 
 impl HostTime {
-    fn duration(self) -> Duration
-        ensures { (result.seconds ≡ self.seconds) × (result.nanoseconds ≡ self.nanoseconds) }
-    {
-        Duration {
-            seconds: self.seconds,
-            nanoseconds: self.nanoseconds,
-        }
-    }
+    ghost use Rattle.clock.specs.CodeTime.{moment_of};
 
     // Host time plus the offset, but never below 0.
+    #[tactic(auto, unfolding(crate::specs::Clock::shifted))]
     fn shifted(self, offset: Offset) -> Time
         requires { (self.nanoseconds < nanos_per_second) × (offset.nanoseconds < nanos_per_second) }
-        ensures { TimeIs (shifted self offset) result }
+        ensures { moment_of result ≡ shifted self offset }
     {
-        let host = self.duration();
+        let host = Duration {
+            seconds: self.seconds,
+            nanoseconds: self.nanoseconds,
+        };
         let by = Duration {
             seconds: offset.seconds,
             nanoseconds: offset.nanoseconds,
@@ -138,10 +123,13 @@ impl HostTime {
 }
 
 impl Clock {
+    ghost use Rattle.clock.specs.CodeTime.{duration_of, moment_of};
+
     // The clock's own time, from seconds and subsecond.
+    #[tactic(auto, unfolding(crate::specs::Clock::own_nanoseconds))]
     pub(crate) fn own_duration(self) -> Duration
         requires { Timed (rate_of self) self }
-        ensures { DurationIs (own_nanoseconds (rate_of self) self) result }
+        ensures { duration_of result ≡ own_nanoseconds (rate_of self) self }
     {
         let cycles = self.subsecond as u64;
         let part = divided(cycles * Clock::NANOS_PER_SECOND as u64, self.rate());
@@ -151,9 +139,10 @@ impl Clock {
         }
     }
 
+    #[tactic(auto, unfolding(crate::specs::Clock::time_of))]
     pub(crate) fn time(self) -> Time
         requires { Timed (rate_of self) self }
-        ensures { TimeIs (time_of (rate_of self) self) result }
+        ensures { moment_of result ≡ time_of (rate_of self) self }
     {
         if from_host(self.control) {
             return self.host.shifted(self.offset);
@@ -161,6 +150,7 @@ impl Clock {
         self.own_duration().time()
     }
 
+    #[tactic(auto, unfolding(crate::specs::Clock::time_seconds))]
     pub fn time_seconds(self) -> u64
         requires { Timed (rate_of self) self }
         ensures { result ≡ time_seconds (rate_of self) self }
@@ -168,6 +158,7 @@ impl Clock {
         self.time().seconds.capped()
     }
 
+    #[tactic(auto, unfolding(crate::specs::Registers::time_nanoseconds))]
     pub fn time_nanoseconds(self) -> u32
         requires { Timed (rate_of self) self }
         ensures { result ≡ time_nanoseconds (rate_of self) self }

@@ -1,36 +1,15 @@
--- The cases of setting a source that the code tells apart, and that `set_source_levels` may pass over the sources
--- whose level stays. Assumes nothing.
-use Prim.Native.Nat.{ℕ, zero, suc, ◌≤◌, ◌<◌}
+-- That `set_source_levels` may pass over the sources whose level stays. Assumes nothing.
+use Prim.Native.Nat.{ℕ, zero, suc, ◌≤◌}
 use mathlib.Core.Path.{◌≡◌, refl, sym, ap, ◌∙◌}
 use mathlib.Core.Bool.{Bool, true, false, ◌&&◌, cond}
 use native.Mathlib.Omega.{arith}
-use borrow.Author.Tests.{lt-ltb, le-ltb}
 use lib.Bits.{bit_and, bit_xor}
 use Rattle.controller.specs.declared.IrqController.{IrqController}
 use Rattle.wide.specs.Bits.{bit}
 use Rattle.wide.proofs.Choices.{choose}
-use Rattle.controller.specs.Bits.{with_bit}
 use Rattle.controller.specs.Controller.{source_set, masked_source_set, masked_sources_set, source_levels_set}
 use Rattle.controller.proofs.Bits.{bit-and, bit-xor}
 use Rattle.controller.proofs.Laws.{level_other, steady}
-
--- ---- one source: a steady high level is the fourth case
-
-pub above : (c : IrqController) (k : ℕ) (level : Bool) → 16 ≤ k → c ≡ source_set c k level
-unfolding source_set
-above c k level h = rw (le-ltb k 16 h)
-
-pub lowered : (c : IrqController) (k : ℕ) (level : Bool) (l : ℕ) → k < 16 → level ≡ false
-    → l ≡ with_bit k false c.levels
-    → record { pending = c.pending; enable = c.enable; levels = l } ≡ source_set c k level
-unfolding source_set
-lowered c k level l h e f = rw (e, f, lt-ltb k 16 h)
-
-pub raised : (c : IrqController) (k : ℕ) (level : Bool) (p l : ℕ) → k < 16 → level ≡ true
-    → bit k c.levels ≡ false → p ≡ with_bit k true c.pending → l ≡ with_bit k true c.levels
-    → record { pending = p; enable = c.enable; levels = l } ≡ source_set c k level
-unfolding source_set
-raised c k level p l h e o f g = rw (e, f, g, lt-ltb k 16 h, o)
 
 -- ---- the masked sources, in order
 

@@ -14,7 +14,7 @@ ghost use Rattle.controller.specs.Controller.{output_of, controller_read, contro
 mod lent;
 
 // The number of a source. It is a type of its own, so that no channel number is passed for it.
-#[derive(Clone, Copy)]
+#[derive(Clone, Copy, PartialEq, Eq, PartialOrd, Ord)]
 pub struct SourceNumber(pub u8);
 
 // Whether a source is presented to the CPU, and which.
@@ -88,6 +88,7 @@ pub fn with_enable_mask(controller: IrqController, mask: u16) -> IrqController
     }
 }
 
+#[tactic(auto, using(crate::proofs::Bits::shifted, crate::proofs::Bits::bit_test))]
 fn bit_is_set(word: u16, number: u8) -> bool
     requires { number < 16 }
     ensures { result ≡ bit number word }
@@ -95,6 +96,7 @@ fn bit_is_set(word: u16, number: u8) -> bool
     word & (1u16 << number) != 0
 }
 
+#[tactic(auto, using(crate::proofs::Bits::shifted, crate::proofs::Bits::or_bit))]
 fn with_bit_set(word: u16, number: u8) -> u16
     requires { number < 16 }
     ensures { result ≡ with_bit number true word }
@@ -110,6 +112,7 @@ fn with_bit_cleared(word: u16, number: u8) -> u16
 }
 
 // `set_source`: one source's level is set. Only a rise latches pending.
+#[tactic(auto, using(crate::proofs::Laws::steady), unfolding(crate::specs::Controller::source_set))]
 pub fn with_source(controller: IrqController, number: SourceNumber, level: bool) -> IrqController
     ensures { result ≡ source_set controller number.0 level }
 {
@@ -137,6 +140,7 @@ pub fn with_source(controller: IrqController, number: SourceNumber, level: bool)
 }
 
 // One source of `set_source_levels`: its level is set where its bit of the mask is set.
+#[tactic(auto, unfolding(crate::specs::Controller::masked_source_set))]
 fn with_masked_source(
     controller: IrqController,
     number: SourceNumber,
@@ -155,6 +159,7 @@ fn with_masked_source(
 }
 
 // Every source of `changed` is set to its bit of `levels`, one after another.
+#[tactic(auto, unfolding(crate::specs::Controller::masked_sources_set, crate::specs::Controller::source_levels_set))]
 fn with_changed_source_levels(controller: IrqController, changed: u16, levels: u16) -> IrqController
     ensures { result ≡ source_levels_set controller changed levels }
 {
@@ -166,6 +171,7 @@ fn with_changed_source_levels(controller: IrqController, changed: u16, levels: u
 }
 
 // `set_source_levels`: every source of the mask is set to its bit of `levels`; one whose level stays is passed over.
+#[tactic(auto, using(crate::proofs::Sources::none_changed, crate::proofs::Sources::only_changed))]
 pub fn with_source_levels(controller: IrqController, mask: u16, levels: u16) -> IrqController
     ensures { result ≡ source_levels_set controller mask levels }
 {
@@ -185,6 +191,7 @@ fn bits_cleared(word: u16, mask: u16) -> u16
 }
 
 // `clear_pending`: the pending bits that are set in the mask are cleared.
+#[tactic(auto, unfolding(crate::specs::Controller::pending_cleared))]
 pub fn without_pending(controller: IrqController, mask: u16) -> IrqController
     ensures { result ≡ pending_cleared controller mask }
 {
@@ -199,12 +206,7 @@ pub fn without_pending(controller: IrqController, mask: u16) -> IrqController
 pub fn level_of(controller: IrqController, number: SourceNumber) -> bool
     ensures { result ≡ bit number.0 controller.levels }
 {
-    let source = number.0;
-    let levels = controller.levels;
-    if IrqController::SOURCE_COUNT <= source {
-        return false;
-    }
-    bit_is_set(levels, source)
+    number.0 < IrqController::SOURCE_COUNT && bit_is_set(controller.levels, number.0)
 }
 
 // `irq_output`: the lowest source that is pending and enabled.
@@ -213,7 +215,7 @@ pub fn output_of(controller: IrqController) -> IrqOutput
 {
     let pending = controller.pending;
     let enable = controller.enable;
-    let lowest = u16::trailing_zeros(pending & enable);
+    let lowest = (pending & enable).trailing_zeros();
     match lowest {
         0..=15 => IrqOutput {
             valid: true,
@@ -238,6 +240,7 @@ fn byte_at(word: u16, address: u32) -> u8
 }
 
 // `read`
+#[tactic(auto, unfolding(crate::specs::Controller::controller_read))]
 pub fn read_of(controller: IrqController, address: u32) -> u8
     ensures { result ≡ controller_read controller address }
 {
@@ -257,12 +260,14 @@ pub fn debug_read_of(controller: IrqController, address: u32) -> u8
     read_of(controller, address)
 }
 
+#[tactic(auto, using(crate::proofs::Registers::high_byte))]
 fn with_high_byte(word: u16, value: u8) -> u16
     ensures { result ≡ value * 256 + word % 256 }
 {
     (word & 0x00FF) | (value as u16) << 8
 }
 
+#[tactic(auto, using(crate::proofs::Registers::low_byte))]
 fn with_low_byte(word: u16, value: u8) -> u16
     ensures { result ≡ word / 256 * 256 + value }
 {
@@ -270,6 +275,7 @@ fn with_low_byte(word: u16, value: u8) -> u16
 }
 
 // `write`: a byte written to pending clears the bits that are set in it, and one written to enable replaces its byte.
+#[tactic(auto, unfolding(crate::specs::Controller::controller_written))]
 pub fn written(controller: IrqController, address: u32, value: u8) -> IrqController
     ensures { result ≡ controller_written controller address value }
 {

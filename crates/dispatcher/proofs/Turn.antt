@@ -1,7 +1,7 @@
--- One turn: the cases that the code tells apart, and what a turn changes and what it leaves. Assumes nothing.
-use Prim.Native.Nat.{ℕ, ◌*◌, ◌%◌, ◌^◌, ◌<◌}
+-- What a turn changes and what it leaves. Assumes nothing.
+use Prim.Native.Nat.{ℕ, ◌%◌, ◌^◌, ◌<◌}
 use mathlib.Core.Path.{◌≡◌, refl, sym, ap, ◌∙◌}
-use mathlib.Core.Bool.{Bool, true, false, not, ◌&&◌, and-true}
+use mathlib.Core.Bool.{Bool, true, not, ◌&&◌, and-true}
 use native.Mathlib.Nat.{zero-div}
 use native.Mathlib.Omega.{arith}
 use borrow.Author.Tests.{eqb-true, eqb-false}
@@ -11,35 +11,21 @@ use Rattle.wide.proofs.Choices.{choose, either}
 use Rattle.controller.specs.declared.IrqController.{IrqController}
 use Rattle.controller.specs.declared.IrqOutput.{IrqOutput}
 use Rattle.controller.specs.Bits.{with_bit}
-use Rattle.controller.specs.Controller.{pending_cleared}
 use Rattle.controller.proofs.Bits.{shifted, bit_same, bit_other}
 use Rattle.controller.proofs.Laws.{pending-cleared, cleared_enable, cleared_levels}
 use Rattle.controller.proofs.Lowest.{source}
 use Rattle.dispatcher.specs.declared.Dispatched.{Dispatched}
-use Rattle.dispatcher.specs.Dispatcher.{number_read, next_after, turn, dispatched, serves}
 use Rattle.dispatcher.proofs.Next.{next_below}
+use Rattle.dispatcher.specs.Dispatcher.{number_read, next_after, turn, dispatched, serves}
 
--- ---- the code's two cases: n is the remembered number as it is read, o the next source
+-- a turn of the number as it is read, and of the next source
+pub dispatched_is : (c : IrqController) (last : ℕ)
+    → dispatched c last ≡ turn c (number_read last) (next_after (number_read last) c)
+unfolding dispatched
+dispatched_is c last = refl
 
-module _ (c : IrqController) (last n : ℕ) (o : IrqOutput) (e : n ≡ number_read last) (f : o ≡ next_after n c) where
-  pub served-below : o.number.0 < 16
-  served-below = rw f (next_below n c)
-
-  same : turn c n o ≡ dispatched c last
-  unfolding dispatched
-  same = rw (f, e) refl
-
-  pub turned_none : o.valid ≡ false
-      → record { controller = c; served = o; remembered = record { 0 = n } } ≡ dispatched c last
-  unfolding turn
-  turned_none v = rw (← same, v) refl
-
-  pub turned-one : (d : IrqController) → o.valid ≡ true → d ≡ pending_cleared c (1 * 2 ^ o.number.0 % 65536)
-      → record { controller = d; served = o; remembered = o.number } ≡ dispatched c last
-  unfolding turn
-  turned-one d v g = rw (← same, v, g, shifted o.number.0 served-below) refl
-
--- ---- for callers
+-- what `dispatch` needs of them
+pub ruleset turn_laws = (dispatched_is, next_below, shifted)
 
 -- the turn serves the next source, and remembers it
 pub turned_source : (c : IrqController) (last k : ℕ) → next_after (number_read last) c ≡ source k

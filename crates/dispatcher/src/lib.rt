@@ -31,10 +31,7 @@ pub fn fresh_number() -> SourceNumber
 fn number_read(last: SourceNumber) -> SourceNumber
     ensures { result.0 ≡ number_read last.0 }
 {
-    if HIGHEST < last.0 {
-        return SourceNumber(HIGHEST);
-    }
-    last
+    last.min(SourceNumber(HIGHEST))
 }
 
 // The next enabled pending source after `last`, going round: the lowest of those above it, or, where there is none
@@ -53,6 +50,7 @@ fn next_after(controller: IrqController, last: SourceNumber) -> IrqOutput
 
 // One turn. The pending bit of the source served is cleared, and nothing else. Where none is enabled and pending, the
 // controller stays, and the number to remember is the one that it was given, read as 15 where it is above 15.
+#[tactic(auto, using(crate::proofs::Turn::turn_laws), unfolding(crate::specs::Dispatcher::turn))]
 pub fn dispatch(controller: IrqController, last: SourceNumber) -> Dispatched
     ensures { result ≡ dispatched controller last.0 }
 {

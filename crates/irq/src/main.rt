@@ -23,13 +23,7 @@ fn presented(raised: u16, mask: u16, address: u32) -> IrqOutput
 
 fn print_output(rt: &impl Print, output: IrqOutput) -> io::Result<()> {
     let mut out = io::writer(rt);
-    if output.valid {
-        out.write_all(b"1 ")?;
-    } else {
-        out.write_all(b"0 ")?;
-    }
-    write!(out, "{}", output.number.0)?;
-    out.write_all(b"\n")
+    writeln!(out, "{} {}", u8::from(output.valid), output.number.0)
 }
 
 // Sources 9 and 5 have risen.

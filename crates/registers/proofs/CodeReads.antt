@@ -118,7 +118,7 @@ check_flags k =
 
 -- what a read gives, by its reading
 abbrev given : Board → LatchedReading → Read
-given b r = record { board = after_reading r b; byte = r.byte }
+given b r = record { board = after_reading r b; byte = r.plain.byte }
 
 cond_given : (b : Board) (v : Bool) (x y : LatchedReading) {p q : Read} → p ≡ given b x → q ≡ given b y →
     cond v p q ≡ given b (cond v x y)
@@ -294,7 +294,7 @@ module _ (o : ℕ) (b : Board) where
 -- the call
 pub read_parts : (address : ℕ) (b : Board) →
     ((effect_of (ReadCall address) b).board ≡ after_reading (offset_reading (address + base) b) b)
-    × ((effect_of (ReadCall address) b).members ≡ (offset_reading (address + base) b).byte ∷ [])
+    × ((effect_of (ReadCall address) b).members ≡ (offset_reading (address + base) b).plain.byte ∷ [])
 read_parts address b =
     let e = read-at-parts (address + base) b in
     (ap (λ (r : Read). r.board) e, ap (λ (r : Read). r.byte ∷ []) e)

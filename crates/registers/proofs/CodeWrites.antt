@@ -34,40 +34,6 @@ use Rattle.registers.specs.CodeWrites.{part_of, written_by}
 module _ (o : ℕ) where
   -- ---- the part
 
-  pub enable-part : in_register timer_enable_at o ≡ true → part_of o ≡ Enable
-  unfolding part_of
-  enable-part e = rw e
-
-  pub acknowledge-part : o ≡ last_of timer_ack_at → part_of o ≡ Acknowledge
-  unfolding part_of
-  acknowledge-part e = rw e
-
-  pub clock-part : in_clock o ≡ true → part_of o ≡ Clock
-  unfolding part_of
-  clock-part e =
-      let first = (bounds clock_block o e).0 in
-      rw (
-        above (four_bytes timer_enable_at) o (omega (arith, first)),
-        ne_eqb o (last_of timer_ack_at) (λ h. omega (arith, first, h)),
-        e,
-      )
-
-  pub channel-part : in_channels o ≡ true → part_of o ≡ Channel
-  unfolding part_of
-  channel-part e =
-      let first = (bounds channel_blocks o e).0 in
-      rw (
-        above (four_bytes timer_enable_at) o (omega (arith, first)),
-        ne_eqb o (last_of timer_ack_at) (λ h. omega (arith, first, h)),
-        above clock_block o (omega (arith, first)),
-        e,
-      )
-
-  pub no_part : in_register timer_enable_at o ≡ false → (o ≡ last_of timer_ack_at → ⊥) → in_clock o ≡ false →
-      in_channels o ≡ false → part_of o ≡ Nothing
-  unfolding part_of
-  no_part p a k c = rw (p, ne_eqb o (last_of timer_ack_at) a, k, c)
-
   -- a channel's register is in the channels' blocks
   is_channel : WritePart → Bool
   is_channel Nothing = false

@@ -22,6 +22,7 @@ use Rattle.clock.proofs.Rate.{Rate, three-rate}
 use Rattle.clock.proofs.Soundness.{GoodClock, check-good, control_good, seconds-good, alarm-bytes-good, enable-good}
 use Rattle.clock.proofs.Soundness.{acknowledge-good}
 use Rattle.board.specs.Fields.{Latch}
+use Rattle.board.specs.declared.refusal.Refusal.TheVariants.{NotSound}
 use Rattle.std.specs.Prelude.{None, Some}
 use Rattle.board.specs.declared.Board.{Board}
 use Rattle.board.specs.declared.calls.Call.{Call}
@@ -240,7 +241,7 @@ module _ (call : Call) (b : Board) (c : CallFits call) (f : BoardFits b) where
   answered : (P : Board → Type 0) → P b → ((y : Board) → Good (rate_of b.clock) y → P y) → P (answer_of call b).board
   answered P p q =
       either (sound b) (λ s. q _ (answer-good call (call_keeps call) (rate_of b.clock) b c (good b f s)))
-      (λ s. rw (answer-refused call b 1 (rw s) refl) p)
+      (λ s. rw (← answer-refused call b NotSound (rw s)) p)
 
   pub call-sound : sound b ≡ true → sound (answer_of call b).board ≡ true
   call-sound = answer-kept call (call_keeps call) b c f

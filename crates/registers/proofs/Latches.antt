@@ -85,13 +85,16 @@ module _ (h : HardwareTimer) (shared : ℕ) (k : Clock) (ls : Latches) (o : ℕ)
   pub by-seconds : o ≡ seconds_low_at →
       reading_of h shared k ls o
       ≡ record {
-        byte = byte_of_word 0 (low_word (time_seconds (rate_of k) k));
         latches =
             with_seconds (Some (low_word (time_seconds (rate_of k) k)))
             (Some (high_word (time_seconds (rate_of k) k))) ls;
-        pending = k.alarm.pending;
-        armed = k.alarm.armed;
-        rose = false;
+        plain =
+            record {
+              byte = byte_of_word 0 (low_word (time_seconds (rate_of k) k));
+              pending = k.alarm.pending;
+              armed = k.alarm.armed;
+              rose = false;
+            };
       }
   unfolding reading_of reading_by filled serving freed_at
   by-seconds e = rw e
@@ -145,11 +148,14 @@ module _ (o : ℕ) (p : plain_at o ≡ true) where
   pub plain-reading : (b : Board) →
       offset_reading o b
       ≡ record {
-        byte = byte_of_word (byte_of o) (word_of (register_of (place_of o)) (channel_at (channel_index o) b));
         latches = b.latches;
-        pending = (check_alarm (rate_of b.clock) b.clock).alarm.pending;
-        armed = (check_alarm (rate_of b.clock) b.clock).alarm.armed;
-        rose = not (beq (check_alarm (rate_of b.clock) b.clock).alarm.pending b.clock.alarm.pending);
+        plain =
+            record {
+              byte = byte_of_word (byte_of o) (word_of (register_of (place_of o)) (channel_at (channel_index o) b));
+              pending = (check_alarm (rate_of b.clock) b.clock).alarm.pending;
+              armed = (check_alarm (rate_of b.clock) b.clock).alarm.armed;
+              rose = not (beq (check_alarm (rate_of b.clock) b.clock).alarm.pending b.clock.alarm.pending);
+            };
       }
   unfolding word_at
   plain-reading b =

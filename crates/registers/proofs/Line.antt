@@ -73,14 +73,14 @@ not_differ false true e = absurd (false≢true (sym e))
 not_differ false false e = refl
 
 reading_still : (h : HardwareTimer) (shared : ℕ) (k : Clock) (ls : Latches) (o : ℕ) →
-    (reading_of h shared k ls o).rose ≡ false → (reading_of h shared k ls o).pending ≡ k.alarm.pending
+    (reading_of h shared k ls o).plain.rose ≡ false → (reading_of h shared k ls o).plain.pending ≡ k.alarm.pending
 unfolding reading_of reading_by
 reading_still h shared k ls o =
-    choose (λ (r : LatchedReading). r.rose ≡ false → r.pending ≡ k.alarm.pending)
+    choose (λ (r : LatchedReading). r.plain.rose ≡ false → r.plain.pending ≡ k.alarm.pending)
     (held_of (serving o (filled o h.counter k ls))) (λ _ _. refl)
     (λ _. not_differ (check_alarm (rate_of k) k).alarm.pending k.alarm.pending)
 
-pub read_still : (o : ℕ) (b : Board) → (offset_reading o b).rose ≡ false →
+pub read_still : (o : ℕ) (b : Board) → (offset_reading o b).plain.rose ≡ false →
     line (after_reading (offset_reading o b) b) ≡ line b
 unfolding line
 read_still o b n =

@@ -30,7 +30,6 @@ use Rattle.board.specs.Registers.{
 }
 use Rattle.board.specs.RegisterWords.{timer_word, clock_word}
 use Rattle.registers.specs.declared.reads.LatchedReading.{LatchedReading}
-use Rattle.registers.specs.declared.reads.PlainReading.{PlainReading}
 
 -- ---- where the offset is
 
@@ -109,22 +108,28 @@ word_at h k shared offset =
 abbrev pub live_reading : HardwareTimer → ℕ → Clock → Bool → Latches → ℕ → LatchedReading
 live_reading h shared k before ls offset =
     record {
-      byte = byte_of_word (byte_of offset) (word_at h k shared offset);
       latches = ls;
-      pending = k.alarm.pending;
-      armed = k.alarm.armed;
-      rose = not (beq k.alarm.pending before);
+      plain =
+          record {
+            byte = byte_of_word (byte_of offset) (word_at h k shared offset);
+            pending = k.alarm.pending;
+            armed = k.alarm.armed;
+            rose = not (beq k.alarm.pending before);
+          };
     }
 
 -- a latch that holds `word` serves the read
 abbrev pub latch_reading : ℕ → Clock → Latches → ℕ → LatchedReading
 latch_reading word k ls offset =
     record {
-      byte = byte_of_word (byte_of offset) word;
       latches = freed_at offset ls;
-      pending = k.alarm.pending;
-      armed = k.alarm.armed;
-      rose = false;
+      plain =
+          record {
+            byte = byte_of_word (byte_of offset) word;
+            pending = k.alarm.pending;
+            armed = k.alarm.armed;
+            rose = false;
+          };
     }
 
 -- a read by the latches, already filled where the offset is byte 0 of a low word
@@ -153,8 +158,8 @@ after_reading r b =
     (record {
       enable = b.clock.alarm.enable;
       seconds = b.clock.alarm.seconds;
-      pending = r.pending;
-      armed = r.armed;
+      pending = r.plain.pending;
+      armed = r.plain.armed;
     })
     b.clock)
     (with_latches r.latches b)
@@ -167,7 +172,3 @@ plain_at offset =
     in_channels offset
     && (not (eqb (register_of (place_of offset)) count_low_at)
     && not (eqb (register_of (place_of offset)) count_high_at))
-
--- a reading without its latches
-abbrev pub plain_of : LatchedReading → PlainReading
-plain_of r = record { byte = r.byte; pending = r.pending; armed = r.armed; rose = r.rose }

@@ -3,13 +3,14 @@
 #![tactic(auto)]
 
 ghost use Rattle.std.specs.Prelude.{◌≡◌};
-ghost use Rattle.board.specs.Calls.{answer_of, empty_answer, byte_answer};
+ghost use Rattle.board.specs.Calls.{answer_of};
+ghost use Rattle.board.specs.Answers.{answered, no_members, byte_members};
 ghost use Rattle.registers.specs.CodeReads.{after_reading};
 
 use crate::reads::{LatchedReading, channel_index, reading_at};
 use crate::writes::written_at;
 use board::Board;
-use board::calls::{ByteAnswer, Call, EmptyAnswer, address_refusal};
+use board::calls::{Answered, Call, check_address};
 use regmap::Registers;
 
 pub mod reads;
@@ -21,46 +22,36 @@ fn after_reading(board: Board, reading: LatchedReading) -> Board
 {
     let latches = reading.latches;
     let mut after = board.with_latches(latches);
-    after.clock.alarm.pending = reading.pending;
-    after.clock.alarm.armed = reading.armed;
+    after.clock.alarm.pending = reading.plain.pending;
+    after.clock.alarm.armed = reading.plain.armed;
     after
 }
 
 // The byte read at an address. It is refused for a board that is not sound, then for an address from 0x380 on.
-pub fn read(board: Board, address: u16) -> ByteAnswer
-    ensures { result ≡ byte_answer (answer_of (Call.Read address) board) }
+pub fn read(board: Board, address: u16) -> Answered<u8>
+    ensures { answered byte_members result ≡ answer_of (Call.Read address) board }
 {
-    let refusal = board.refusal_of(address_refusal(address));
-    if refusal != 0 {
-        return ByteAnswer {
-            board,
-            refusal,
-            byte: 0,
-        };
+    if let Err(refusal) = board.check_sound().and(check_address(address)) {
+        return board.refused(refusal);
     }
-    let offset = address as u32 + Registers::BASE;
-    let i = channel_index(offset);
-    let timer = board.timers[i];
+    let offset = u32::from(address) + Registers::BASE;
+    let timer = board.timers[channel_index(offset)];
     let reading = reading_at(board, timer, offset);
-    let after = after_reading(board, reading).wired();
-    ByteAnswer {
-        board: after,
-        refusal: 0,
-        byte: reading.byte,
+    Answered {
+        board: after_reading(board, reading).wired(),
+        answer: Ok(reading.plain.byte),
     }
 }
 
 // The board after a byte is written at an address. It is refused as `read` is.
-pub fn write(board: Board, address: u16, value: u8) -> EmptyAnswer
-    ensures { result ≡ empty_answer (answer_of (Call.Write value address) board) }
+pub fn write(board: Board, address: u16, value: u8) -> Answered<()>
+    ensures { answered no_members result ≡ answer_of (Call.Write value address) board }
 {
-    let refusal = board.refusal_of(address_refusal(address));
-    if refusal != 0 {
-        return EmptyAnswer { board, refusal };
+    if let Err(refusal) = board.check_sound().and(check_address(address)) {
+        return board.refused(refusal);
     }
-    let after = written_at(board, address as u32 + Registers::BASE, value).wired();
-    EmptyAnswer {
-        board: after,
-        refusal: 0,
+    Answered {
+        board: written_at(board, u32::from(address) + Registers::BASE, value).wired(),
+        answer: Ok(()),
     }
 }

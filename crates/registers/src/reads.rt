@@ -7,7 +7,7 @@ ghost use Rattle.board.specs.Registers.{in_channels, register_of};
 ghost use Rattle.board.specs.RegisterWords.{timer_word};
 ghost use Rattle.registers.specs.CodeReads.{channel_index, at_count_low, at_count_high, with_count, count_filled};
 ghost use Rattle.registers.specs.CodeReads.{count_serving, serving, count_freed, latch_freed, freed_at};
-ghost use Rattle.registers.specs.CodeReads.{word_at, reading_of, offset_reading, plain_at, plain_of};
+ghost use Rattle.registers.specs.CodeReads.{word_at, reading_of, offset_reading, plain_at};
 
 use board::{Board, CountLatch, Latches};
 use channel::HardwareTimer;
@@ -15,21 +15,10 @@ use clock::Clock;
 use regmap::Registers;
 use regmap::fields::{byte_of_word, channel_of, place_of};
 use regmap::words::{clock_word, timer_word};
-use wide::flags::both;
 use wide::words::{high, low};
 
-// The result of a read: the latches after it, the byte, the alarm's two flags, and whether its alarm check set pending.
-// The latches come first, so that no padding is copied with them.
-#[derive(Clone, Copy)]
-pub struct LatchedReading {
-    pub latches: Latches,
-    pub byte: u8,
-    pub pending: bool,
-    pub armed: bool,
-    pub rose: bool,
-}
-
-// The same for a read that leaves the latches unchanged.
+// What a read gives and stores that leaves the latches unchanged: the byte, the alarm's two flags, and whether its
+// alarm check set pending.
 #[derive(Clone, Copy)]
 pub struct PlainReading {
     pub byte: u8,
@@ -38,46 +27,46 @@ pub struct PlainReading {
     pub rose: bool,
 }
 
+// The same for every read, with the latches after it. They come first, so that no padding is copied with them.
+#[derive(Clone, Copy)]
+pub struct LatchedReading {
+    pub latches: Latches,
+    pub plain: PlainReading,
+}
+
 // ---- where the offset is
 
 fn in_channels(offset: u32) -> bool
     ensures { result ≡ in_channels offset }
 {
-    both(
-        Registers::TIMER_CHANNEL_BASE <= offset,
-        offset <= Registers::TIMER_CHANNEL_LAST,
-    )
+    (Registers::TIMER_CHANNEL_BASE <= offset) & (offset <= Registers::TIMER_CHANNEL_LAST)
 }
 
 // The number of the channel in whose block the offset is, 0 elsewhere.
+#[tactic(auto, using(regmap::proofs::Ranges::bounds), unfolding(crate::specs::CodeReads::channel_index))]
 pub fn channel_index(offset: u32) -> usize
     ensures { (result ≡ channel_index offset) × (result < 4) }
 {
     if in_channels(offset) {
-        let number = channel_of(offset);
-        return number.0 as usize;
+        return usize::from(channel_of(offset).0);
     }
     0
 }
 
 // Whether the offset is byte 0 of a count's low word.
+#[tactic(auto, using(regmap::proofs::Ranges::bounds), unfolding(crate::specs::CodeReads::at_count_low))]
 fn at_count_low(offset: u32) -> bool
     ensures { result ≡ at_count_low offset }
 {
-    if in_channels(offset) {
-        return place_of(offset) == HardwareTimer::COUNT_LO;
-    }
-    false
+    in_channels(offset) && place_of(offset) == HardwareTimer::COUNT_LO
 }
 
 // Whether the offset is in a count's high word.
+#[tactic(auto, using(regmap::proofs::Ranges::bounds), unfolding(crate::specs::CodeReads::at_count_high))]
 fn at_count_high(offset: u32) -> bool
     ensures { result ≡ at_count_high offset }
 {
-    if in_channels(offset) {
-        return place_of(offset) / 4 * 4 == HardwareTimer::COUNT_HI;
-    }
-    false
+    in_channels(offset) && place_of(offset) / 4 * 4 == HardwareTimer::COUNT_HI
 }
 
 // ---- the latches
@@ -91,6 +80,7 @@ fn with_count(mut latches: Latches, index: usize, latch: Option<u32>) -> Latches
 }
 
 // Byte 0 of a count's low word fills the latch of its high word.
+#[tactic(auto, unfolding(crate::specs::CodeReads::count_filled))]
 fn count_filled(latches: Latches, counter: u64, offset: u32) -> Latches
     ensures { result ≡ count_filled offset counter latches }
 {
@@ -101,32 +91,30 @@ fn count_filled(latches: Latches, counter: u64, offset: u32) -> Latches
 }
 
 // The latch of a count that serves an offset.
+#[tactic(auto, unfolding(crate::specs::CodeReads::count_serving))]
 fn count_serving(latches: Latches, offset: u32) -> Option<u32>
     ensures { result ≡ count_serving offset latches }
 {
     if at_count_high(offset) {
-        let i = channel_index(offset);
-        let count = latches.counts[i];
-        let latch = count.high;
-        return latch;
+        return latches.counts[channel_index(offset)].high;
     }
     None
 }
 
 // The latch that serves an offset; elsewhere an empty one.
+#[tactic(auto, using(std::proofs::lemmas::Bool::Decides::nat_tests), unfolding(crate::specs::CodeReads::serving))]
 fn serving(latches: Latches, offset: u32) -> Option<u32>
     ensures { result ≡ serving offset latches }
 {
-    let low = latches.low;
-    let high = latches.high;
     match offset {
-        Registers::RTC_SECONDS_LO..=Registers::RTC_SECONDS_LO_LAST => low,
-        Registers::RTC_SECONDS_HI..=Registers::RTC_SECONDS_HI_LAST => high,
+        Registers::RTC_SECONDS_LO..=Registers::RTC_SECONDS_LO_LAST => latches.low,
+        Registers::RTC_SECONDS_HI..=Registers::RTC_SECONDS_HI_LAST => latches.high,
         _ => count_serving(latches, offset),
     }
 }
 
 // The latches with the latch of a count that serves an offset empty.
+#[tactic(auto, unfolding(crate::specs::CodeReads::count_freed))]
 fn count_freed(latches: Latches, offset: u32) -> Latches
     ensures { result ≡ count_freed offset latches }
 {
@@ -137,6 +125,7 @@ fn count_freed(latches: Latches, offset: u32) -> Latches
 }
 
 // The latches with the one that serves an offset empty.
+#[tactic(auto, using(std::proofs::lemmas::Bool::Decides::nat_tests), unfolding(crate::specs::CodeReads::latch_freed))]
 fn latch_freed(latches: Latches, offset: u32) -> Latches
     ensures { result ≡ latch_freed offset latches }
 {
@@ -167,6 +156,7 @@ fn freed_at(latches: Latches, offset: u32) -> Latches
 // ---- the reading
 
 // The word of the register at an offset.
+#[tactic(auto, using(std::proofs::lemmas::Bool::Decides::nat_tests), unfolding(crate::specs::CodeReads::word_at))]
 fn word_at(timer: HardwareTimer, clock: Clock, shared: u32, offset: u32) -> u32
     requires { Timed (rate_of clock) clock }
     ensures { result ≡ word_at timer clock shared offset }
@@ -204,43 +194,42 @@ fn reading_of(
         // byte 0 of the clock's low seconds fills both of the clock's latches, and the low word's serves this read
         let seconds = clock.time_seconds();
         let word = low(seconds);
-        let pending = clock.alarm.pending;
-        let armed = clock.alarm.armed;
         return LatchedReading {
-            byte: byte_of_word(word, 0),
             latches: Latches {
                 low: Some(word),
                 high: Some(high(seconds)),
                 ..latches
             },
-            pending,
-            armed,
-            rose: false,
+            plain: PlainReading {
+                byte: byte_of_word(word, 0),
+                pending: clock.alarm.pending,
+                armed: clock.alarm.armed,
+                rose: false,
+            },
         };
     }
-    let latch = serving(latches, offset);
-    let Some(word) = latch else {
+    let Some(word) = serving(latches, offset) else {
         let checked = clock.check_alarm();
         let word = word_at(timer, checked, shared, offset);
-        let before = clock.alarm.pending;
         let pending = checked.alarm.pending;
-        let armed = checked.alarm.armed;
         return LatchedReading {
-            byte: byte_of_word(word, offset % 4),
             latches: count_filled(latches, timer.counter, offset),
-            pending,
-            armed,
-            rose: pending != before,
+            plain: PlainReading {
+                byte: byte_of_word(word, offset % 4),
+                pending,
+                armed: checked.alarm.armed,
+                rose: pending != clock.alarm.pending,
+            },
         };
     };
-    let pending = clock.alarm.pending;
-    let armed = clock.alarm.armed;
     LatchedReading {
-        byte: byte_of_word(word, offset % 4),
         latches: freed_at(latches, offset),
-        pending,
-        armed,
-        rose: false,
+        plain: PlainReading {
+            byte: byte_of_word(word, offset % 4),
+            pending: clock.alarm.pending,
+            armed: clock.alarm.armed,
+            rose: false,
+        },
     }
 }
 
@@ -249,25 +238,20 @@ pub fn reading_at(board: Board, timer: HardwareTimer, offset: u32) -> LatchedRea
     requires { Timed (rate_of board.clock) board.clock × (timer ≡ channel_at (channel_index offset) board) }
     ensures { result ≡ offset_reading offset board }
 {
-    let timers = board.timers;
-    let shared = shared_at(timers, board.timer_enable, offset);
-    let clock = board.clock;
-    let latches = board.latches;
-    reading_of(timer, shared, clock, latches, offset)
+    let shared = shared_at(board.timers, board.timer_enable, offset);
+    reading_of(timer, shared, board.clock, board.latches, offset)
 }
 
 // ---- without the latches
 
 // Whether the offset is in a channel's register whose reads neither fill a latch nor use one.
+#[tactic(auto, using(regmap::proofs::Ranges::bounds), unfolding(crate::specs::CodeReads::plain_at))]
 pub fn plain(offset: u32) -> bool
     ensures { result ≡ plain_at offset }
 {
     if in_channels(offset) {
         let register = place_of(offset) / 4 * 4;
-        return both(
-            register != HardwareTimer::COUNT_LO,
-            register != HardwareTimer::COUNT_HI,
-        );
+        return (register != HardwareTimer::COUNT_LO) & (register != HardwareTimer::COUNT_HI);
     }
     false
 }
@@ -276,18 +260,15 @@ pub fn plain(offset: u32) -> bool
 pub fn plain_at(board: Board, timer: HardwareTimer, offset: u32) -> PlainReading
     requires { (plain_at offset ≡ true) × Timed (rate_of board.clock) board.clock
         × (timer ≡ channel_at (channel_index offset) board) }
-    ensures { result ≡ plain_of (offset_reading offset board) }
+    ensures { result ≡ (offset_reading offset board).plain }
 {
-    let clock = board.clock;
-    let before = clock.alarm.pending;
-    let checked = clock.check_alarm();
+    let checked = board.clock.check_alarm();
     let word = timer.read_word(place_of(offset) / 4 * 4);
     let pending = checked.alarm.pending;
-    let armed = checked.alarm.armed;
     PlainReading {
         byte: byte_of_word(word, offset % 4),
         pending,
-        armed,
-        rose: pending != before,
+        armed: checked.alarm.armed,
+        rose: pending != board.clock.alarm.pending,
     }
 }

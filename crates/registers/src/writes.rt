@@ -28,6 +28,7 @@ pub enum WritePart {
     Channel,
 }
 
+#[tactic(auto, using(std::proofs::lemmas::Bool::Decides::nat_tests), unfolding(crate::specs::CodeWrites::part_of))]
 pub fn part_at(offset: u32) -> WritePart
     ensures { result ≡ part_of offset }
 {
@@ -54,8 +55,8 @@ pub fn enable_after(timer_enable: u8, offset: u32, value: u8) -> u8
     ensures { result ≡ merge_byte (byte_of offset) value timer_enable % 16 }
 {
     let byte = (offset % 4) as usize;
-    let merged = wide::fields::with_byte(timer_enable as u64, 3 - byte, value);
-    (merged % Board::TIMER_ENABLE_VALUES as u64) as u8
+    let merged = wide::fields::with_byte(u64::from(timer_enable), 3 - byte, value);
+    (merged % u64::from(Board::TIMER_ENABLE_VALUES)) as u8
 }
 
 pub fn clock_after(clock: Clock, offset: u32, value: u8) -> Clock
@@ -79,16 +80,13 @@ pub(crate) fn written_at(board: Board, offset: u32, value: u8) -> Board
     requires { Timed (rate_of board.clock) board.clock }
     ensures { result ≡ written_at offset value board }
 {
-    let timers = board.timers;
-    let clock = board.clock;
-    let part = part_at(offset);
-    match part {
+    match part_at(offset) {
         WritePart::Nothing => board,
         WritePart::Enable => {
             board.with_timer_enable(enable_after(board.timer_enable, offset, value))
         }
-        WritePart::Acknowledge => board.with_timers(acknowledged(timers, value)),
-        WritePart::Clock => board.with_clock(clock_after(clock, offset, value)),
+        WritePart::Acknowledge => board.with_timers(acknowledged(board.timers, value)),
+        WritePart::Clock => board.with_clock(clock_after(board.clock, offset, value)),
         WritePart::Channel => {
             let number = channel_of(offset);
             let timer = channel_at(board, number);

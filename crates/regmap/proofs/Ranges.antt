@@ -2,27 +2,12 @@
 use Prim.Native.Nat.{ℕ, ◌≤◌, ◌<◌}
 use native.Mathlib.Omega.{arith}
 use mathlib.Core.Path.{◌≡◌}
-use mathlib.Core.Bool.{Bool, true, false, and-false}
+use mathlib.Core.Bool.{true, false, and-false}
 use lib.Dec.{leb}
 use borrow.Author.Tests.{leb-true, le-leb, lt-leb}
 use Rattle.wide.proofs.Choices.{and_parts}
-use Rattle.board.specs.Registers.{
-  seconds_low_at,
-  seconds_high_at,
-  Range,
-  behind,
-  Inside,
-  within,
-  last_of,
-  four_bytes,
-  in_register,
-  timer_block,
-  in_timers,
-  clock_block,
-  in_clock,
-  channel_blocks,
-  in_channels,
-}
+use Rattle.board.specs.Registers.{seconds_low_at, seconds_high_at, Range, behind, Inside, within, last_of}
+use Rattle.board.specs.Registers.{four_bytes, in_register}
 
 -- ---- one range
 
@@ -44,40 +29,7 @@ module _ (r : Range) (n : ℕ) where
 -- ---- the two words of the clock's seconds
 
 module _ (n : ℕ) where
-  -- the offset is in neither
-  abbrev NoSeconds : Type 0
-  NoSeconds = (in_register seconds_low_at n ≡ false) × (in_register seconds_high_at n ≡ false)
-
-  pub before-seconds : n < seconds_low_at → NoSeconds
-  before-seconds p = (below (four_bytes seconds_low_at) n p, below (four_bytes seconds_high_at) n (omega arith))
-
-  pub after-seconds : last_of seconds_high_at < n → NoSeconds
+  -- behind them the offset is in neither
+  pub after-seconds : last_of seconds_high_at < n →
+      (in_register seconds_low_at n ≡ false) × (in_register seconds_high_at n ≡ false)
   after-seconds p = (above (four_bytes seconds_low_at) n (omega arith), above (four_bytes seconds_high_at) n p)
-
--- ---- the three blocks
-
-module _ (n : ℕ) where
-  -- the offset is in no block before that of the channels, and there if the last flag says so
-  abbrev AfterClock : Bool → Type 0
-  AfterClock v = (in_timers n ≡ false) × (in_clock n ≡ false) × (in_channels n ≡ v)
-
-  pub in-clock : clock_block.first ≤ n → n < behind clock_block → (in_timers n ≡ false) × (in_clock n ≡ true)
-  in-clock p q = (above timer_block n (omega arith), inside clock_block n p q)
-
-  pub in-channels : channel_blocks.first ≤ n → n < behind channel_blocks → AfterClock true
-  in-channels p q =
-      (above timer_block n (omega arith), above clock_block n (omega arith), inside channel_blocks n p q)
-
-  pub before-timers : n < timer_block.first → AfterClock false
-  before-timers q =
-      (below timer_block n q, below clock_block n (omega arith), below channel_blocks n (omega arith))
-
-  pub before-clock : behind timer_block ≤ n → n < clock_block.first → AfterClock false
-  before-clock p q = (above timer_block n p, below clock_block n q, below channel_blocks n (omega arith))
-
-  pub before-channels : behind clock_block ≤ n → n < channel_blocks.first → AfterClock false
-  before-channels p q = (above timer_block n (omega arith), above clock_block n p, below channel_blocks n q)
-
-  pub after-channels : behind channel_blocks ≤ n → AfterClock false
-  after-channels p =
-      (above timer_block n (omega arith), above clock_block n (omega arith), above channel_blocks n p)

@@ -12,7 +12,7 @@ pub fn byte_of_word(word: u32, byte: u32) -> u8
     requires { byte < 4 }
     ensures { result ≡ byte_of_word byte word }
 {
-    wide::fields::byte_above(word as u64, (3 - byte) as usize)
+    wide::fields::byte_above(u64::from(word), (3 - byte) as usize)
 }
 
 // The channel whose block has an offset.
@@ -38,6 +38,5 @@ pub fn channel_at(board: Board, number: ChannelNumber) -> HardwareTimer
     requires { number.0 < 4 }
     ensures { result ≡ channel_at number.0 board }
 {
-    let i = number.0 as usize;
-    board.timers[i]
+    board.timers[usize::from(number.0)]
 }

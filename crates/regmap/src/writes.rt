@@ -23,17 +23,14 @@ pub fn acknowledged(timers: [HardwareTimer; 4], value: u8) -> [HardwareTimer; 4]
     ensures { result ≡ acknowledged value timers }
 {
     let mut out = timers;
-    let mut i = 0;
-    while i < Registers::TIMER_CHANNELS {
-        let t = out[i];
-        let clear = ChannelNumber(i as u8).selected(value);
-        out[i] = cleared_by(t, clear);
-        i += 1;
+    for (i, t) in out.iter_mut().enumerate() {
+        *t = cleared_by(*t, ChannelNumber(i as u8).selected(value));
     }
     out
 }
 
 // The clock after byte `byte` of one of its registers is written, 0 the most significant.
+#[tactic(auto, unfolding(board::specs::RegisterWrites::clock_written))]
 pub fn clock_written(clock: Clock, register: u32, byte: usize, value: u8) -> Clock
     requires { (byte < 4) × Timed (rate_of clock) clock }
     ensures { result ≡ clock_written register byte value clock }

@@ -76,6 +76,9 @@ pub stored_fits : (u k v n : ℕ) → u ≡ 256 ^ k → k < 8 → v < 256 → n 
 unfolding with_byte
 stored_fits u k v n e h b r = rw e (with_byte_fits 8 k v n h b r)
 
+-- what the proof of the code's `with_byte` needs
+pub ruleset with_byte_laws = (unit_pos, stored_fits)
+
 -- ---- a field of two parts
 
 -- m bytes, and n bytes behind them

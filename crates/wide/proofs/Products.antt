@@ -4,7 +4,7 @@ use Rattle.std.proofs.Common.{lt_of_le_of_lt, le_of_lt, mul-le-mul, mul-le-mul_l
 use Rattle.std.proofs.Common.{div-add-mod', arith, pow_pos}
 use mathlib.Core.Path.{subst⁻¹}
 use Rattle.wide.specs.Number.{value_of}
-use Rattle.wide.proofs.TwoWords.{high_fits}
+use Rattle.wide.proofs.TwoWords.{high_fits, one_word}
 
 -- the values of half a word
 abbrev pub half : ℕ
@@ -66,3 +66,6 @@ module _ (a b : ℕ) where
   -- the high word before its last addition
   pub high-start : a < 2 ^ 64 → b < 2 ^ 64 → a / half * (b / half) + left / half < 2 ^ 64
   high-start p q = lt_of_le_of_lt (le-add_right _ _) (high-word p q)
+
+-- what the proof of `product` needs
+pub ruleset product_laws = (one_word, halves_fit, product_is, high-word, high-start)

@@ -5,7 +5,8 @@ use Rattle.std.proofs.Common.{mul-le-mul_right, zero-add, zero-mul, arith, ltb-f
 use Rattle.std.proofs.lemmas.Bool.Decides.{nat_tests}
 use Rattle.std.specs.declared.option.Option.{Option}
 use Rattle.std.specs.declared.option.Option.TheVariants.{Some}
-use Rattle.std.specs.Ordering.{partial_ordering_then, partial_le, is_some_and, nat_cmp, ordering_then, ord_min, is_le, is_lt}
+use Rattle.std.specs.Ordering.{partial_ordering_then, partial_le, is_some_and, nat_cmp, ordering_then, ord_min, is_le}
+use Rattle.std.specs.Ordering.{is_lt}
 use Rattle.std.specs.declared.cmp.Ordering.{Ordering}
 use Rattle.wide.specs.declared.number.Wide.{Wide}
 use Rattle.wide.specs.Number.{value_of, largest}
@@ -116,6 +117,11 @@ module _ (x y : Wide) (r : ℕ) (p : x.low < 2 ^ 64) (q : y.low < 2 ^ 64) (below
 
         low : (l m s : ℕ) → l < 2 ^ 64 → m < 2 ^ 64 → s ≡ (l + (2 ^ 64 - m)) % 2 ^ 64 → m ≤ l → l ≡ s + m
         low l m s a b e n = omega arith
+
+-- what the proofs of `sum` and `difference` need
+pub ruleset sum_laws = (carry-is, no-carry-is, carry-fits, no-carry-fits)
+
+pub ruleset difference_laws = (borrow-is, no-borrow-is, borrow-fits, no-borrow-fits)
 
 -- ---- order
 

@@ -26,6 +26,7 @@ pub fn get(s: &[u8], at: usize, width: usize) -> u64
 }
 
 // The word in the eight bytes of s from index at on, most significant first.
+#[tactic(auto, unfolding(crate::specs::Fields::be_at))]
 pub fn get_word(s: &[u8], at: usize) -> u64
     requires { at + 8 ≤ length s.now }
     ensures { result ≡ be_at s.now at 8 }
@@ -43,6 +44,7 @@ pub fn get_word(s: &[u8], at: usize) -> u64
 }
 
 // The value of a 1 in the byte that has n bytes below it.
+#[tactic(auto, using(crate::proofs::BigEndian::unit_fits))]
 fn unit(n: usize) -> u64
     requires { n < 8 }
     ensures { result ≡ 256 ^ n }
@@ -51,6 +53,7 @@ fn unit(n: usize) -> u64
 }
 
 // The byte of value that has n bytes below it.
+#[tactic(auto, using(crate::proofs::BigEndian::unit_pos))]
 pub fn byte_above(value: u64, n: usize) -> u8
     requires { n < 8 }
     ensures { result ≡ value / 256 ^ n % 256 }
@@ -69,6 +72,7 @@ pub fn put(buf: &mut [u8], at: usize, value: u64, width: usize)
 }
 
 // The value with its byte that has n bytes below it replaced.
+#[tactic(auto, using(crate::proofs::BigEndian::with_byte_laws), unfolding(crate::specs::Fields::with_byte))]
 pub fn with_byte(value: u64, n: usize, byte: u8) -> u64
     requires { n < 8 }
     ensures { result ≡ with_byte n byte value }
@@ -77,6 +81,7 @@ pub fn with_byte(value: u64, n: usize, byte: u8) -> u64
     (value / u / 256 * 256 + u64::from(byte)) * u + value % u
 }
 
+#[tactic(auto, using(crate::proofs::BigEndian::sets_two_words), unfolding(crate::specs::Number::value_of))]
 pub fn put_wide(buf: &mut [u8], at: usize, value: Wide)
     requires { at + 16 ≤ length buf.old }
     ensures { buf.new ≡ sets buf.old at (be 16 (value_of value)) }

@@ -12,6 +12,7 @@ pub struct Wide {
 impl From<u64> for Wide {
     ghost from_gives = { λ n r. value_of r ≡ n };
 
+    #[tactic(auto, unfolding(crate::specs::Number::value_of))]
     fn from(n: u64) -> Wide {
         Wide { high: 0, low: n }
     }
@@ -22,6 +23,7 @@ impl Wide {
     const HALF: u64 = 0x1_0000_0000;
 
     // The whole product of two words, from the products of their halves.
+    #[tactic(auto, using(crate::proofs::Products::product_laws))]
     pub fn product(a: u64, b: u64) -> Self
         ensures { value_of result ≡ a * b }
     {
@@ -47,6 +49,7 @@ impl Wide {
         }
     }
 
+    #[tactic(auto, using(crate::proofs::TwoWords::sum_laws))]
     pub fn sum(self, other: Wide) -> Self
         requires { value_of self + value_of other < 2 ^ 128 }
         ensures { value_of result ≡ value_of self + value_of other }
@@ -65,6 +68,7 @@ impl Wide {
         Wide { high: h + k, low }
     }
 
+    #[tactic(auto, using(crate::proofs::TwoWords::difference_laws))]
     pub fn difference(self, other: Wide) -> Self
         requires { value_of other ≤ value_of self }
         ensures { value_of result ≡ value_of self - value_of other }
@@ -84,6 +88,7 @@ impl Wide {
     }
 
     // The number, or the largest word where it is larger.
+    #[tactic(auto, using(crate::proofs::TwoWords::capped_low, crate::proofs::TwoWords::capped_high))]
     pub fn capped(self) -> u64
         ensures { result ≡ min (value_of self) largest }
     {

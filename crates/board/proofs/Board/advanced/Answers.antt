@@ -9,8 +9,8 @@ use Rattle.board.proofs.Board.advanced.Goals as goal
 pub advance_all-moved-requires : goal.advance_all-moved-requires
 advance_all-moved-requires c = (sound_facts c.args.self c.requires).timers
 
-pub advance-later-requires : goal.advance-later-requires
-advance-later-requires c =
+pub advance-self-requires : goal.advance-self-requires
+advance-self-requires c =
     clock-timed (rate_of c.args.self.clock) c.args.self.clock (sound_facts c.args.self c.requires).rate
     (clock_facts c.args.self
     (board_fits c.args.self _ c.well_formed.0).clock
@@ -20,4 +20,4 @@ pub returns : goal.returns
 unfolding advanced_board moved_board
 returns c =
     let all = c.advance_all-moved in
-    (rw (c.wired.ensures, c.advance-later.ensures, all.ensures.0), all.ensures.1)
+    (rw (c.wired.ensures, c.advance-self.ensures, all.ensures.0), all.ensures.1)

@@ -6,10 +6,13 @@ use Rattle.board.proofs.Soundness.{wired_sound}
 use Rattle.board.proofs.Answers.{accepted_sound, answer-refused, answer-accepted, deadline_listed, answer_promises}
 use Rattle.board.proofs.Board.deadline.Goals as goal
 
-pub returns-in-Err : goal.returns-in-Err
-returns-in-Err c = let b = c.args.self in
-    let e = answer-refused Deadline b c.in-Err.refusal c.in-Err.ensures.refused in
-    record { value = e; promise = answer_promises b c.check_sound.ensures.fits _ e }
+pub returns-in-Err-clause-value : goal.returns-in-Err-clause-value
+returns-in-Err-clause-value c =
+    rw c.refused.ensures (answer-refused Deadline c.args.self c.in-Err.refusal c.in-Err.ensures.refused)
+
+pub returns-in-Err-clause-promise : goal.returns-in-Err-clause-promise
+returns-in-Err-clause-promise c =
+    answer_promises c.args.self c.check_sound.ensures.fits _ (returns-in-Err-clause-value c)
 
 pub deadline_members-requires : goal.deadline_members-requires
 deadline_members-requires c = accepted_sound c.args.self 0 (sym c.in_default.ensures.refused)

@@ -14,17 +14,21 @@ use Rattle.board.proofs.Answers.{
 use Rattle.board.proofs.Skips.{skip_reaches}
 use Rattle.board.proofs.Board.skip.Goals as goal
 
-pub returns-in-Err : goal.returns-in-Err
-returns-in-Err c = let b = c.args.self in
-    let e = answer-refused Skip b c.in-Err.refusal
-    (unsound_first b (skip_refusal b) c.in-Err.refusal c.in-Err.ensures.refused) in
-    record { value = e; skip_promise = skip_reaches b c.check_sound.ensures.fits _ e }
+pub returns-in-Err-clause-value : goal.returns-in-Err-clause-value
+returns-in-Err-clause-value c = let b = c.args.self in
+    rw c.refused.ensures
+    (answer-refused Skip b c.in-Err.refusal
+    (unsound_first b (skip_refusal b) c.in-Err.refusal c.in-Err.ensures.refused))
+
+pub returns-in-Err-clause-skip_promise : goal.returns-in-Err-clause-skip_promise
+returns-in-Err-clause-skip_promise c =
+    skip_reaches c.args.self c.check_sound.ensures.fits _ (returns-in-Err-clause-value c)
 
 pub skip_length-requires : goal.skip_length-requires
 skip_length-requires c = accepted_sound c.args.self 0 (sym c.in_default.ensures.refused)
 
-pub advanced-moved-requires : goal.advanced-moved-requires
-advanced-moved-requires c = accepted_sound c.args.self 0 (sym c.in_default.ensures.refused)
+pub advanced-requires : goal.advanced-requires
+advanced-requires c = accepted_sound c.args.self 0 (sym c.in_default.ensures.refused)
 
 pub returns-in-Ok-Some-clause-value : goal.returns-in-Ok-Some-clause-value
 unfolding advanced_board
@@ -36,7 +40,7 @@ returns-in-Ok-Some-clause-value c = let b = c.args.self in
       answer-accepted Skip b (rw s (sym (length-refused _ (skip_length b) k))),
       length-made _ (skip_length b) k refl,
       c.line-line.ensures,
-      c.advanced-moved.ensures.0,
+      c.advanced.ensures.0,
       wired_line (moved_board n b),
     )
 
@@ -51,7 +55,7 @@ returns-in-Ok-None-clause-value c = let b = c.args.self in
     rw (
       answer-accepted Skip b (rw s (sym (length-refused _ (skip_length b) k))),
       length-made _ (skip_length b) k refl,
-      c.line-line-in-Ok-None.ensures,
+      c.line.ensures,
       wired_sound b s,
     )
 
@@ -59,9 +63,13 @@ pub returns-in-Ok-None-clause-skip_promise : goal.returns-in-Ok-None-clause-skip
 returns-in-Ok-None-clause-skip_promise c =
     skip_reaches c.args.self c.check_sound.ensures.fits _ (returns-in-Ok-None-clause-value c)
 
-pub returns-in-Err-skip_length : goal.returns-in-Err-skip_length
-returns-in-Err-skip_length c = let b = c.args.self in
+pub returns-in-Err-skip_length-clause-value : goal.returns-in-Err-skip_length-clause-value
+returns-in-Err-skip_length-clause-value c = let b = c.args.self in
     let s = accepted_sound b 0 (sym c.in_default.ensures.refused) in
-    let e = answer-refused Skip b c.in-Err-skip_length.refusal
-    (rw s (length-refused _ (skip_length b) c.in-Err-skip_length.ensures)) in
-    record { value = e; skip_promise = skip_reaches b c.check_sound.ensures.fits _ e }
+    rw c.refused-in-Err-skip_length.ensures
+    (answer-refused Skip b c.in-Err-skip_length.refusal
+    (rw s (length-refused _ (skip_length b) c.in-Err-skip_length.ensures)))
+
+pub returns-in-Err-skip_length-clause-skip_promise : goal.returns-in-Err-skip_length-clause-skip_promise
+returns-in-Err-skip_length-clause-skip_promise c =
+    skip_reaches c.args.self c.check_sound.ensures.fits _ (returns-in-Err-skip_length-clause-value c)

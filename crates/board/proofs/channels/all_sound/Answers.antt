@@ -12,4 +12,5 @@ loop-t-preserved c =
 
 pub returns : goal.returns
 returns c =
-    fold-ends (λ _ h. sound_timer h) ◌&&◌ true and-true c.args.timers c.loop-t.t-index _ (search rules) c.loop-t.invariant
+    fold-ends (λ _ h. sound_timer h) ◌&&◌ true and-true c.args.timers c.loop-t.t-index _ (search rules)
+    c.loop-t.invariant

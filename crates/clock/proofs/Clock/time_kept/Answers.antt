@@ -1,38 +1,14 @@
 -- `Clock::time_kept` meets its contract. Assumes nothing.
-use Prim.Native.Nat.{ℕ}
-use mathlib.Core.Path.{sym, ap, ◌∙◌}
-use mathlib.Core.Bool.{not}
-use Rattle.clock.proofs.Tests.{both_told}
-use Rattle.clock.proofs.Branches.{host-taken, own-taken, time-left}
+use mathlib.Core.Path.{◌∙◌}
 use Rattle.clock.specs.Clock.{rate_of}
-use Rattle.clock.specs.Registers.{set_time}
 use Rattle.clock.specs.CodeTime.{duration_of}
+use Rattle.clock.proofs.Branches.{host-taken}
 use Rattle.clock.proofs.Clock.time_kept.Goals as goal
 
-pub returns-then-both : goal.returns-then-both
-returns-then-both c =
+pub returns-then-from_host : goal.returns-then-from_host
+returns-then-from_host c =
     let a = c.args in
-    let d = c.own_duration in
     c.with_offset.ensures
-    ∙ host-taken (rate_of a.self) a.new a.self c.since.result (duration_of d.result)
-    (both_told c.both.ensures c.from_host.ensures
-    (ap not c.from_host-before.ensures) c.if-both.true)
-    d.ensures.total c.since.ensures
-
-pub returns-then-takes_own : goal.returns-then-takes_own
-returns-then-takes_own c =
-    let a = c.args in
-    c.set_time.ensures
-    ∙ ap (λ (n : ℕ). set_time (rate_of a.self) n a.self) c.time.ensures.total
-    ∙ own-taken (rate_of a.self) a.new a.self
-    (both_told c.both.ensures c.from_host.ensures
-    (ap not c.from_host-before.ensures) c.if-both.false)
-    (sym c.takes_own.ensures ∙ c.if-takes_own.true)
-
-pub returns : goal.returns
-returns c =
-    let a = c.args in
-    time-left (rate_of a.self) a.new a.self
-    (both_told c.both.ensures c.from_host.ensures
-    (ap not c.from_host-before.ensures) c.if-both.false)
-    (sym c.takes_own.ensures ∙ c.if-takes_own.false)
+    ∙ host-taken (rate_of a.self) a.new a.self c.since.result (duration_of c.own_duration.result)
+    (rw (c.from_host.ensures, c.from_host-2.ensures) at c.if-from_host.true)
+    c.own_duration.ensures c.since.ensures

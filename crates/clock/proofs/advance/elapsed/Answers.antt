@@ -1,6 +1,4 @@
 -- `advance::elapsed` meets its contract. Assumes nothing.
-use mathlib.Core.Path.{sym}
-use native.Mathlib.Nat.{div-eq_of_lt, mod-eq_of_lt}
 use native.Mathlib.Omega.{arith}
 use Rattle.clock.proofs.Periods.{part-fits, steps, steps-fit}
 use Rattle.clock.proofs.Rate.{period-above, period-fits}
@@ -8,9 +6,6 @@ use Rattle.clock.proofs.advance.elapsed.Goals as goal
 
 pub overflow_add-sum : goal.overflow_add-sum
 overflow_add-sum c = omega (arith, c.if-c-period.true, period-fits c.args.period c.requires)
-
-pub returns-then-sum-period : goal.returns-then-sum-period
-returns-then-sum-period c = (sym (div-eq_of_lt c.if-sum-period.true), sym (mod-eq_of_lt c.if-sum-period.true))
 
 pub overflow_add-part : goal.overflow_add-part
 overflow_add-part c =

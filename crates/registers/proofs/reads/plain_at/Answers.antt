@@ -1,6 +1,6 @@
 -- `reads::plain_at` meets its contract. Assumes nothing.
 use mathlib.Core.Path.{sym, ap}
-use Rattle.registers.specs.CodeReads.{plain_of}
+use Rattle.registers.specs.declared.reads.LatchedReading.{LatchedReading}
 use Rattle.registers.proofs.Latches.{plain-range, plain-reading}
 use Rattle.registers.proofs.reads.plain_at.Goals as goal
 
@@ -16,4 +16,4 @@ returns c =
       c.check_alarm-checked.ensures,
       c.requires.2,
     )
-    (ap plain_of (sym (plain-reading c.args.offset c.requires.0 c.args.board)))
+    (ap (λ (r : LatchedReading). r.plain) (sym (plain-reading c.args.offset c.requires.0 c.args.board)))

@@ -33,7 +33,7 @@ returns-in_default c =
     (sym
     (by_register a.timer a.shared a.clock a.latches a.offset
     (ne_eqb a.offset seconds_low_at c.if-offset-eq-RTC_SECONDS_LO.false)
-    (sym c.serving-latch.ensures ∙ c.in_default.is)))
+    (sym c.serving.ensures ∙ c.in_default.is)))
 
 pub returns : goal.returns
 returns c =
@@ -42,4 +42,4 @@ returns c =
     (sym
     (by-latch a.timer a.shared a.clock a.latches a.offset
     (ne_eqb a.offset seconds_low_at c.if-offset-eq-RTC_SECONDS_LO.false) _
-    (sym c.serving-latch.ensures ∙ c.in-Held.is)))
+    (sym c.serving.ensures ∙ c.in-Some.is)))

@@ -6,24 +6,24 @@ use Rattle.registers.proofs.writes.written_at.Goals as goal
 pub channel_of-number-requires : goal.channel_of-number-requires
 channel_of-number-requires c =
     channel-range c.args.offset
-    (sym c.part_at-part.ensures ∙ c.in-Channel.is)
+    (sym c.part_at.ensures ∙ c.in-Channel.is)
 
 pub timer_after-requires : goal.timer_after-requires
 timer_after-requires c =
     channel-range c.args.offset
-    (sym c.part_at-part.ensures ∙ c.in-Channel.is)
+    (sym c.part_at.ensures ∙ c.in-Channel.is)
 
 pub returns-in-Nothing : goal.returns-in-Nothing
 returns-in-Nothing c =
     let a = c.args in
-    rw (written_is a.offset a.value a.board, ← c.part_at-part.ensures, c.in-Nothing.is)
+    rw (written_is a.offset a.value a.board, ← c.part_at.ensures, c.in-Nothing.is)
 
 pub returns-in-Enable : goal.returns-in-Enable
 returns-in-Enable c =
     let a = c.args in
     rw (
       written_is a.offset a.value a.board,
-      ← c.part_at-part.ensures,
+      ← c.part_at.ensures,
       c.in-Enable.is,
       c.with_timer_enable.ensures,
       c.enable_after.ensures,
@@ -34,7 +34,7 @@ returns-in-Acknowledge c =
     let a = c.args in
     rw (
       written_is a.offset a.value a.board,
-      ← c.part_at-part.ensures,
+      ← c.part_at.ensures,
       c.in-Acknowledge.is,
       c.with_timers.ensures,
       c.acknowledged.ensures,
@@ -45,7 +45,7 @@ returns-in-Clock c =
     let a = c.args in
     rw (
       written_is a.offset a.value a.board,
-      ← c.part_at-part.ensures,
+      ← c.part_at.ensures,
       c.in-Clock.is,
       c.with_clock.ensures,
       c.clock_after.ensures,
@@ -54,7 +54,7 @@ returns-in-Clock c =
 pub returns-in-Channel : goal.returns-in-Channel
 returns-in-Channel c =
     let a = c.args in
-    let t = sym c.part_at-part.ensures ∙ c.in-Channel.is in
+    let t = sym c.part_at.ensures ∙ c.in-Channel.is in
     rw (
       written_is a.offset a.value a.board,
       t,

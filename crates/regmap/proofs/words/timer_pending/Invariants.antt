@@ -1,23 +1,17 @@
--- `words::timer_pending` meets its contract. The loop has joined the channels from i on. Assumes nothing.
+-- `words::timer_pending` meets its contract. Assumes nothing.
+use Prim.Native.Nat.{◌+◌, ◌*◌, ◌^◌, ◌<◌}
 use mathlib.Core.Path.{◌≡◌}
-use mir.Val.{bool_byte}
-use lib.ListN.{drop, get_or}
-use Rattle.regmap.proofs.Pending.{byte_flag, pending-goes, pending-fits}
-use Prim.Native.Nat.{◌+◌, ◌-◌, ◌*◌, ◌≤◌, ◌<◌, ◌^◌}
-use mathlib.Core.Bool.{false}
-use borrow.Author.Rules.{rules}
-use native.Mathlib.Omega.{arith}
+use lib.ListN.{drop}
 use Rattle.wide.specs.Bits.{flag_of}
-use Rattle.channel.specs.Channel.{fresh_timer}
 use Rattle.board.specs.Loops.{fold_from}
-use Rattle.board.proofs.Loops.{fold-starts, fold-goes}
+use Rattle.board.specs.RegisterWords.{pending_word}
 use Rattle.regmap.proofs.words.timer_pending.Given as goal
 
+-- the word has the bits of the channels below i
 abbrev pub invariant-loop-i : goal.invariant-loop-i
-invariant-loop-i l =
-    (l.i ≤ 4)
-    × (l.word ≡ fold_from (λ _ h. flag_of h.pending) (λ flag w. flag + 2 * w) 0 l.i (drop l.i l.timers))
-    × (l.word < 2 ^ (4 - l.i))
-
-abbrev pub decreases-loop-i : goal.decreases-loop-i
-decreases-loop-i l = l.i
+invariant-loop-i l = record {
+  joined :
+      l.word + 2 ^ l.i * fold_from (λ _ h. flag_of h.pending) (λ flag w. flag + 2 * w) 0 l.i (drop l.i l.t-items)
+      ≡ pending_word l.t-items;
+  room : l.word < 2 ^ l.i;
+}

@@ -1,24 +1,27 @@
 -- `time::Duration::since` meets its contract. Assumes nothing.
-use Prim.Native.Nat.{ℕ}
-use mathlib.Core.Path.{sym, ap, ◌∙◌}
+use mathlib.Core.Path.{sym, ◌∙◌}
 use mathlib.Core.Bool.{true, false}
-use Rattle.clock.proofs.Durations.{since_is, host_total}
-use Rattle.clock.specs.Registers.{signed_difference}
+use Rattle.clock.specs.Clock.{host_nanoseconds}
 use Rattle.clock.specs.CodeTime.{duration_of}
+use Rattle.clock.proofs.Durations.{before_is, since_is}
 use Rattle.clock.proofs.time.Duration.since.Goals as goal
 
-pub returns-then-before : goal.returns-then-before
-returns-then-before c =
-    let a = c.args in
-    let d = c.duration-other in
-    since_is true (duration_of a.self) (duration_of d.result) c.minus-d.result
-    (sym c.before-2.ensures ∙ c.if-before.true) c.minus-d.ensures
-    ∙ ap (λ (n : ℕ). signed_difference (duration_of a.self) n) (host_total d.result a.host d.ensures)
+pub returns-then-negative : goal.returns-then-negative
+returns-then-negative c =
+    let a = c.args.self in
+    let h = c.args.host in
+    let by = c.minus-by in
+    let order = before_is a.seconds a.nanoseconds h.seconds h.nanoseconds a.small c.requires in
+    rw c.if-negative.true
+    (since_is true (duration_of a) (host_nanoseconds h) by.result (sym order ∙ sym c.if-negative.ensures)
+    by.ensures by.result.small)
 
-pub returns : goal.returns
-returns c =
-    let a = c.args in
-    let d = c.duration-other in
-    since_is false (duration_of a.self) (duration_of d.result) c.minus-d-2.result
-    (sym c.before-2.ensures ∙ c.if-before.false) c.minus-d-2.ensures
-    ∙ ap (λ (n : ℕ). signed_difference (duration_of a.self) n) (host_total d.result a.host d.ensures)
+pub returns-else-negative : goal.returns-else-negative
+returns-else-negative c =
+    let a = c.args.self in
+    let h = c.args.host in
+    let by = c.minus-by-else-negative in
+    let order = before_is a.seconds a.nanoseconds h.seconds h.nanoseconds a.small c.requires in
+    rw c.if-negative.false
+    (since_is false (duration_of a) (host_nanoseconds h) by.result (sym order ∙ sym c.if-negative.ensures)
+    by.ensures by.result.small)
