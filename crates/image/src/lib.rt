@@ -19,7 +19,7 @@ pub enum Form {
     New,
 }
 
-// A field of an image: its tag, the bytes of its members, and the width of each.
+// What a field of an image looks like: its tag, the bytes of its members, and the width of each member.
 #[derive(Clone, Copy)]
 pub struct Shape<const N: usize> {
     pub tag: u8,

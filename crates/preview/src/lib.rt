@@ -50,6 +50,7 @@ fn high_from(board: Board) -> Option<Cycles>
     board.skip_length().unwrap_or(None)
 }
 
+// Whether a total is at least `from`.
 fn reaches(from: Option<Cycles>, total: u64) -> bool
     ensures { result ≡ reaches from total }
 {
@@ -90,10 +91,7 @@ pub fn preview(board: Board, totals: &[u64], high: &mut [u8]) -> Answered<()>
     ensures high_after { high.new ≡ previewed_buffer board totals.now high.old }
 {
     if let Err(refusal) = board.check_sound() {
-        return Answered {
-            board,
-            answer: Err(refusal),
-        };
+        return board.refused(refusal);
     }
     let answer = put_preview(board, totals, high);
     Answered { board, answer }

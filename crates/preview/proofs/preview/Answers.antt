@@ -8,7 +8,7 @@ returns-in-Err c =
     let a = c.args in
     let told = preview-unsound a.board a.totals.now a.high.now _ c.in-Err.ensures.refused in
     record {
-      value = preview_answers _ _ _ (Err _) told;
+      value = rw c.refused.ensures (preview_answers _ _ _ (Err _) told);
       high_after = preview-left a.board a.totals.now a.high.now _ told;
     }
 
