@@ -5,7 +5,7 @@ use Rattle.std.proofs.lemmas.List.{length-take-le, take_all}
 use native.Mathlib.Nat.{zero-add}
 use native.Mathlib.Omega.{arith}
 use mathlib.Core.Bool.{Bool, true, false}
-use mathlib.Core.Path.{◌≡◌, refl, sym, ap, ap₂, ◌∙◌, subst}
+use mathlib.Core.Path.{◌≡◌, refl, sym, ap, ap₂, ◌∙◌}
 use mathlib.Core.List.{List, [], ◌∷◌, ◌++◌, map, append_assoc, append-nil}
 use lib.ListN.{length, get_or, take, drop, length-append, length-map, length-drop, drop_of_length-le}
 use lib.Seq.{take-suc, sets, length-sets, sets-eq, drop-drop}
@@ -205,14 +205,6 @@ module _ (f : Form) (b : Board) (x y : List ℕ) (room : image_length f ≤ leng
     (e : y ≡ sets x 0 (front_bytes f (rate_of b.clock))) where
   same_length : length y ≡ length x
   same_length = ap length e ∙ length-sets x 0 (front_bytes f (rate_of b.clock))
-
-  pub front-room : n ≤ length y
-  front-room = omega (arith, room, same_length, at, whole_length f)
-
-  pub old-room : image_length Old ≤ length (take (length y - n) (drop n y))
-  old-room =
-      subst (λ (l : List ℕ). image_length Old ≤ length l) (sym (part_rest y n))
-      (omega (arith, room, same_length, at, whole_length f, length-drop n y))
 
   pub image-stored : (z : List ℕ) → z ≡ sets (take (length y - n) (drop n y)) 0 (image_of Old b) →
       take n y ++ (z ++ drop (length y - n) (drop n y)) ≡ sets x 0 (image_of f b)

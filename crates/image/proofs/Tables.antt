@@ -7,7 +7,6 @@ use mathlib.Core.List.{List, [], ◌∷◌, ◌++◌}
 use lib.ListN.{length, length-append}
 use lib.Seq.{sets, length-sets}
 use lib.Dec.{leb}
-use borrow.Author.Tests.{leb-true}
 use Rattle.wide.specs.Fields.{be}
 use Rattle.wide.proofs.Choices.{and_parts}
 use Rattle.wide.proofs.BigEndian.{length-be}
@@ -28,10 +27,6 @@ module _ (all buf : List ℕ) (p w m : ℕ) (vs ns ws ms : List ℕ) (left : Sto
     (e : (vs ≡ w ∷ ws) × (ns ≡ m ∷ ms)) where
   s : Storing all buf p (w ∷ ws) (m ∷ ms)
   s = rw (e.0, e.1) at left
-
-  -- there is room for the member
-  pub storing-room : (w ≤ 8) × (p + w ≤ length buf)
-  storing-room = (leb-true w 8 (and_parts (leb w 8) (up_to_eight ws) s.narrow).0, omega (arith, s.room))
 
   -- it is stored
   pub storing-more : (buf' : List ℕ) → buf' ≡ sets buf p (be w m) → Storing all buf' (p + w) ws ms

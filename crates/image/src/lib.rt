@@ -1,4 +1,4 @@
-// The image of a board: the bytes of its fields, put into a buffer.
+// The image of a board: the bytes of its fields, put into a buffer, and the members of a field read from bytes.
 #![tactic(auto)]
 
 ghost use Rattle.std.specs.Prelude.{◌≡◌, true};
@@ -19,7 +19,7 @@ pub enum Form {
     New,
 }
 
-// A field of an image: its tag, the bytes of its members, and the width of each.
+// What a field of an image looks like: its tag, the bytes of its members, and the width of each member.
 #[derive(Clone, Copy)]
 pub struct Shape<const N: usize> {
     pub tag: u8,

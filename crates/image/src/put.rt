@@ -46,6 +46,7 @@ impl<const N: usize> Shape<N> {
     }
 }
 
+// Writes a channel's field at an index.
 #[tactic(auto, unfolding(crate::specs::Image::field_bytes))]
 fn put_channel(buf: &mut [u8], at: usize, timer: HardwareTimer)
     requires { at + field_length channel_field ≤ length buf.old }
@@ -64,6 +65,7 @@ fn put_channel(buf: &mut [u8], at: usize, timer: HardwareTimer)
     CHANNEL.put(buf, at, &members);
 }
 
+// Writes the field of timer enable and the clock.
 #[tactic(auto, unfolding(crate::specs::Image::field_bytes))]
 fn put_clock(buf: &mut [u8], timer_enable: u8, clock: Clock)
     requires { latches_at ≤ length buf.old }
@@ -93,6 +95,7 @@ fn put_clock(buf: &mut [u8], timer_enable: u8, clock: Clock)
     CLOCK.put(buf, CLOCK_AT, &members);
 }
 
+// Writes the latches' field: the count latches, and the clock's low and high latch.
 fn put_latches(buf: &mut [u8], counts: [CountLatch; 4], low: Option<u32>, high: Option<u32>)
     requires { controller_at ≤ length buf.old }
     ensures { buf.new ≡ sets buf.old latches_at
@@ -116,6 +119,7 @@ fn put_latches(buf: &mut [u8], counts: [CountLatch; 4], low: Option<u32>, high: 
     LATCHES.put(buf, LATCHES_AT, &members);
 }
 
+// Writes the controller's field.
 #[tactic(auto, unfolding(crate::specs::Image::field_bytes))]
 fn put_controller(buf: &mut [u8], controller: IrqController)
     requires { image_length Old ≤ length buf.old }
@@ -130,6 +134,7 @@ fn put_controller(buf: &mut [u8], controller: IrqController)
     CONTROLLER.put(buf, CONTROLLER_AT, &members);
 }
 
+// Writes the fields of the channels.
 fn put_channels(buf: &mut [u8], timers: &[HardwareTimer; 4])
     requires { clock_at ≤ length buf.old }
     ensures { buf.new ≡ sets buf.old 0 (channels_bytes timers.now) }

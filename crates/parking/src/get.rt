@@ -30,7 +30,7 @@ pub struct BoardSaid {
     pub board: Board,
 }
 
-// The next five functions read the field at its place; there is none where it is not formed.
+// A channel, where its field is formed at an index.
 fn channel_at(image: &[u8], at: usize) -> Option<HardwareTimer>
     requires { at + field_length channel_field ≤ length image.now }
     ensures { result
@@ -54,7 +54,7 @@ fn channel_at(image: &[u8], at: usize) -> Option<HardwareTimer>
     })
 }
 
-// The timer enable and the clock, at a rate.
+// Timer enable and the clock, at a rate, where their field is formed.
 fn clock_in(rate: u32, image: &[u8]) -> Option<(u8, Clock)>
     requires { latches_at ≤ length image.now }
     ensures { result
@@ -128,6 +128,7 @@ fn held_flags(members: &[u64; 12]) -> bool
         & (members[10] <= 1)
 }
 
+// Whether each empty latch holds 0.
 fn empties_hold_0(members: &[u64; 12]) -> bool
     ensures { result ≡ six_hold0 members.now }
 {
@@ -139,6 +140,7 @@ fn empties_hold_0(members: &[u64; 12]) -> bool
         & empty_holds_0(members[10], members[11])
 }
 
+// The latches, where their field is formed.
 fn latches_in(image: &[u8]) -> Option<LatchesSaid>
     requires { controller_at ≤ length image.now }
     ensures { result
@@ -174,6 +176,7 @@ fn latches_in(image: &[u8]) -> Option<LatchesSaid>
     })
 }
 
+// The controller, where its field is formed.
 fn controller_in(image: &[u8]) -> Option<IrqController>
     requires { image_length Old ≤ length image.now }
     ensures { result
@@ -188,7 +191,7 @@ fn controller_in(image: &[u8]) -> Option<IrqController>
     })
 }
 
-// The rate, which the new form begins with.
+// The rate, where the field that the new form begins with is formed.
 pub fn rate_in(image: &[u8]) -> Option<u32>
     requires { field_length rate_field ≤ length image.now }
     ensures { result
@@ -199,7 +202,7 @@ pub fn rate_in(image: &[u8]) -> Option<u32>
     Some(members[0] as u32)
 }
 
-// Reads an image in the old form, with its board at a rate; there is none where a field is not formed.
+// The board of an image in the old form, at a rate, where every field is formed.
 pub fn board_in(rate: u32, image: &[u8]) -> Option<BoardSaid>
     requires { length image.now ≡ image_length Old }
     ensures { result

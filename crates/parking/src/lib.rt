@@ -100,7 +100,9 @@ fn read_fields(form: Form, rate: u32, fields: &[u8]) -> Result<Parked, Refusal>
     if fields.len() != OLD_LENGTH {
         return Err(Refusal::ImageMalformed);
     }
-    let said = get::board_in(rate, fields).ok_or(Refusal::ImageMalformed)?;
+    let Some(said) = get::board_in(rate, fields) else {
+        return Err(Refusal::ImageMalformed);
+    };
     if !said.empties_hold_0 {
         return Err(Refusal::NotSound);
     }

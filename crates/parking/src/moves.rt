@@ -24,6 +24,5 @@ pub fn move_image(to: Form, image: &[u8], buffer: &mut [u8]) -> Result<usize, Re
     ensures buffer_after { buffer.new ≡ moved_buffer to image.now buffer.old }
 {
     let parked = read_in(other_form(to), image)?;
-    let board = parked.board;
-    park(to, board, buffer)
+    park(to, parked.board, buffer)
 }

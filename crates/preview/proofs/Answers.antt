@@ -1,7 +1,7 @@
 -- What a preview answers and writes, refused or accepted, of a board and of a parked one. Assumes nothing.
 use Prim.Native.Nat.{ℕ, ◌<◌, ◌^◌}
 use native.Mathlib.Omega.{arith}
-use mathlib.Core.Path.{◌≡◌, refl, sym, ap, ◌∙◌}
+use mathlib.Core.Path.{◌≡◌, refl, sym, ap, ◌∙◌, subst}
 use mathlib.Core.Bool.{Bool, true, false, cond}
 use mathlib.Core.List.{List, [], map, ◌++◌}
 use lib.ListN.{length, get_or, drop}
@@ -20,7 +20,8 @@ use Rattle.board.proofs.Answers.{some_refusal, unsound_first}
 use Rattle.parking.specs.declared.Parked.{Parked}
 use Rattle.parking.specs.Parking.{Reading, buffer_short, reading_of, reading_refusal}
 use Rattle.parking.specs.CodeReads.{reading_said}
-use Rattle.parking.proofs.RoundTrip.{refusal_is}
+use Rattle.format.proofs.Members.{Bytes}
+use Rattle.parking.proofs.RoundTrip.{refusal_is, accepted_sound, accepted-fits}
 use Rattle.preview.specs.Preview.{
   clock_in_realtime,
   preview_refusal,
@@ -93,6 +94,14 @@ preview_answers b count room (Ok _) e = ap (λ (n : ℕ). record { board = b; re
 preview_answers b count room (Err d) e = ap (λ (n : ℕ). record { board = b; refusal = n; members = [] }) e
 
 -- ---- of a parked board
+
+-- the board that is read is sound and within its widths
+pub parked_sound : (image : List ℕ) → Bytes image → (p : Parked) → reading_said (Ok p) ≡ reading_of image →
+    (sound p.board ≡ true) × BoardFits p.board
+parked_sound image bytes p e =
+    let z : (reading_of image).refusal ≡ 0 = sym (ap (λ (x : Reading). x.refusal) e) in
+    subst (λ (b : Board). (sound b ≡ true) × BoardFits b) (sym (ap (λ (x : Reading). x.board) e))
+    (accepted_sound image z, accepted-fits image bytes z)
 
 module _ (image totals old : List ℕ) where
   pub parked-refused : (d : Refusal) → reading_said (Err d) ≡ reading_of image →

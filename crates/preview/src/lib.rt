@@ -4,7 +4,7 @@
 
 ghost use Rattle.std.specs.Prelude.{◌≡◌, true, cond, map, ◌++◌, ◌≤◌, length, drop, ltb};
 ghost use Rattle.wide.specs.Bits.{flag_of};
-ghost use Rattle.board.specs.Board.{sound};
+ghost use Rattle.board.specs.Board.{BoardFits, sound};
 ghost use Rattle.board.specs.Answers.{answered, no_members};
 ghost use Rattle.board.specs.Refusals.{refusal_code};
 ghost use Rattle.parking.specs.Parking.{buffer_short};
@@ -50,6 +50,7 @@ fn high_from(board: Board) -> Option<Cycles>
     board.skip_length().unwrap_or(None)
 }
 
+// Whether a total is at least `from`.
 fn reaches(from: Option<Cycles>, total: u64) -> bool
     ensures { result ≡ reaches from total }
 {
@@ -67,13 +68,13 @@ fn put_reached(from: Option<Cycles>, totals: &[u64], high: &mut [u8])
     }
 }
 
-// Writes whether the line would be high after each total of further cycles: one byte each, 1 or 0, at the start of a
-// lent buffer. The advance that a skip would make is computed once, and each total is compared with it.
+// Writes whether the line of a sound board would be high after each total of further cycles: one byte each, 1 or 0, at
+// the start of a lent buffer. The advance that a skip would make is computed once, and each total is compared with it.
 fn put_preview(board: Board, totals: &[u64], high: &mut [u8]) -> Result<(), Refusal>
+    requires { (sound board ≡ true) × BoardFits board }
     ensures value { refusal_code result ≡ preview_refusal board (length totals.now) (length high.old) }
     ensures high_after { high.new ≡ previewed_buffer board totals.now high.old }
 {
-    board.check_sound()?;
     check_preview(
         clock::from_host(board.clock.control),
         totals.len(),
@@ -83,17 +84,20 @@ fn put_preview(board: Board, totals: &[u64], high: &mut [u8]) -> Result<(), Refu
     Ok(())
 }
 
-// The same as a direct call, which hands the board back.
+// The same of every board, as a direct call.
 pub fn preview(board: Board, totals: &[u64], high: &mut [u8]) -> Answered<()>
     ensures value { answered no_members result
         ≡ preview_of board (length totals.now) (length high.old) }
     ensures high_after { high.new ≡ previewed_buffer board totals.now high.old }
 {
+    if let Err(refusal) = board.check_sound() {
+        return board.refused(refusal);
+    }
     let answer = put_preview(board, totals, high);
     Answered { board, answer }
 }
 
-// The same for a parked board. The refusal is that of the image, 12 or 1, or else that of the preview.
+// The same of a parked board. The refusal is that of the image, 12 or 1, or else that of the preview.
 pub fn preview_parked(image: &[u8], totals: &[u64], high: &mut [u8]) -> Result<(), Refusal>
     ensures value { refusal_code result
         ≡ parked_preview_refusal image.now (length totals.now) (length high.old) }
@@ -101,6 +105,5 @@ pub fn preview_parked(image: &[u8], totals: &[u64], high: &mut [u8]) -> Result<(
         ≡ parked_preview_buffer image.now totals.now high.old }
 {
     let parked = parking::unpark(image)?;
-    let board = parked.board;
-    put_preview(board, totals, high)
+    put_preview(parked.board, totals, high)
 }

@@ -10,7 +10,9 @@ use Rattle.std.proofs.lemmas.Result.{err_from_is_err_and}
 use Rattle.image.specs.declared.Form.TheVariants.{Old}
 use Rattle.parking.specs.Parking.{said, empties_in}
 use Rattle.parking.proofs.RoundTrip.{formed_not}
-use Rattle.parking.proofs.Answers.{none_found, one_found, unsound_found}
+use Rattle.std.proofs.lemmas.Option.{cond_some}
+use Rattle.parking.proofs.Answers.{unsound_found}
+use Rattle.parking.proofs.Forms.{not_there}
 use Rattle.parking.proofs.Answers.{members-malformed, members-kept, members-unsound, members-accepted}
 use Rattle.parking.proofs.read_fields.Goals as goal
 
@@ -19,11 +21,9 @@ returns-then-fields-ne-OLD_LENGTH c =
     members-malformed c.args.form c.args.rate _ (said Old c.args.fields.now)
     (formed_not Old c.args.fields.now c.if-fields-ne-OLD_LENGTH.true)
 
-pub returns-in_err-said : goal.returns-in_err-said
-returns-in_err-said c =
-    let p = err_from_is_err_and c.from_residual.result c.from_residual.ensures.1 in
-    let none = none_found _ _ _ _ (rw c.board_in.ensures at c.in_err-said.ensures.value) in
-    rw (p.1, p.2, none.1) (members-malformed c.args.form c.args.rate _ (said Old c.args.fields.now) none.0)
+pub returns-in_default : goal.returns-in_default
+returns-in_default c =
+    members-malformed c.args.form c.args.rate _ (said Old c.args.fields.now) (not_there _ _ c.in_default.ensures)
 
 -- what is read, where every field is formed: its two parts
 module _ (l : List ℕ) (rate : ℕ) (x : BoardSaid)
@@ -37,25 +37,25 @@ module _ (l : List ℕ) (rate : ℕ) (x : BoardSaid)
 pub returns-then-not-said : goal.returns-then-not-said
 returns-then-not-said c =
     let a = c.args in
-    let one = one_found _ _ _ _ (rw c.board_in.ensures at c.in_ok-said.ensures.value) in
-    members-kept a.form a.rate _ (said Old a.fields.now) one.0 _ (empties a.fields.now a.rate _ one.1)
+    let one = cond_some _ _ _ (sym c.in-Some.ensures) in
+    members-kept a.form a.rate _ (said Old a.fields.now) one.0 _ (empties a.fields.now a.rate _ (sym one.1))
     (not-true _ c.if-not-said.true)
 
 pub returns-in_err-check_sound : goal.returns-in_err-check_sound
 returns-in_err-check_sound c =
     let a = c.args in
     let p =
-    err_from_is_err_and c.from_residual-in_err-check_sound.result c.from_residual-in_err-check_sound.ensures.1 in
-    let one = one_found _ _ _ _ (rw c.board_in.ensures at c.in_ok-said.ensures.value) in
+    err_from_is_err_and c.from_residual.result c.from_residual.ensures.1 in
+    let one = cond_some _ _ _ (sym c.in-Some.ensures) in
     let unsound = unsound_found _ _ c.in_err-check_sound.ensures.refused in
     rw (p.1, p.2, unsound.1)
-    (members-unsound a.form a.rate _ (said Old a.fields.now) one.0 _ (empties a.fields.now a.rate _ one.1)
-    (not-false _ c.if-not-said.false) _ (board a.fields.now a.rate _ one.1) unsound.0)
+    (members-unsound a.form a.rate _ (said Old a.fields.now) one.0 _ (empties a.fields.now a.rate _ (sym one.1))
+    (not-false _ c.if-not-said.false) _ (board a.fields.now a.rate _ (sym one.1)) unsound.0)
 
 pub returns : goal.returns
 returns c =
     let a = c.args in
-    let one = one_found _ _ _ _ (rw c.board_in.ensures at c.in_ok-said.ensures.value) in
-    members-accepted a.form a.rate _ (said Old a.fields.now) one.0 _ (empties a.fields.now a.rate _ one.1)
-    (not-false _ c.if-not-said.false) _ (board a.fields.now a.rate _ one.1)
+    let one = cond_some _ _ _ (sym c.in-Some.ensures) in
+    members-accepted a.form a.rate _ (said Old a.fields.now) one.0 _ (empties a.fields.now a.rate _ (sym one.1))
+    (not-false _ c.if-not-said.false) _ (board a.fields.now a.rate _ (sym one.1))
     (accepted_sound _ 0 (sym c.in_ok-check_sound.ensures.refused))

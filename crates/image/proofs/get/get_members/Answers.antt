@@ -12,10 +12,6 @@ get-requires c = (
   taking-room _ _ _ _ _ _ c.loop-i.invariant c.loop-i-test.true,
 )
 
-pub overflow_add-p : goal.overflow_add-p
-overflow_add-p c =
-    omega (arith, taking-room _ _ _ _ _ _ c.loop-i.invariant c.loop-i-test.true)
-
 pub loop-i-preserved : goal.loop-i-preserved
 loop-i-preserved c =
     taking-more _ _ _ _ _ _ c.loop-i.invariant c.loop-i-test.true _ c.get.ensures.0

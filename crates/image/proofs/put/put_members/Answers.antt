@@ -1,16 +1,8 @@
 -- `put::put_members` meets its contract. Assumes nothing.
 use mathlib.Core.Path.{sym}
-use native.Mathlib.Omega.{arith}
 use Rattle.std.proofs.lemmas.Iterator.{empty_from_Zip}
-use Rattle.image.proofs.Tables.{storing-room, storing-more, storing-ended}
+use Rattle.image.proofs.Tables.{storing-more, storing-ended}
 use Rattle.image.proofs.put.put_members.Goals as goal
-
-pub put-requires : goal.put-requires
-put-requires c = storing-room _ _ _ _ _ _ _ _ _ c.loop-width.invariant c.in-Some.ensures.steps
-
-pub overflow_add-p : goal.overflow_add-p
-overflow_add-p c =
-    omega (arith, storing-room _ _ _ _ _ _ _ _ _ c.loop-width.invariant c.in-Some.ensures.steps)
 
 pub loop-width-preserved : goal.loop-width-preserved
 loop-width-preserved c =
