@@ -20,11 +20,13 @@ use wide::fields;
 
 // ---- the members of a call
 
+// A member of one byte.
+#[tactic(auto, unfolding(wide::specs::Fields::be_at))]
 fn byte_at(rest: &[u8], at: usize) -> u8
     requires { at + 1 ≤ length rest.now }
     ensures { result ≡ be_at rest.now at 1 }
 {
-    fields::get(rest, at, 1) as u8
+    rest[at]
 }
 
 // The address of a register.

@@ -15,7 +15,7 @@ use Rattle.list.specs.Run.{Outcome, Result, done, refused, result_of, stepped, R
 use Rattle.board.specs.Calls.{board_after}
 use Rattle.registers.proofs.Kept.{call_keeps}
 use Rattle.format.specs.Codec.{call_at, call_length, answer_record, record_length, refusal_at}
-use Rattle.format.proofs.Frames.{sets_then, sets_front, call_length_lem, call_fits, answer_size}
+use Rattle.format.proofs.Frames.{sets_then, sets_front, call_fits, answer_size}
 use Rattle.format.proofs.Decoding.{clear}
 use Rattle.list.proofs.Results.{result-refused, result-done, done_fits}
 
@@ -172,17 +172,7 @@ module _ (list buf₀ : List ℕ) (s₀ : Outcome) (buf : List ℕ) (b : Board) 
       (sym (stop_at (drop used list) (length buf₀) (state_of b calls used written) r.out (omega arith) n e) ∙ r.whole)
 
   module _ (z : refusal_at b l (length buf - written) ≡ 0) where
-    -- it is accepted: the numbers of the call are inside the list and the buffer
-    pub used-inside : used + call_length (call_at l) ≤ length list
-    used-inside =
-        omega (
-          arith,
-          call_length_lem l (clear b l (length buf - written) z).frame,
-          ap length rest,
-          length-drop used list,
-          r.used_in,
-        )
-
+    -- it is accepted: its record is inside the buffer
     pub written-inside : written + record_length (call_at l) ≤ length buf
     written-inside = omega (arith, (clear b l (length buf - written) z).fits, r.counted, r.room, r.same)
 

@@ -15,8 +15,7 @@ use Rattle.wide.specs.Fields.{be}
 use Rattle.wide.proofs.BigEndian.{length-be}
 use Rattle.board.specs.declared.Board.{Board}
 use Rattle.board.specs.declared.calls.Call.{Call}
-use Rattle.board.specs.declared.calls.Call.TheVariants.{HostTime, Read, Write, Advance, Deadline, Skip, Source}
-use Rattle.board.specs.declared.calls.Call.TheVariants.{ControllerRead, ControllerWrite, Output}
+use Rattle.board.specs.declared.calls.Call.TheVariants.{Skip}
 use Rattle.board.specs.declared.refusal.Refusal.{Refusal}
 use Rattle.board.specs.Board.{line, sound}
 use Rattle.board.specs.Calls.{effect_of, skip_length}
@@ -28,15 +27,15 @@ use Rattle.format.specs.declared.Undecoded.TheVariants.{Refused, NoRoom}
 use Rattle.format.specs.declared.tag.Tag.{Tag}
 use Rattle.format.specs.Tags.{tag_number}
 use Rattle.format.specs.Format.{answer_length, members_bytes, answer_bytes, value_bytes, record_of}
-use Rattle.format.specs.Codec.{tag_of, call_at, first_of, refusal_at}
+use Rattle.format.specs.Codec.{tag_of, call_at, refusal_at}
 use Rattle.format.specs.CodeAnswers.{header_bytes, header_of}
-use Rattle.format.specs.CodeDecode.{Decoded, value_refusal, decoded, decoded_of, board_refusal, first_refusal}
+use Rattle.format.specs.CodeDecode.{Decoded, value_refusal, decoded, decoded_of, first_refusal}
 use Rattle.format.proofs.Frames.{sets_then}
 use Rattle.format.proofs.Decoding.{decoded-accepted, first-refusal, accepted-refusal}
 use Rattle.steps.specs.declared.Step.{Step}
 use Rattle.steps.specs.declared.Step.TheVariants as T
 use Rattle.steps.specs.declared.Changes.{Changes}
-use Rattle.steps.specs.CodeSteps.{Makes, SkipIs, StepIs, other_call, ChangesAre, Changed, passed_put, other_put}
+use Rattle.steps.specs.CodeSteps.{Makes, SkipIs, StepIs, ChangesAre, Changed, passed_put, other_put}
 
 -- a flag as a byte
 byte_flag : (v : Bool) → bool_byte v ≡ flag_of v
@@ -44,10 +43,6 @@ byte_flag true = refl
 byte_flag false = refl
 
 -- ---- arms of several cases, by the variants that other arms name
-
--- the calls that are no skip
-abbrev pub NoSkip : Call → Type 0
-NoSkip call = call ≡ Skip → ⊥
 
 -- the steps that no arm names: a skip that stays, and those that are not of such a call
 pub record Rest (step : Step) : Type 0 where
@@ -57,21 +52,6 @@ pub record Rest (step : Step) : Type 0 where
   pub read : (address : ℕ) → step ≡ T.ControllerRead address → ⊥
   pub write : (byte address : ℕ) → step ≡ T.ControllerWrite byte address → ⊥
   pub output : step ≡ T.Output → ⊥
-
--- ---- the refusal
-
--- of a call that is no skip the board decides nothing
-pub first_other : (call : Call) (b : Board) (n : ℕ) → NoSkip call → n ≡ first_of (board_refusal call b) n
-first_other (HostTime nanoseconds seconds) b n o = refl
-first_other (Read address) b n o = refl
-first_other (Write byte address) b n o = refl
-first_other (Advance c) b n o = refl
-first_other Deadline b n o = refl
-first_other Skip b n o = absurd (o refl)
-first_other (Source number level) b n o = refl
-first_other (ControllerRead address) b n o = refl
-first_other (ControllerWrite byte address) b n o = refl
-first_other Output b n o = refl
 
 -- ---- the step
 
@@ -108,22 +88,19 @@ module _ (b : Board) (l : List ℕ) (room : ℕ) where
 
 -- ---- the calls that change host time or the controller at most
 
--- the rest: the tag of a skip, and the changes of one that stays
-rest_is : (step : Step) → Rest step → (◌≡◌ {A = ℕ} 6 (tag_of (other_call step)))
-    × ((b : Board) (c : Changes) → (skip_length b ≡ none → ChangesAre Skip b c) → Changed step b c)
-rest_is (T.Read offset) o = (refl, λ b c h. h)
-rest_is (T.Write byte offset) o = (refl, λ b c h. h)
-rest_is (T.Pass passing n) o = (refl, λ b c h. h)
-rest_is (T.HostTime nanoseconds seconds) o = absurd (o.host nanoseconds seconds refl)
-rest_is T.Stay o = (refl, λ b c h. h)
-rest_is T.Deadline o = absurd (o.deadline refl)
-rest_is (T.Source number level) o = absurd (o.source number level refl)
-rest_is (T.ControllerRead address) o = absurd (o.read address refl)
-rest_is (T.ControllerWrite byte address) o = absurd (o.write byte address refl)
-rest_is T.Output o = absurd (o.output refl)
-
-pub rest_tag : (step : Step) → Rest step → ◌≡◌ {A = ℕ} 6 (tag_of (other_call step))
-rest_tag step o = (rest_is step o).0
+-- the rest has the changes of a skip that stays
+rest_is : (step : Step) → Rest step → (b : Board) (c : Changes) → (skip_length b ≡ none → ChangesAre Skip b c) →
+    Changed step b c
+rest_is (T.Read offset) o b c h = h
+rest_is (T.Write byte offset) o b c h = h
+rest_is (T.Pass passing n) o b c h = h
+rest_is (T.HostTime nanoseconds seconds) o b c h = absurd (o.host nanoseconds seconds refl)
+rest_is T.Stay o b c h = h
+rest_is T.Deadline o b c h = absurd (o.deadline refl)
+rest_is (T.Source number level) o b c h = absurd (o.source number level refl)
+rest_is (T.ControllerRead address) o b c h = absurd (o.read address refl)
+rest_is (T.ControllerWrite byte address) o b c h = absurd (o.write byte address refl)
+rest_is T.Output o b c h = absurd (o.output refl)
 
 -- a skip that stays: the level of source 3 is the line
 pub rest_changes : (b : Board) → sound b ≡ true → (step : Step) → Rest step → (level : Bool) →
@@ -132,7 +109,7 @@ pub rest_changes : (b : Board) → sound b ≡ true → (step : Step) → Rest s
 unfolding value_bytes
 rest_changes b s step o level e v f =
     let q : v ≡ flag_of (line b) = f ∙ byte_flag level ∙ ap flag_of (e ∙ (sound_facts b s).level) in
-    (rest_is step o).1 b _ (λ n. rw (n, q) (refl, refl))
+    rest_is step o b _ (λ n. rw (n, q) (refl, refl))
 
 -- ---- stores: m is the buffer with the header, r the buffer with the value behind it
 
