@@ -1,5 +1,5 @@
 // A call of a known tag, decoded from the bytes at the front of a list: the members of its value, and what refuses it.
-#![tactic(auto, using(crate::proofs::Decoding::whole), unfolding(crate::specs::CodeDecode::framed_as, crate::specs::CodeDecode::valued, crate::specs::CodeDecode::roomed))]
+#![tactic(auto, using(crate::proofs::Decoding::whole), unfolding(crate::specs::CodeDecode::framed_as, crate::specs::CodeDecode::valued, crate::specs::CodeDecode::roomed),)]
 
 ghost use Rattle.std.specs.Prelude.{◌≡◌, ◌+◌, ◌≤◌, length};
 ghost use Rattle.wide.specs.Fields.{be_at};

@@ -1,5 +1,5 @@
--- Not document 01's sentences but what the code computes: a text is put into a buffer from an index on, as much of it as
--- fits, and the index after it is kept.
+-- Not document 01's sentences but what the code computes: a text is put into a buffer from an index on, as much of it
+-- as fits, and the index after it is kept.
 use Rattle.std.specs.Prelude.{ℕ, ◌+◌, ◌^◌, ◌<◌, ◌≡◌, List, length}
 use Rattle.std.proofs.lemmas.List.Edits.{sets}
 use Rattle.listing.specs.declared.Text.{Text}

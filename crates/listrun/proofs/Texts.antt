@@ -27,7 +27,8 @@ text_is t p old new r q e f h =
 -- ---- the answers that a run wrote
 
 module _ (list : List ℕ) (board : Board) (before after : List ℕ) (e : Ended) (room : ℕ) (fresh : board ≡ fresh_board)
-    (ran : outcome_of e ≡ (run_of board list room).outcome) (wrote : after ≡ over (run_of board list room).answers before)
+    (ran : outcome_of e ≡ (run_of board list room).outcome)
+    (wrote : after ≡ over (run_of board list room).answers before)
   where
     counted : e.written ≡ length (run_of board list room).answers
     counted = ap (λ (q : Outcome). q.written) ran ∙ written_is board list room

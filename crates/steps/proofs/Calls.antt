@@ -84,7 +84,8 @@ module _ (b : Board) (s : sound b ≡ true) (at : ℕ) (buf : List ℕ) where
 
   module _ (call : Call) (offset : ℕ) (r : Reads call offset) (y : Board) (moved : Bool) (buf' : List ℕ) where
     -- with the latches
-    pub read_carried : (t : LatchedReading) → t ≡ offset_reading offset b → y ≡ after_reading t b → moved ≡ t.plain.rose →
+    pub read_carried : (t : LatchedReading) → t ≡ offset_reading offset b → y ≡ after_reading t b →
+        moved ≡ t.plain.rose →
         buf' ≡ sets buf at (record_of 2 (answer_bytes 2 (t.plain.byte ∷ []))) → Carried call b at buf y moved buf'
     read_carried t e f h p =
         let k = read_parts r.address b in
