@@ -9,29 +9,29 @@ use channel::{ChannelNumber, Cycles, HardwareTimer};
 use wide::deadline::sooner;
 use wide::number::Wide;
 
-pub fn all_sound(timers: [HardwareTimer; 4]) -> bool
-    ensures { result ≡ all_sound timers }
+pub fn all_sound(timers: &[HardwareTimer; 4]) -> bool
+    ensures { result ≡ all_sound timers.now }
 {
     let mut all = true;
-    for t in &timers {
+    for t in timers {
         all &= t.sound();
     }
     all
 }
 
-pub fn any_asserted(timers: [HardwareTimer; 4]) -> bool
-    ensures { result ≡ any_line timers }
+pub fn any_asserted(timers: &[HardwareTimer; 4]) -> bool
+    ensures { result ≡ any_line timers.now }
 {
     let mut any = false;
-    for t in &timers {
+    for t in timers {
         any |= t.asserted();
     }
     any
 }
 
-pub fn soonest(timers: [HardwareTimer; 4], timer_enable: u8) -> Option<Wide>
-    requires { all_sound timers ≡ true }
-    ensures { number_of result ≡ soonest_of timer_enable timers }
+pub fn soonest(timers: &[HardwareTimer; 4], timer_enable: u8) -> Option<Wide>
+    requires { all_sound timers.now ≡ true }
+    ensures { number_of result ≡ soonest_of timer_enable timers.now }
 {
     let mut soonest = None;
     for (i, t) in timers.iter().enumerate() {

@@ -14,7 +14,7 @@ impl Board {
         ensures { number_of result ≡ exact_deadline self }
     {
         sooner(
-            soonest(self.timers, self.timer_enable),
+            soonest(&self.timers, self.timer_enable),
             self.clock.deadline(),
         )
     }

@@ -11,7 +11,7 @@ impl Board {
     fn sound_parts(self) -> bool
         ensures { result ≡ sound_parts self }
     {
-        all_sound(self.timers)
+        all_sound(&self.timers)
             & (self.timer_enable < Self::TIMER_ENABLE_VALUES)
             & sound_rate(self.clock.rate)
             & self.clock.sound()

@@ -5,4 +5,4 @@ use Rattle.board.proofs.Loops.{Joined}
 use Rattle.board.proofs.channels.all_sound.Given as goal
 
 abbrev pub invariant-loop-t : goal.invariant-loop-t
-invariant-loop-t l = Joined (λ _ h. sound_timer h) ◌&&◌ true l.t-items l.t-index l.all
+invariant-loop-t l = Joined (λ _ h. sound_timer h) ◌&&◌ true l.timers l.t-index l.all

@@ -7,9 +7,9 @@ use Rattle.board.proofs.channels.any_asserted.Goals as goal
 
 pub loop-t-preserved : goal.loop-t-preserved
 loop-t-preserved c =
-    fold-goes (λ _ h. line_of h) ◌||◌ false or_assoc c.args.timers fresh_timer c.loop-t.t-index _ _ (search rules)
+    fold-goes (λ _ h. line_of h) ◌||◌ false or_assoc c.args.timers.now fresh_timer c.loop-t.t-index _ _ (search rules)
     c.asserted-any.ensures c.loop-t.invariant
 
 pub returns : goal.returns
 returns c =
-    fold-ends (λ _ h. line_of h) ◌||◌ false or-false c.args.timers c.loop-t.t-index _ (search rules) c.loop-t.invariant
+    fold-ends (λ _ h. line_of h) ◌||◌ false or-false c.args.timers.now c.loop-t.t-index _ (search rules) c.loop-t.invariant

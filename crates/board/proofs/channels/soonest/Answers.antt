@@ -14,7 +14,7 @@ use Rattle.board.proofs.Phases.{phase_at}
 use Rattle.board.proofs.channels.soonest.Goals as goal
 
 pub cycles_until_match-requires : goal.cycles_until_match-requires
-cycles_until_match-requires c = phase_at c.args.timers c.loop-i.i (search rules) c.requires
+cycles_until_match-requires c = phase_at c.args.timers.now c.loop-i.i (search rules) c.requires
 
 -- the soonest of three, and of one
 joins : (a b c : Option ℕ) → sooner (sooner a b) c ≡ sooner a (sooner b c)
@@ -30,7 +30,7 @@ alone (some n) = refl
 pub loop-i-preserved : goal.loop-i-preserved
 loop-i-preserved c =
     let n = c.args.timer_enable in
-    let ts = c.args.timers in
+    let ts = c.args.timers.now in
     let i = c.loop-i.i in
     rw (c.sooner-soonest.ensures, c.cycles_until_match.ensures, c.selected-selected.ensures)
     (fold-goes (λ k h. deadline_of (bit k n) h) sooner none joins ts fresh_timer i _
@@ -38,5 +38,5 @@ loop-i-preserved c =
 
 pub returns : goal.returns
 returns c =
-    fold-ends (λ k h. deadline_of (bit k c.args.timer_enable) h) sooner none alone c.args.timers c.loop-i.i _
+    fold-ends (λ k h. deadline_of (bit k c.args.timer_enable) h) sooner none alone c.args.timers.now c.loop-i.i _
     (search rules) c.loop-i.invariant

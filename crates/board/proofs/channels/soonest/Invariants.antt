@@ -8,4 +8,4 @@ use Rattle.board.proofs.channels.soonest.Given as goal
 
 abbrev pub invariant-loop-i : goal.invariant-loop-i
 invariant-loop-i l =
-    Joined (λ k h. deadline_of (bit k l.timer_enable) h) sooner none l.t-items l.i (number_of l.soonest)
+    Joined (λ k h. deadline_of (bit k l.timer_enable) h) sooner none l.timers l.i (number_of l.soonest)
