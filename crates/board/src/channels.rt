@@ -19,12 +19,13 @@ pub fn all_sound(timers: &[HardwareTimer; 4]) -> bool
     all
 }
 
-pub fn any_asserted(timers: &[HardwareTimer; 4]) -> bool
-    ensures { result ≡ any_line timers.now }
+// By index and of an array by value, which is faster in a run than over borrowed channels.
+pub fn any_asserted(timers: [HardwareTimer; 4]) -> bool
+    ensures { result ≡ any_line timers }
 {
     let mut any = false;
-    for t in timers {
-        any |= t.asserted();
+    for i in 0..Board::CHANNELS {
+        any |= timers[i].asserted();
     }
     any
 }

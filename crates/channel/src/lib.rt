@@ -141,8 +141,8 @@ impl HardwareTimer {
 
     // Whether the channel holds the line high.
     #[tactic(auto, unfolding(crate::specs::Channel::line_of))]
-    pub fn asserted(&self) -> bool
-        ensures { result ≡ line_of self.now }
+    pub fn asserted(self) -> bool
+        ensures { result ≡ line_of self }
     {
         self.pending & self.irq_enabled()
     }
