@@ -17,14 +17,6 @@ use clock::HostTime;
 use controller::SourceNumber;
 use wide::fields;
 
-// The bytes at the front of a list, where a whole header stands, and the room for the answer of their first call.
-#[derive(Clone, Copy)]
-pub struct Front<'a> {
-    pub rest: &'a [u8],
-    pub room: usize,
-    ghost header: { header_length ≤ length rest.now },
-}
-
 // ---- the members of a call
 
 // A member of one byte.
@@ -63,10 +55,20 @@ fn host_at(rest: &[u8]) -> HostTime
     }
 }
 
-// ---- each call, and what refuses a call of its tag
+// ---- the call at the front of a list
+
+// The bytes at the front of a list, where a whole header stands, and the room for the answer of their first call.
+#[derive(Clone, Copy)]
+pub struct Front<'a> {
+    pub rest: &'a [u8],
+    pub room: usize,
+    ghost header: { header_length ≤ length rest.now },
+}
 
 impl Front<'_> {
     ghost use Rattle.format.specs.CodeDecode.{value_frame, room_refusal, framed_at, Bare, decoded};
+
+    // ---- what refuses a call of this tag
 
     // The header's length is the tag's, and the value is whole.
     #[tactic(auto, unfolding(crate::specs::CodeDecode::value_frame, wide::specs::Fields::be_at))]
@@ -93,6 +95,8 @@ impl Front<'_> {
         }
         Ok(())
     }
+
+    // ---- each call
 
     pub fn host_time(self) -> Result<Call, Undecoded>
         ensures { decoded result ≡ framed_at 12 (λ l. Call.HostTime (be_at l 11 4) (be_at l 3 8)) self.entry }
