@@ -8,6 +8,7 @@ use Rattle.board.specs.declared.calls.Call.TheVariants.{HostTime, Read, Write, A
 use Rattle.board.specs.declared.calls.Call.TheVariants.{ControllerRead, ControllerWrite, Output}
 use Rattle.board.specs.Calls.{host_time_refusal, address_refusal, source_refusal, effect_of}
 use Rattle.board.specs.Refusals.{refusal_number}
+use Rattle.format.specs.declared.calls.Front.{Front}
 use Rattle.format.specs.declared.Undecoded.{Undecoded}
 use Rattle.format.specs.declared.Undecoded.TheVariants.{Refused, NoRoom}
 use Rattle.format.specs.Format.{length_wrong, value_cut, answer_too_long, header_length, value_length}
@@ -83,6 +84,10 @@ room_refusal room size = cond (ltb room size) answer_too_long 0
 -- the same after the refusals of its value
 unfoldable pub framed_as : ℕ → Call → List ℕ → ℕ → Decoded
 framed_as value call l room = unless_refused (value_frame value l) (valued call room)
+
+-- the same at the front of a list, of the call that its bytes give
+abbrev pub framed_at : ℕ → (List ℕ → Call) → Front → Decoded
+framed_at value call front = framed_as value (call front.rest.now) front.rest.now front.room
 
 -- the first call of a list, refused first by its frame
 unfoldable pub decoded_of : List ℕ → ℕ → Decoded

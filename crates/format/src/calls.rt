@@ -7,7 +7,6 @@ ghost use Rattle.board.specs.Calls.{advance_by};
 ghost use Rattle.board.specs.Refusals.{refusal_code};
 ghost use Rattle.format.specs.Format.{value_length, answer_length, header_length};
 ghost use Rattle.format.specs.Tags.{tag_number};
-ghost use Rattle.format.specs.CodeDecode.{value_frame, room_refusal, framed_as, Bare, decoded};
 
 use crate::tag::Tag;
 use crate::{HEADER_LENGTH, Undecoded};
@@ -56,118 +55,123 @@ fn host_at(rest: &[u8]) -> HostTime
     }
 }
 
-// ---- what refuses a call of this tag
+// ---- the call at the front of a list
 
-// The header's length is the tag's, and the value is whole.
-#[tactic(auto, unfolding(crate::specs::CodeDecode::value_frame, wide::specs::Fields::be_at))]
-fn check_value(rest: &[u8], tag: Tag) -> Result<(), Refusal>
-    requires { 3 ≤ length rest.now }
-    ensures { refusal_code result ≡ value_frame (value_length (tag_number tag)) rest.now }
-{
-    let value = tag.value_length();
-    // the low byte is taken as the more significant one, as the machine loads the two
-    if u64::from(rest[1]) + 256 * u64::from(rest[2]) != 256 * value as u64 {
-        return Err(Refusal::LengthWrong);
+// The bytes at the front of a list, where a whole header stands, and the room for the answer of their first call.
+#[derive(Clone, Copy)]
+pub struct Front<'a> {
+    pub rest: &'a [u8],
+    pub room: usize,
+    ghost header: { header_length ≤ length rest.now },
+}
+
+impl Front<'_> {
+    ghost use Rattle.format.specs.CodeDecode.{value_frame, room_refusal, framed_at, Bare, decoded};
+
+    // ---- what refuses a call of this tag
+
+    // The header's length is the tag's, and the value is whole.
+    #[tactic(auto, unfolding(crate::specs::CodeDecode::value_frame, wide::specs::Fields::be_at))]
+    fn check_value(self, tag: Tag) -> Result<(), Refusal>
+        ensures { refusal_code result ≡ value_frame (value_length (tag_number tag)) self.entry.rest.now }
+    {
+        let value = tag.value_length();
+        // the low byte is taken as the more significant one, as the machine loads the two
+        if u64::from(self.rest[1]) + 256 * u64::from(self.rest[2]) != 256 * value as u64 {
+            return Err(Refusal::LengthWrong);
+        }
+        if self.rest.len() < HEADER_LENGTH + value {
+            return Err(Refusal::ValueCut);
+        }
+        Ok(())
     }
-    if rest.len() < HEADER_LENGTH + value {
-        return Err(Refusal::ValueCut);
+
+    // The room is enough for the answer.
+    fn check_room(self, tag: Tag) -> Result<(), Refusal>
+        ensures { refusal_code result ≡ room_refusal self.entry.room (header_length + answer_length (tag_number tag)) }
+    {
+        if self.room < tag.record_length() {
+            return Err(Refusal::BufferShort);
+        }
+        Ok(())
     }
-    Ok(())
-}
 
-// The room is enough for the answer.
-fn check_room(room: usize, tag: Tag) -> Result<(), Refusal>
-    ensures { refusal_code result ≡ room_refusal room (header_length + answer_length (tag_number tag)) }
-{
-    if room < tag.record_length() {
-        return Err(Refusal::BufferShort);
+    // ---- each call
+
+    pub fn host_time(self) -> Result<Call, Undecoded>
+        ensures { decoded result ≡ framed_at 12 (λ l. Call.HostTime (be_at l 11 4) (be_at l 3 8)) self.entry }
+    {
+        self.check_value(Tag::HostTime)?;
+        let host = host_at(self.rest);
+        check_host_time(host)?;
+        self.check_room(Tag::HostTime)?;
+        Ok(Call::HostTime(host.nanoseconds, host.seconds))
     }
-    Ok(())
-}
 
-// ---- each call, with this room for its answer
-
-pub fn host_time_at(rest: &[u8], room: usize) -> Result<Call, Undecoded>
-    requires { 3 ≤ length rest.now }
-    ensures { decoded result ≡ framed_as 12 (Call.HostTime (be_at rest.now 11 4) (be_at rest.now 3 8)) rest.now room }
-{
-    check_value(rest, Tag::HostTime)?;
-    let host = host_at(rest);
-    check_host_time(host)?;
-    check_room(room, Tag::HostTime)?;
-    Ok(Call::HostTime(host.nanoseconds, host.seconds))
-}
-
-pub fn read_at(rest: &[u8], room: usize) -> Result<Call, Undecoded>
-    requires { 3 ≤ length rest.now }
-    ensures { decoded result ≡ framed_as 2 (Call.Read (be_at rest.now 3 2)) rest.now room }
-{
-    check_value(rest, Tag::Read)?;
-    let address = address_at(rest);
-    check_address(address)?;
-    check_room(room, Tag::Read)?;
-    Ok(Call::Read(address))
-}
-
-pub fn write_at(rest: &[u8], room: usize) -> Result<Call, Undecoded>
-    requires { 3 ≤ length rest.now }
-    ensures { decoded result ≡ framed_as 3 (Call.Write (be_at rest.now 5 1) (be_at rest.now 3 2)) rest.now room }
-{
-    check_value(rest, Tag::Write)?;
-    let address = address_at(rest);
-    check_address(address)?;
-    check_room(room, Tag::Write)?;
-    Ok(Call::Write(byte_at(rest, 5), address))
-}
-
-pub fn advance_at(rest: &[u8], room: usize) -> Result<Call, Undecoded>
-    requires { 3 ≤ length rest.now }
-    ensures { decoded result ≡ framed_as 8 (advance_by (be_at rest.now 3 8)) rest.now room }
-{
-    check_value(rest, Tag::Advance)?;
-    check_room(room, Tag::Advance)?;
-    Ok(Call::Advance(Cycles(fields::get_word(rest, 3))))
-}
-
-pub fn source_at(rest: &[u8], room: usize) -> Result<Call, Undecoded>
-    requires { 3 ≤ length rest.now }
-    ensures { decoded result ≡ framed_as 2 (Call.Source (be_at rest.now 3 1) (be_at rest.now 4 1)) rest.now room }
-{
-    check_value(rest, Tag::Source)?;
-    let number = byte_at(rest, 3);
-    let level = byte_at(rest, 4);
-    check_source(SourceNumber(number), level)?;
-    check_room(room, Tag::Source)?;
-    Ok(Call::Source(number, level))
-}
-
-pub fn controller_read_at(rest: &[u8], room: usize) -> Result<Call, Undecoded>
-    requires { 3 ≤ length rest.now }
-    ensures { decoded result ≡ framed_as 4 (Call.ControllerRead (be_at rest.now 3 4)) rest.now room }
-{
-    check_value(rest, Tag::ControllerRead)?;
-    check_room(room, Tag::ControllerRead)?;
-    Ok(Call::ControllerRead(controller_address_at(rest)))
-}
-
-pub fn controller_write_at(rest: &[u8], room: usize) -> Result<Call, Undecoded>
-    requires { 3 ≤ length rest.now }
-    ensures { decoded result
-        ≡ framed_as 5 (Call.ControllerWrite (be_at rest.now 7 1) (be_at rest.now 3 4)) rest.now room }
-{
-    check_value(rest, Tag::ControllerWrite)?;
-    check_room(room, Tag::ControllerWrite)?;
-    Ok(Call::ControllerWrite(byte_at(rest, 7), controller_address_at(rest)))
-}
-
-// A call without members.
-pub fn bare_at(rest: &[u8], room: usize, tag: Tag, call: Call) -> Result<Call, Undecoded>
-    requires { (3 ≤ length rest.now) × Bare call (tag_number tag) }
-    ensures { decoded result ≡ framed_as 0 call rest.now room }
-{
-    check_value(rest, tag)?;
-    if room < tag.record_length() {
-        return Err(Undecoded::NoRoom(call));
+    pub fn read(self) -> Result<Call, Undecoded>
+        ensures { decoded result ≡ framed_at 2 (λ l. Call.Read (be_at l 3 2)) self.entry }
+    {
+        self.check_value(Tag::Read)?;
+        let address = address_at(self.rest);
+        check_address(address)?;
+        self.check_room(Tag::Read)?;
+        Ok(Call::Read(address))
     }
-    Ok(call)
+
+    pub fn write(self) -> Result<Call, Undecoded>
+        ensures { decoded result ≡ framed_at 3 (λ l. Call.Write (be_at l 5 1) (be_at l 3 2)) self.entry }
+    {
+        self.check_value(Tag::Write)?;
+        let address = address_at(self.rest);
+        check_address(address)?;
+        self.check_room(Tag::Write)?;
+        Ok(Call::Write(byte_at(self.rest, 5), address))
+    }
+
+    pub fn advance(self) -> Result<Call, Undecoded>
+        ensures { decoded result ≡ framed_at 8 (λ l. advance_by (be_at l 3 8)) self.entry }
+    {
+        self.check_value(Tag::Advance)?;
+        self.check_room(Tag::Advance)?;
+        Ok(Call::Advance(Cycles(fields::get_word(self.rest, 3))))
+    }
+
+    pub fn source(self) -> Result<Call, Undecoded>
+        ensures { decoded result ≡ framed_at 2 (λ l. Call.Source (be_at l 3 1) (be_at l 4 1)) self.entry }
+    {
+        self.check_value(Tag::Source)?;
+        let number = byte_at(self.rest, 3);
+        let level = byte_at(self.rest, 4);
+        check_source(SourceNumber(number), level)?;
+        self.check_room(Tag::Source)?;
+        Ok(Call::Source(number, level))
+    }
+
+    pub fn controller_read(self) -> Result<Call, Undecoded>
+        ensures { decoded result ≡ framed_at 4 (λ l. Call.ControllerRead (be_at l 3 4)) self.entry }
+    {
+        self.check_value(Tag::ControllerRead)?;
+        self.check_room(Tag::ControllerRead)?;
+        Ok(Call::ControllerRead(controller_address_at(self.rest)))
+    }
+
+    pub fn controller_write(self) -> Result<Call, Undecoded>
+        ensures { decoded result ≡ framed_at 5 (λ l. Call.ControllerWrite (be_at l 7 1) (be_at l 3 4)) self.entry }
+    {
+        self.check_value(Tag::ControllerWrite)?;
+        self.check_room(Tag::ControllerWrite)?;
+        Ok(Call::ControllerWrite(byte_at(self.rest, 7), controller_address_at(self.rest)))
+    }
+
+    // A call without members.
+    pub fn bare(self, tag: Tag, call: Call) -> Result<Call, Undecoded>
+        requires { Bare call (tag_number tag) }
+        ensures { decoded result ≡ framed_at 0 (λ _. call) self.entry }
+    {
+        self.check_value(tag)?;
+        if self.room < tag.record_length() {
+            return Err(Undecoded::NoRoom(call));
+        }
+        Ok(call)
+    }
 }

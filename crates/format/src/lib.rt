@@ -15,6 +15,7 @@ ghost use Rattle.format.specs.declared.Undecoded.TheVariants.{Refused};
 mod calls;
 pub mod tag;
 
+use crate::calls::Front;
 use crate::tag::Tag;
 use board::calls::{Call, DeadlineGiven};
 use board::refusal::Refusal;
@@ -63,18 +64,19 @@ pub fn decode(rest: &[u8], room: usize) -> Result<Call, Undecoded>
     if rest.len() < HEADER_LENGTH {
         return Err(Undecoded::Refused(Refusal::HeaderCut));
     }
+    let front = Front { rest, room };
     // the byte itself, because a test of the tag behind one of the byte costs each call instructions
     match rest[0] {
-        1 => calls::host_time_at(rest, room),
-        2 => calls::read_at(rest, room),
-        3 => calls::write_at(rest, room),
-        4 => calls::advance_at(rest, room),
-        5 => calls::bare_at(rest, room, Tag::Deadline, Call::Deadline),
-        6 => calls::bare_at(rest, room, Tag::Skip, Call::Skip),
-        7 => calls::source_at(rest, room),
-        8 => calls::controller_read_at(rest, room),
-        9 => calls::controller_write_at(rest, room),
-        10 => calls::bare_at(rest, room, Tag::Output, Call::Output),
+        1 => front.host_time(),
+        2 => front.read(),
+        3 => front.write(),
+        4 => front.advance(),
+        5 => front.bare(Tag::Deadline, Call::Deadline),
+        6 => front.bare(Tag::Skip, Call::Skip),
+        7 => front.source(),
+        8 => front.controller_read(),
+        9 => front.controller_write(),
+        10 => front.bare(Tag::Output, Call::Output),
         _ => Err(Undecoded::Refused(Refusal::TagUnknown)),
     }
 }
