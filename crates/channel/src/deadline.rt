@@ -1,4 +1,5 @@
-// A channel's deadline: the exact number of cycles until it gives an interrupt.
+// A channel's deadline: the exact number of cycles until it gives an interrupt. Ticks to go are held as one less than
+// their number, which can be 2^64 and would not fit in a word.
 ghost use Rattle.std.specs.Prelude.{◌≡◌, ◌+◌, ◌-◌, ◌*◌, ◌≤◌, if◌then◌else◌};
 ghost use Rattle.std.proofs.Math.Option.{none, some};
 ghost use Rattle.wide.specs.Number.{value_of};
@@ -11,13 +12,13 @@ use crate::{HardwareTimer, Mode, Ticks};
 use wide::number::Wide;
 
 // The ticks to the compare point in modes 0 and 1; 1 where the counter has reached it.
-fn ticks_up(counter: u64, compare: u64) -> Option<Ticks>
-    ensures { to_go_of result ≡ some (ticks_up counter compare) }
+fn ticks_up(counter: u64, compare: u64) -> Ticks
+    ensures { result.0 + 1 ≡ ticks_up counter compare }
 {
     if counter < compare {
-        Some(Ticks(compare - counter - 1))
+        Ticks(compare - counter - 1)
     } else {
-        Some(Ticks(0))
+        Ticks(0)
     }
 }
 
@@ -42,7 +43,7 @@ impl HardwareTimer {
         let counter = self.counter;
         let compare = self.compare;
         match self.mode() {
-            Mode::OneShot | Mode::Periodic => ticks_up(counter, compare),
+            Mode::OneShot | Mode::Periodic => Some(ticks_up(counter, compare)),
             Mode::FreeRunning => ticks_round(counter, compare, self.armed),
             Mode::Idle => None,
         }

@@ -14,11 +14,11 @@ mod prescaler;
 mod timer_registers;
 
 // Cycles of the master clock. Only a channel's prescaler converts them to ticks.
-#[derive(Clone, Copy, PartialEq, Eq, PartialOrd, Ord)]
+#[derive(Clone, Copy)]
 pub struct Cycles(pub u64);
 
 // Ticks of a channel, which its prescaler gives.
-#[derive(Clone, Copy, PartialEq, Eq, PartialOrd, Ord)]
+#[derive(Clone, Copy)]
 pub struct Ticks(pub u64);
 
 // A channel after an advance, and how many compare points the advance met, at most 2^64.
@@ -29,7 +29,7 @@ pub struct Advanced {
 }
 
 // A channel's number on the board, 0 to 3.
-#[derive(Clone, Copy, PartialEq, Eq, PartialOrd, Ord)]
+#[derive(Clone, Copy)]
 pub struct ChannelNumber(pub u8);
 
 impl ChannelNumber {
@@ -59,7 +59,7 @@ pub struct HardwareTimer {
 }
 
 // What ticks do to a channel, by bits 0 and 1 of its control. An idle one they leave as it is.
-#[derive(Clone, Copy, PartialEq, Eq)]
+#[derive(Clone, Copy)]
 pub enum Mode {
     OneShot,
     Periodic,

@@ -71,10 +71,7 @@ impl Duration {
         requires { host.nanoseconds < nanos_per_second }
         ensures { result ≡ signed_difference (duration_of self) (host_nanoseconds host) }
     {
-        let other = Duration {
-            seconds: host.seconds,
-            nanoseconds: host.nanoseconds,
-        };
+        let other = host.duration();
         let negative = self < other;
         let by = if negative {
             other.minus(self)
@@ -99,7 +96,17 @@ impl Duration {
 }
 
 impl HostTime {
-    ghost use Rattle.clock.specs.CodeTime.{moment_of};
+    ghost use Rattle.clock.specs.CodeTime.{duration_of, moment_of};
+
+    fn duration(self) -> Duration
+        requires { self.nanoseconds < nanos_per_second }
+        ensures { duration_of result ≡ host_nanoseconds self }
+    {
+        Duration {
+            seconds: self.seconds,
+            nanoseconds: self.nanoseconds,
+        }
+    }
 
     // Host time plus the offset, but never below 0.
     #[tactic(auto, unfolding(crate::specs::Clock::shifted))]
@@ -107,10 +114,7 @@ impl HostTime {
         requires { (self.nanoseconds < nanos_per_second) × (offset.nanoseconds < nanos_per_second) }
         ensures { moment_of result ≡ shifted self offset }
     {
-        let host = Duration {
-            seconds: self.seconds,
-            nanoseconds: self.nanoseconds,
-        };
+        let host = self.duration();
         let by = Duration {
             seconds: offset.seconds,
             nanoseconds: offset.nanoseconds,
