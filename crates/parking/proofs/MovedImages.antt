@@ -18,7 +18,7 @@ use Rattle.board.specs.declared.refusal.Refusal.{Refusal}
 use Rattle.board.specs.Refusals.{refusal_number}
 use Rattle.image.specs.declared.Form.{Form}
 use Rattle.parking.specs.declared.Parked.{Parked}
-use Rattle.parking.specs.CodeReads.{reading_said, writing_said, move_said}
+use Rattle.parking.specs.Answers.{reading_said, writing_said, move_said}
 use Rattle.board.proofs.Answers.{some_refusal}
 use Rattle.image.specs.declared.Form.TheVariants.{Old, New}
 use Rattle.image.specs.Image.{rate_field, field_length, image_length, field_bytes, image_of, formed, board_from}

@@ -1,19 +1,12 @@
 -- Not sentences of S-1 or S-8 but what the code computes from members by their widths, from the latches' members, and
 -- from S-1's fields alone.
-use Rattle.std.specs.Prelude.{ℕ, ◌+◌, Bool, cond, ◌&&◌, ◌||◌, List, [], get_or, leb, eqb, Result, Ok, Err}
+use Rattle.std.specs.Prelude.{ℕ, ◌+◌, Bool, cond, ◌&&◌, ◌||◌, List, [], get_or, leb, eqb}
 use Rattle.board.specs.Fields.{fresh_board}
 use Rattle.board.specs.Board.{sound}
 use Rattle.board.specs.Calls.{not_sound}
 use Rattle.image.specs.declared.Form.{Form}
 use Rattle.image.specs.Image.{flag_is, empties_hold0, board_from}
-use Rattle.board.specs.declared.Board.{Board}
-use Rattle.board.specs.declared.refusal.Refusal.{Refusal}
-use Rattle.board.specs.declared.calls.Answered.{Answered}
-use Rattle.board.specs.Refusals.{refusal_number, refusal_code}
-use Rattle.parking.specs.declared.Parked.{Parked}
-use Rattle.parking.specs.declared.Reading.{Reading as ReadingOf}
-use Rattle.parking.specs.Parking.{Reading, Writing, default_form, image_malformed}
-use Rattle.parking.specs.Moves.{Moved}
+use Rattle.parking.specs.Parking.{Reading, default_form, image_malformed}
 
 -- no held flag among the latches' members is above 1
 abbrev pub held_flags : List ℕ → Bool
@@ -43,26 +36,3 @@ members_read f rate form mss =
       form = cond (eqb (members_refusal rate form mss) 0) f default_form;
       refusal = members_refusal rate form mss;
     }
-
--- ---- what the code's results say
-
--- a refused reading hands back a fresh board
-abbrev pub reading_said : Result Parked Refusal → Reading
-reading_said (Ok parked) = record { board = parked.board; form = parked.form; refusal = 0 }
-reading_said (Err refusal) = record { board = fresh_board; form = default_form; refusal = refusal_number refusal }
-
--- a writing of this board hands it back
-abbrev pub writing_said : Board → Result ℕ Refusal → Writing
-writing_said b (Ok written) = record { board = b; refusal = 0; written = written }
-writing_said b (Err refusal) = record { board = b; refusal = refusal_number refusal; written = 0 }
-
--- the structs that hand a board back
-abbrev pub was_read : ReadingOf → Reading
-was_read r = record { board = r.board; form = r.form; refusal = refusal_code r.end }
-
-abbrev pub written : Answered ℕ → Writing
-written a = writing_said a.board a.answer
-
-abbrev pub move_said : Result ℕ Refusal → Moved
-move_said (Ok written) = record { refusal = 0; written = written }
-move_said (Err refusal) = record { refusal = refusal_number refusal; written = 0 }

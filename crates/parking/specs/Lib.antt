@@ -1,4 +1,5 @@
 pub mod Parking
 pub mod Moves
+pub mod Answers
 pub mod CodeReads
 pub mod Demand

@@ -8,7 +8,8 @@ ghost use Rattle.image.specs.declared.Form.TheVariants.{Old};
 ghost use Rattle.image.specs.Image.{image_of, formed};
 ghost use Rattle.parking.specs.Parking.{default_form, form_takes, parking_refusal};
 ghost use Rattle.parking.specs.Parking.{writing_of, buffer_after, said, reading_in, reading_of};
-ghost use Rattle.parking.specs.CodeReads.{members_read, reading_said, writing_said, was_read, written};
+ghost use Rattle.parking.specs.Answers.{was_read, reading_said, writing_said, written};
+ghost use Rattle.parking.specs.CodeReads.{members_read};
 
 use board::Board;
 use board::calls::Answered;

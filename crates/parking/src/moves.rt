@@ -1,6 +1,6 @@
 // An image moved from one form to the other: S-1's, which has no rate, to S-8's with 48,000,000, and back.
 ghost use Rattle.std.specs.Prelude.{◌≡◌, length};
-ghost use Rattle.parking.specs.CodeReads.{move_said};
+ghost use Rattle.parking.specs.Answers.{move_said};
 ghost use Rattle.parking.specs.Moves.{other_form, move_of, moved_buffer};
 
 use crate::{park, read_in};

@@ -15,7 +15,7 @@ use Rattle.board.specs.Answers.{answered, no_members}
 use Rattle.board.proofs.Answers.{some_refusal}
 use Rattle.parking.specs.Parking.{Writing, default_form, writing_of, buffer_after}
 use Rattle.parking.specs.declared.Parked.{Parked}
-use Rattle.parking.specs.CodeReads.{writing_said, move_said, reading_said}
+use Rattle.parking.specs.Answers.{writing_said, move_said, reading_said}
 use Rattle.pec.specs.Parked.{fresh_writing, fresh_buffer}
 
 -- what C is given of a writing is what the rule's record of it says

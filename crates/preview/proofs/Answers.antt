@@ -19,7 +19,7 @@ use Rattle.board.specs.Calls.{refusal_of}
 use Rattle.board.proofs.Answers.{some_refusal, unsound_first}
 use Rattle.parking.specs.declared.Parked.{Parked}
 use Rattle.parking.specs.Parking.{Reading, buffer_short, reading_of, reading_refusal}
-use Rattle.parking.specs.CodeReads.{reading_said}
+use Rattle.parking.specs.Answers.{reading_said}
 use Rattle.format.proofs.Members.{Bytes}
 use Rattle.parking.proofs.RoundTrip.{refusal_is, accepted_sound, accepted-fits}
 use Rattle.preview.specs.Preview.{
