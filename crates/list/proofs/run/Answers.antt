@@ -13,7 +13,7 @@ use Rattle.registers.specs.declared.writes.WritePart.{WritePart}
 use Rattle.registers.specs.declared.writes.WritePart.TheVariants as W
 use Rattle.registers.proofs.CodeWrites.{channel-range}
 use Rattle.format.specs.Format.{header_length, value_length, answer_length}
-use Rattle.format.specs.Codec.{call_at, refusal_at}
+use Rattle.format.specs.Codec.{call_at, call_length, refusal_at}
 use Rattle.format.proofs.Frames.{part_rest}
 use Rattle.list.specs.declared.Counts.{Counts}
 use Rattle.list.specs.Run.{run_of, over}
@@ -22,7 +22,7 @@ use Rattle.steps.proofs.Advances.{next-zero, counts-next, counts-passed, counts_
 use Rattle.steps.proofs.Calls.{read_length, write_length, pass_length, pass_room, begun_room, Served, set_after}
 use Rattle.steps.proofs.Calls.{other_of, plain_carried, read_carried, channel-written, write_carried, pass_carried}
 use Rattle.steps.proofs.Calls.{other_carried}
-use Rattle.list.proofs.Runs.{Ran, ended, ends, rest_bytes, goes_on}
+use Rattle.list.proofs.Runs.{more_used, Ran, ended, ends, rest_bytes, goes_on}
 use Rattle.list.proofs.Arms.{rest, at_step, rest_is, board_sound, timed, accepts, answer-inside}
 use Rattle.list.proofs.Arms.{other_at, other_is}
 use Rattle.list.proofs.run.Goals as goal
@@ -44,7 +44,7 @@ pub returns-in-Err : goal.returns-in-Err
 unfolding run_of Ran
 returns-in-Err c =
     let s : sound c.args.board ≡ true = sym c.sound.ensures.0 ∙ c.if-not-sound.false in
-    let ran = ends _ _ _ _ _ _ _ _ c.loop-done.invariant c.loop-done-test.true _ (part_rest c.args.list.now
+    let ran = ends _ _ _ _ _ _ c.loop-done.invariant c.loop-done-test.true _ (part_rest c.args.list.now
     c.loop-done.done.used) _ c.in-Err.ensures
     (some_refusal c.in-Err.refusal) in
     record { value = rw s ran.0; answers_after = rw s ran.1 }
@@ -198,25 +198,26 @@ call-bytes tag = header_length + value_length tag
 abbrev record-bytes : ℕ → ℕ
 record-bytes tag = header_length + answer_length tag
 
--- the counts with n more list bytes used
-abbrev more_used : Counts → ℕ → Counts
-more_used d n = record { calls = d.calls; used = d.used + n; written = d.written }
-
-used-by : (d₁ d₀ : Counts) (n m : ℕ) → d₁ ≡ more_used d₀ n → n ≡ m → d₁.used ≡ d₀.used + m
-used-by d₁ d₀ n m e f = ap (λ (d : Counts). d.used) e ∙ ap (λ (k : ℕ). d₀.used + k) f
-
-others_stay : (d₁ d₀ : Counts) (n : ℕ) → d₁ ≡ more_used d₀ n → (d₁.calls ≡ d₀.calls) × (d₁.written ≡ d₀.written)
-others_stay d₁ d₀ n e = (ap (λ (d : Counts). d.calls) e, ap (λ (d : Counts). d.written) e)
-
--- the arms add to the list bytes used alone
-others : (c : goal.After-struct_known-in-loop-done-3-1) →
-    (c.match-step.done.calls ≡ c.loop-done.done.calls) × (c.match-step.done.written ≡ c.loop-done.done.written)
-others c =
+-- the bytes of the call are added to those used, and the other counts stay
+counted : (c : goal.After-struct_known-in-loop-done-3-1) →
+    c.match-step.done ≡ more_used c.loop-done.done (call_length (call_at (rest c.args.list.now c.loop-done.done.used)))
+counted c =
+    let u = at_step c.loop-done.invariant c.loop-done-test.true c.in-Ok.step c.in-Ok.ensures in
+    let more = more_used c.loop-done.done in
     elim c.match-step.branch [
-      | in-Read w ↦ others_stay _ _ _ w.done-is
-      | in-Write w ↦ others_stay _ _ _ w.done-is
-      | in-Pass+else-loop-i-test w ↦ others_stay _ _ _ w.done-is
-      | in_default w ↦ others_stay _ _ _ w.done-is
+      | in-Read w ↦
+          let n = read_length _ _ (accepts u _ w.in-Read.is).1 in
+          w.done-is ∙ ap more (w.call_length.ensures ∙ sym n.0)
+      | in-Write w ↦
+          let n = write_length _ _ _ (accepts u _ w.in-Write.is).1 in
+          w.done-is ∙ ap more (w.call_length-in-Write.ensures ∙ sym n.0)
+      | in-Pass+else-loop-i-test w ↦
+          let n = pass_length _ _ _ _ (accepts u _ w.in-Pass.is).1 in
+          w.done-is ∙ ap more (w.call_length-in-Pass.ensures ∙ ap call-bytes w.tag-tag.ensures ∙ sym n.0)
+      | in_default w ↦
+          let k = other_of w.in_default.not-Read w.in_default.not-Write w.in_default.not-Pass in
+          let d = other_is u k w.changes_of-c.result w.changes_of-c.ensures in
+          w.done-is ∙ ap more (w.call_length-in_default.ensures ∙ ap call-bytes w.tag_of-tag.ensures ∙ sym d.0)
     ]
 
 -- the board, the buffer and the numbers are those of the call
@@ -230,6 +231,7 @@ served c =
     let at = c.loop-done.done.written in
     let buf = c.loop-done.answers in
     let call = call_at (rest c.args.list.now c.loop-done.done.used) in
+    let used = ap (λ (d : Counts). d.used) (counted c) in
     elim c.match-step.branch [
       | in-Read w ↦
           let a = (accepts u _ w.in-Read.is).1 in
@@ -242,7 +244,7 @@ served c =
               | else-plain v ↦ read_carried b s at buf call _ a _ _ _ _ v.reading_at-r.ensures (w.b-is ∙ v.b-is)
                   (w.moved-is ∙ v.moved-is) (w.answers-is ∙ v.answers-is ∙ v.put_byte-else-plain.ensures)
             ];
-            used = used-by _ _ _ _ w.done-is (w.call_length.ensures ∙ sym n.0);
+            used = used;
             size = w.size-is ∙ w.record_length-size.ensures ∙ sym n.1;
           }
       | in-Write w ↦
@@ -270,7 +272,7 @@ served c =
                   v.channel_index-i-in-Channel.ensures.0) _
                   (w.moved-is ∙ v.moved-is ∙ v.at_control-moved.ensures) _ put
             ];
-            used = used-by _ _ _ _ w.done-is (w.call_length-in-Write.ensures ∙ sym n.0);
+            used = used;
             size = w.size-is ∙ w.record_length-size-in-Write.ensures ∙ sym n.1;
           }
       | in-Pass+else-loop-i-test w ↦
@@ -284,9 +286,7 @@ served c =
                 w.line-line.ensures _ w.controller_wired-set.ensures _ w.b-is call _ a
                 c.loop-done.invariant.good.fits.four _ w.moved-is _ _ _ w.put_begun.ensures
                 (counts_end _ _ _ _ _ _ _ i.0 _ _ i.1 w.loop-i-test.false) (w.answers-is ∙ w.put_passed.ensures);
-            used =
-                used-by _ _ _ _ w.done-is
-                (w.call_length-in-Pass.ensures ∙ ap call-bytes w.tag-tag.ensures ∙ sym n.0);
+            used = used;
             size = w.size-is ∙ w.record_length-size-in-Pass.ensures ∙ ap record-bytes w.tag-tag.ensures ∙ sym n.1;
           }
       | in_default w ↦
@@ -299,9 +299,7 @@ served c =
                 (length c.loop-done.answers - c.loop-done.done.written) c.in-Ok.step (other_at u k)
                 w.changes_of-c.result w.changes_of-c.ensures _ w.b-is _ w.moved-is _
                 (w.answers-is ∙ w.put_other.ensures);
-            used =
-                used-by _ _ _ _ w.done-is
-                (w.call_length-in_default.ensures ∙ ap call-bytes w.tag_of-tag.ensures ∙ sym d.0);
+            used = used;
             size =
                 w.size-is ∙ w.record_length-size-in_default.ensures ∙ ap record-bytes w.tag_of-tag.ensures
                 ∙ sym d.1.0;
@@ -325,7 +323,5 @@ loop-done-preserved c =
     let u = at_step c.loop-done.invariant c.loop-done-test.true c.in-Ok.step c.in-Ok.ensures in
     let bytes = rest_bytes c.args.list.now (rest c.args.list.now c.loop-done.done.used) c.loop-done.done.used (rest_is u)
     (λ i. omega (arith, c.type_inv.list i)) in
-    let o = others c in
-    rw (o.0, o.1)
-    (goes_on _ _ _ _ _ _ _ _ c.loop-done.invariant c.loop-done-test.true (rest c.args.list.now c.loop-done.done.used)
-    (rest_is u) (accepted c) bytes _ (board_set c) _ k.carried.put _ _ k.used k.size)
+    goes_on _ _ _ _ _ _ c.loop-done.invariant c.loop-done-test.true (rest c.args.list.now c.loop-done.done.used)
+    (rest_is u) (accepted c) bytes _ (board_set c) _ k.carried.put _ _ (counted c) k.size

@@ -15,7 +15,7 @@ invariant-loop-i l =
 abbrev pub invariant-loop-done : goal.invariant-loop-done
 invariant-loop-done l =
     Running l.list l.initial.answers (nothing_done l.initial.b 0) l.answers
-    (state_of l.b l.done.calls l.done.used l.done.written)
+    (state_of l.b l.done)
 
 abbrev pub decreases-loop-done : goal.decreases-loop-done
 decreases-loop-done l = length l.list - l.done.used
