@@ -18,6 +18,7 @@ use Rattle.format.proofs.Frames.{part_rest}
 use Rattle.steps.specs.declared.Step.{Step}
 use Rattle.steps.specs.declared.Changes.{Changes}
 use Rattle.steps.specs.CodeSteps.{StepIs, Changed, other_call}
+use Rattle.list.specs.declared.Counts.{Counts}
 use Rattle.list.specs.Run.{Outcome}
 use Rattle.list.proofs.Runs.{Running, state_of, written-inside}
 use Rattle.steps.proofs.Calls.{Other, OtherDoes, other_does, other_size}
@@ -27,22 +28,21 @@ abbrev pub rest : List ℕ → ℕ → List ℕ
 rest list used = take (length list - used) (drop used list)
 
 -- a run under way, with a call at the front and its step
-pub record At (list answers₀ : List ℕ) (s₀ : Outcome) (answers : List ℕ) (b : Board) (calls used written : ℕ)
-    (step : Step) : Type 0 where
-  pub running : Running list answers₀ s₀ answers (state_of b calls used written)
-  pub more : used < length list
-  pub is : StepIs b (rest list used) (length answers - written) (Ok step)
+pub record At (list answers₀ : List ℕ) (s₀ : Outcome) (answers : List ℕ) (b : Board) (d : Counts) (step : Step)
+    : Type 0 where
+  pub running : Running list answers₀ s₀ answers (state_of b d)
+  pub more : d.used < length list
+  pub is : StepIs b (rest list d.used) (length answers - d.written) (Ok step)
 
-pub at_step : {list answers₀ : List ℕ} {s₀ : Outcome} {answers : List ℕ} {b : Board} {calls used written : ℕ} →
-    Running list answers₀ s₀ answers (state_of b calls used written) → used < length list → (step : Step) →
-    StepIs b (rest list used) (length answers - written) (Ok step) →
-    At list answers₀ s₀ answers b calls used written step
+pub at_step : {list answers₀ : List ℕ} {s₀ : Outcome} {answers : List ℕ} {b : Board} {d : Counts} →
+    Running list answers₀ s₀ answers (state_of b d) → d.used < length list → (step : Step) →
+    StepIs b (rest list d.used) (length answers - d.written) (Ok step) → At list answers₀ s₀ answers b d step
 at_step r m step i = record { running = r; more = m; is = i }
 
-module _ {list answers₀ : List ℕ} {s₀ : Outcome} {answers : List ℕ} {b : Board} {calls used written : ℕ} {step : Step}
-    (u : At list answers₀ s₀ answers b calls used written step) where
-  pub rest_is : rest list used ≡ drop used list
-  rest_is = part_rest list used
+module _ {list answers₀ : List ℕ} {s₀ : Outcome} {answers : List ℕ} {b : Board} {d : Counts} {step : Step}
+    (u : At list answers₀ s₀ answers b d step) where
+  pub rest_is : rest list d.used ≡ drop d.used list
+  rest_is = part_rest list d.used
 
   pub board_sound : sound b ≡ true
   board_sound = good-sound u.running.good
@@ -51,25 +51,25 @@ module _ {list answers₀ : List ℕ} {s₀ : Outcome} {answers : List ℕ} {b :
   timed = sound_times _ u.running.good.fits.clock board_sound
 
   -- the step, as an arm has it
-  pub accepts : (s : Step) → step ≡ s → StepIs b (rest list used) (length answers - written) (Ok s)
-  accepts s e = subst (λ (x : Step). StepIs b (rest list used) (length answers - written) (Ok x)) e u.is
+  pub accepts : (s : Step) → step ≡ s → StepIs b (rest list d.used) (length answers - d.written) (Ok s)
+  accepts s e = subst (λ (x : Step). StepIs b (rest list d.used) (length answers - d.written) (Ok x)) e u.is
 
-  module _ (z : refusal_at b (rest list used) (length answers - written) ≡ 0) where
+  module _ (z : refusal_at b (rest list d.used) (length answers - d.written) ≡ 0) where
     -- its answer is inside the buffer
-    pub answer-inside : written + record_length (call_at (rest list used)) ≤ length answers
-    answer-inside = written-inside _ _ _ _ _ _ _ _ u.running u.more _ rest_is z
+    pub answer-inside : d.written + record_length (call_at (rest list d.used)) ≤ length answers
+    answer-inside = written-inside _ _ _ _ _ _ u.running u.more _ rest_is z
 
   -- one of the calls without an arm of their own
   pub other_at : Other step →
-      OtherDoes b board_sound written answers (rest list used) (length answers - written) step
-  other_at k = other_does b board_sound written answers (rest list used) (length answers - written) step k u.is
+      OtherDoes b board_sound d.written answers (rest list d.used) (length answers - d.written) step
+  other_at k = other_does b board_sound d.written answers (rest list d.used) (length answers - d.written) step k u.is
 
   -- its numbers: of the call, of its record, and of the bytes behind the header
   pub other_is : Other step → (c : Changes) → Changed step b c →
-      (call_length (call_at (rest list used)) ≡ call_length (other_call step))
-      × ((record_length (call_at (rest list used)) ≡ record_length (other_call step))
+      (call_length (call_at (rest list d.used)) ≡ call_length (other_call step))
+      × ((record_length (call_at (rest list d.used)) ≡ record_length (other_call step))
       × (3 + length (value_bytes c.answer) ≡ record_length (other_call step)))
   other_is k c h =
-      let d = (other_at k).1 in
-      let n = other_size b board_sound written answers (other_call step) _ _ (d.1.1 c h).1 in
-      (ap (λ (x : Call). call_length x) d.0, (ap (λ (x : Call). record_length x) d.0, n))
+      let o = (other_at k).1 in
+      let n = other_size b board_sound d.written answers (other_call step) _ _ (o.1.1 c h).1 in
+      (ap (λ (x : Call). call_length x) o.0, (ap (λ (x : Call). record_length x) o.0, n))

@@ -11,6 +11,7 @@ use lib.Seq.{sets, length-sets, drop-drop, get_or-drop}
 use Rattle.board.specs.declared.Board.{Board}
 use Rattle.clock.specs.Clock.{rate_of}
 use Rattle.board.specs.Kept.{Good}
+use Rattle.list.specs.declared.Counts.{Counts}
 use Rattle.list.specs.Run.{Outcome, Result, done, refused, result_of, stepped, Run, run_on, over}
 use Rattle.board.specs.Calls.{board_after}
 use Rattle.registers.proofs.Kept.{call_keeps}
@@ -65,8 +66,12 @@ stop_at (x ∷ rest) room s out h n e = next-refused x rest room s out n e
 -- ---- a run under way
 
 -- the locals of a run that goes on
-abbrev pub state_of : Board → ℕ → ℕ → ℕ → Outcome
-state_of b calls used written = record { board = b; calls = calls; used = used; written = written; refusal = 0 }
+abbrev pub state_of : Board → Counts → Outcome
+state_of b d = record { board = b; calls = d.calls; used = d.used; written = d.written; refusal = 0 }
+
+-- the counts with n more list bytes used
+abbrev pub more_used : Counts → ℕ → Counts
+more_used d n = record { calls = d.calls; used = d.used + n; written = d.written }
 
 -- the answers so far stand at the buffer's start, and the run from here on is the run from the list's start
 pub record Running (list buf₀ : List ℕ) (s₀ : Outcome) (buf : List ℕ) (s : Outcome) : Type 0 where
@@ -154,37 +159,39 @@ pub rest_bytes : (list l : List ℕ) (used : ℕ) → l ≡ drop used list → (
     (i : ℕ) → get_or l i 0 < 256
 rest_bytes list l used e h i = rw (e, get_or-drop used list i 0) (h (used + i))
 
-module _ (list buf₀ : List ℕ) (s₀ : Outcome) (buf : List ℕ) (b : Board) (calls used written : ℕ)
-    (r : Running list buf₀ s₀ buf (state_of b calls used written)) (inside : used < length list)
-    (l : List ℕ) (rest : l ≡ drop used list) where
-  at_front : (t : Result) → result_of b l (length buf - written) ≡ t →
-      result_of b (drop used list) (length buf₀ - length r.out) ≡ t
+module _ (list buf₀ : List ℕ) (s₀ : Outcome) (buf : List ℕ) (b : Board) (d : Counts)
+    (r : Running list buf₀ s₀ buf (state_of b d)) (inside : d.used < length list)
+    (l : List ℕ) (rest : l ≡ drop d.used list) where
+  at_front : (t : Result) → result_of b l (length buf - d.written) ≡ t →
+      result_of b (drop d.used list) (length buf₀ - length r.out) ≡ t
   at_front t e = rw (← rest, ← r.same, r.counted) e
 
   -- it is refused
-  pub ends : (n : ℕ) → n ≡ refusal_at b l (length buf - written) → eqb n 0 ≡ false →
-      Ran list buf₀ s₀ buf (record { board = b; calls = calls; used = used; written = written; refusal = n })
+  pub ends : (n : ℕ) → n ≡ refusal_at b l (length buf - d.written) → eqb n 0 ≡ false →
+      Ran list buf₀ s₀ buf
+      (record { board = b; calls = d.calls; used = d.used; written = d.written; refusal = n })
   unfolding stepped
   ends n p q =
-      let d = length-drop used list in
-      let e = at_front (refused n) (result-refused b l (length buf - written) n p q) in
+      let k = length-drop d.used list in
+      let e = at_front (refused n) (result-refused b l (length buf - d.written) n p q) in
       stopped list buf₀ s₀ buf _ r.out r.room r.bytes
-      (sym (stop_at (drop used list) (length buf₀) (state_of b calls used written) r.out (omega arith) n e) ∙ r.whole)
+      (sym (stop_at (drop d.used list) (length buf₀) (state_of b d) r.out (omega arith) n e) ∙ r.whole)
 
-  module _ (z : refusal_at b l (length buf - written) ≡ 0) where
+  module _ (z : refusal_at b l (length buf - d.written) ≡ 0) where
     -- it is accepted: its record is inside the buffer
-    pub written-inside : written + record_length (call_at l) ≤ length buf
-    written-inside = omega (arith, (clear b l (length buf - written) z).fits, r.counted, r.room, r.same)
+    pub written-inside : d.written + record_length (call_at l) ≤ length buf
+    written-inside = omega (arith, (clear b l (length buf - d.written) z).fits, r.counted, r.room, r.same)
 
     -- the run goes on behind it
     pub goes_on : ((i : ℕ) → get_or l i 0 < 256) → (b' : Board) → b' ≡ board_after (call_at l) b → (buf' : List ℕ) →
-        buf' ≡ sets buf written (answer_record (call_at l) b) → (used' size : ℕ) → used' ≡ used
-        + call_length (call_at l) →
-        size ≡ record_length (call_at l) → Running list buf₀ s₀ buf' (state_of b' (calls + 1) used' (written + size))
+        buf' ≡ sets buf d.written (answer_record (call_at l) b) → (d' : Counts) (size : ℕ) →
+        d' ≡ more_used d (call_length (call_at l)) → size ≡ record_length (call_at l) →
+        Running list buf₀ s₀ buf'
+        (state_of b' (record { calls = d'.calls + 1; used = d'.used; written = d'.written + size }))
     unfolding stepped
-    goes_on bytes b' e buf' w used' size p q =
-        let room = length buf - written in
+    goes_on bytes b' e buf' w d' size p q =
+        let room = length buf - d.written in
         rw (p, q, e, ← answer_size (call_at l) b)
-        (more list buf₀ s₀ buf (state_of b calls used written) r inside (board_after (call_at l) b)
+        (more list buf₀ s₀ buf (state_of b d) r inside (board_after (call_at l) b)
         (call_length (call_at l)) (answer_record (call_at l) b) buf' (at_front _ (result-done b l room z)) w
         (call_keeps (call_at l) (rate_of s₀.board.clock) b (call_fits l bytes) r.good (clear b l room z).own))

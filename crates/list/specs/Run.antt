@@ -38,9 +38,9 @@ abbrev pub outcome_of : Ended → Outcome
 outcome_of e =
     record {
       board = e.board;
-      calls = e.calls;
-      used = e.used;
-      written = e.written;
+      calls = e.done.calls;
+      used = e.done.used;
+      written = e.done.written;
       refusal = refusal_code e.end;
     }
 

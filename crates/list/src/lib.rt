@@ -4,7 +4,6 @@
 #![tactic(auto)]
 
 ghost use Rattle.std.specs.Prelude.{◌≡◌, length};
-ghost use Rattle.board.specs.Refusals.{refusal_code};
 ghost use Rattle.list.specs.Run.{outcome_of, run_of, over};
 
 use board::Board;
@@ -16,35 +15,20 @@ use registers::{reads, writes};
 use regmap::writes::acknowledged;
 use steps::Step;
 
-// The board after a run, the calls done, the list bytes that they used, the answer bytes, and how the run ended: at
-// the end of its list, or at a refusal.
-#[derive(Clone, Copy)]
-pub struct Outcome {
-    pub board: Board,
+// How far a run came: the calls done, the list bytes that they used, and the answer bytes.
+#[derive(Clone, Copy, PartialEq, Eq, Default)]
+pub struct Counts {
     pub calls: usize,
     pub used: usize,
     pub written: usize,
-    pub end: Result<(), Refusal>,
 }
 
-// A run's result.
-fn stopped(
-    board: Board,
-    calls: usize,
-    used: usize,
-    written: usize,
-    end: Result<(), Refusal>,
-) -> Outcome
-    ensures { outcome_of result
-        ≡ record { board = board; calls = calls; used = used; written = written; refusal = refusal_code end } }
-{
-    Outcome {
-        board,
-        calls,
-        used,
-        written,
-        end,
-    }
+// The board after a run, how far the run came, and how it ended: at the end of its list, or at a refusal.
+#[derive(Clone, Copy)]
+pub struct Outcome {
+    pub board: Board,
+    pub done: Counts,
+    pub end: Result<(), Refusal>,
 }
 
 // Runs a list of calls over a board, and writes their answers into a buffer.
@@ -54,17 +38,25 @@ pub fn run(board: Board, list: &[u8], answers: &mut [u8]) -> Outcome
         ≡ over (run_of board list.now (length answers.old)).answers answers.old }
 {
     if !board.sound() {
-        return stopped(board, 0, 0, 0, Err(Refusal::NotSound));
+        return Outcome {
+            board,
+            done: Counts::default(),
+            end: Err(Refusal::NotSound),
+        };
     }
     let mut b = board;
-    let mut calls = 0;
-    let mut used = 0;
-    let mut written = 0;
-    while used < list.len() {
-        let rest = &list[used..];
-        let step = match steps::step_of(b, rest, answers.len() - written) {
+    let mut done = Counts::default();
+    while done.used < list.len() {
+        let rest = &list[done.used..];
+        let step = match steps::step_of(b, rest, answers.len() - done.written) {
             Ok(step) => step,
-            Err(refusal) => return stopped(b, calls, used, written, Err(refusal)),
+            Err(refusal) => {
+                return Outcome {
+                    board: b,
+                    done,
+                    end: Err(refusal),
+                };
+            }
         };
         let mut size = 0;
         let mut moved = false; // whether the line can have moved
@@ -77,7 +69,7 @@ pub fn run(board: Board, list: &[u8], answers: &mut [u8]) -> Outcome
                     b.clock.alarm.pending = r.pending;
                     b.clock.alarm.armed = r.armed;
                     moved = r.rose;
-                    steps::put_byte(answers, written, r.byte);
+                    steps::put_byte(answers, done.written, r.byte);
                 } else {
                     let r = reads::reading_at(b, timer, offset);
                     let after = r.latches;
@@ -85,9 +77,9 @@ pub fn run(board: Board, list: &[u8], answers: &mut [u8]) -> Outcome
                     b.clock.alarm.pending = r.plain.pending;
                     b.clock.alarm.armed = r.plain.armed;
                     moved = r.plain.rose;
-                    steps::put_byte(answers, written, r.plain.byte);
+                    steps::put_byte(answers, done.written, r.plain.byte);
                 }
-                used += Tag::Read.call_length();
+                done.used += Tag::Read.call_length();
                 size = Tag::Read.record_length();
             }
             Step::Write(byte, offset) => {
@@ -113,12 +105,12 @@ pub fn run(board: Board, list: &[u8], answers: &mut [u8]) -> Outcome
                         moved = writes::at_control(offset);
                     }
                 }
-                format::put_header(answers, written, Tag::Write);
-                used += Tag::Write.call_length();
+                format::put_header(answers, done.written, Tag::Write);
+                done.used += Tag::Write.call_length();
                 size = Tag::Write.record_length();
             }
             Step::Pass(passing, cycles) => {
-                steps::put_begun(answers, written, passing, cycles);
+                steps::put_begun(answers, done.written, passing, cycles);
                 let enable = b.timer_enable;
                 for i in 0..Board::CHANNELS {
                     let timer = b.timers[i];
@@ -128,7 +120,7 @@ pub fn run(board: Board, list: &[u8], answers: &mut [u8]) -> Outcome
                         let timer_after = after.timer;
                         b.timers[i] = timer_after;
                         let points = after.matches;
-                        steps::put_points(answers, written, passing, i, points);
+                        steps::put_points(answers, done.written, passing, i, points);
                     }
                 }
                 let later = b.clock.advance(cycles);
@@ -136,9 +128,9 @@ pub fn run(board: Board, list: &[u8], answers: &mut [u8]) -> Outcome
                 let line = b.line();
                 let set = b.controller_wired(line);
                 b.controller = set;
-                steps::put_passed(answers, written, passing, line);
+                steps::put_passed(answers, done.written, passing, line);
                 let tag = passing.tag();
-                used += tag.call_length();
+                done.used += tag.call_length();
                 size = tag.record_length();
             }
             _ => {
@@ -147,9 +139,9 @@ pub fn run(board: Board, list: &[u8], answers: &mut [u8]) -> Outcome
                 b.clock.host.nanoseconds = c.host.nanoseconds;
                 let after = c.controller;
                 b.controller = after;
-                steps::put_other(answers, written, step, c);
+                steps::put_other(answers, done.written, step, c);
                 let tag = steps::tag_of(step);
-                used += tag.call_length();
+                done.used += tag.call_length();
                 size = tag.record_length();
             }
         }
@@ -157,8 +149,12 @@ pub fn run(board: Board, list: &[u8], answers: &mut [u8]) -> Outcome
             let set = b.controller_wired(b.line()); // source 3
             b.controller = set;
         }
-        calls += 1;
-        written += size;
+        done.calls += 1;
+        done.written += size;
     }
-    stopped(b, calls, used, written, Ok(()))
+    Outcome {
+        board: b,
+        done,
+        end: Ok(()),
+    }
 }

@@ -30,27 +30,27 @@ module _ (list : List ℕ) (board : Board) (before after : List ℕ) (e : Ended)
     (ran : outcome_of e ≡ (run_of board list room).outcome)
     (wrote : after ≡ over (run_of board list room).answers before)
   where
-    counted : e.written ≡ length (run_of board list room).answers
+    counted : e.done.written ≡ length (run_of board list room).answers
     counted = ap (λ (q : Outcome). q.written) ran ∙ written_is board list room
 
     -- they lie within the buffer
-    pub written_fits : e.written ≤ length after
+    pub written_fits : e.done.written ≤ length after
     unfolding over
     written_fits =
         let a = (run_of board list room).answers in
         omega (arith, counted, ap length wrote, length-append a (drop (length a) before))
 
-    pub written_long : e.written ≡ length (take e.written after)
-    written_long = sym (length-take-le e.written after written_fits)
+    pub written_long : e.done.written ≡ length (take e.done.written after)
+    written_long = sym (length-take-le e.done.written after written_fits)
 
     -- they are listed
     pub listed_is :
-        listing_of (take e.written after) e.calls (refusal_code e.end) e.used ≡ listed (run_of fresh_board list room)
+        listing_of (take e.done.written after) e.done.calls (refusal_code e.end) e.done.used ≡ listed (run_of fresh_board list room)
     unfolding listed over
     listed_is =
         let a = (run_of board list room).answers in
-        let front : take e.written after ≡ a = rw (counted, wrote) (take-append_seam a (drop (length a) before)) in
-        ap (λ (l : List ℕ). listing_of l e.calls (refusal_code e.end) e.used) front
+        let front : take e.done.written after ≡ a = rw (counted, wrote) (take-append_seam a (drop (length a) before)) in
+        ap (λ (l : List ℕ). listing_of l e.done.calls (refusal_code e.end) e.done.used) front
         ∙ ap (λ (q : Outcome). listing_of a q.calls q.refusal q.used) ran
         ∙ ap (λ (b : Board). listed (run_of b list room)) fresh
 

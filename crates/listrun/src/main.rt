@@ -33,12 +33,12 @@ fn run_list(list: &[u8], answers: &mut [u8], text: &mut [u8]) -> usize
     ensures upper_bound { result ≤ 2 * length answers.old + 67 }
 {
     let r = list::run(Board::fresh(), list, answers);
-    let written = r.written;
+    let done = r.done;
     listing::listing(
-        &answers[..written],
-        r.calls,
+        &answers[..done.written],
+        done.calls,
         refusal::code(r.end),
-        r.used,
+        done.used,
         text,
     )
 }

@@ -19,7 +19,7 @@ ghost use Rattle.pec.specs.Parked.{fresh_writing, fresh_buffer};
 use board::Board;
 use board::refusal::{self, Refusal};
 use image::Form;
-use list::Outcome;
+use list::{Counts, Outcome};
 
 mod irqc;
 
@@ -52,25 +52,29 @@ fn repeated_at(rate: u32, first: &[u8], list: &[u8], times: u64, answers: &mut [
         Ok(()) => repeated(board, first, list, times, answers),
         Err(refusal) => Outcome {
             board,
-            calls: 0,
-            used: 0,
-            written: 0,
+            done: Counts::default(),
             end: Err(refusal),
         },
     }
 }
 
 // Gives a run's counts to the caller, and the number of its refusal as the result, 0 for none.
-fn give(run: Outcome, calls: &mut usize, used: &mut usize, written: &mut usize) -> u8
-    ensures value { result ≡ (outcome_of run).refusal }
-    ensures calls_after { calls.new ≡ (outcome_of run).calls }
-    ensures used_after { used.new ≡ (outcome_of run).used }
-    ensures written_after { written.new ≡ (outcome_of run).written }
+fn give(
+    done: Counts,
+    end: Result<(), Refusal>,
+    calls: &mut usize,
+    used: &mut usize,
+    written: &mut usize,
+) -> u8
+    ensures value { result ≡ refusal_code end }
+    ensures calls_after { calls.new ≡ done.calls }
+    ensures used_after { used.new ≡ done.used }
+    ensures written_after { written.new ≡ done.written }
 {
-    *calls = run.calls;
-    *used = run.used;
-    *written = run.written;
-    refusal::code(run.end)
+    *calls = done.calls;
+    *used = done.used;
+    *written = done.written;
+    refusal::code(end)
 }
 
 // Gives the bytes of an image to the caller, 0 where it is refused, and the number of the refusal as the result, 0 for
@@ -100,12 +104,8 @@ pub extern "C" fn pec_run(
     ensures written_after { written.new
         ≡ (ran list.now (started answers.old)).outcome.written }
 {
-    give(
-        list::run(Board::fresh(), list, answers),
-        calls,
-        used,
-        written,
-    )
+    let run = list::run(Board::fresh(), list, answers);
+    give(run.done, run.end, calls, used, written)
 }
 
 // Runs a list over a fresh board, and then another list a number of times, each time over the board that the run before
@@ -131,12 +131,8 @@ pub extern "C" fn pec_run_repeated(
     ensures written_after { written.new ≡ (repeats times list.now
         (ran first.now (started answers.old))).outcome.written }
 {
-    give(
-        repeated(Board::fresh(), first, list, times, answers),
-        calls,
-        used,
-        written,
-    )
+    let run = repeated(Board::fresh(), first, list, times, answers);
+    give(run.done, run.end, calls, used, written)
 }
 
 // Runs a list over a fresh board at a rate into a lent buffer, as `pec_run` does over one at 48,000,000. A rate other
@@ -156,12 +152,8 @@ pub extern "C" fn pec_run_at(
     ensures used_after { used.new ≡ (ran_at rate list.now answers.old).outcome.used }
     ensures written_after { written.new ≡ (ran_at rate list.now answers.old).outcome.written }
 {
-    give(
-        repeated_at(rate, list, list, 0, answers),
-        calls,
-        used,
-        written,
-    )
+    let run = repeated_at(rate, list, list, 0, answers);
+    give(run.done, run.end, calls, used, written)
 }
 
 // Runs a list over a fresh board at a rate, and then another list a number of times, as `pec_run_repeated` does over
@@ -188,12 +180,8 @@ pub extern "C" fn pec_run_repeated_at(
     ensures written_after { written.new
         ≡ (repeats_at rate first.now list.now times answers.old).outcome.written }
 {
-    give(
-        repeated_at(rate, first, list, times, answers),
-        calls,
-        used,
-        written,
-    )
+    let run = repeated_at(rate, first, list, times, answers);
+    give(run.done, run.end, calls, used, written)
 }
 
 // Writes the listing of a run's answers and of its end, which `listrun` prints, at the start of a lent buffer, as much
@@ -297,10 +285,7 @@ pub extern "C" fn pec_run_parked(
         ≡ (resumed_of image.old list.now (length answers.old)).written }
 {
     let run = resume::run(image, list, answers);
-    *calls = run.calls;
-    *used = run.used;
-    *written = run.written;
-    refusal::code(run.end)
+    give(run.done, run.end, calls, used, written)
 }
 
 // Whether a parked board's line would be high after each of some totals of further cycles: one byte for each, 1 or 0,

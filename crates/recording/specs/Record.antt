@@ -13,7 +13,8 @@ start_of n = with_timer_enable n fresh_board
 
 -- a run's results without the board and the answers
 abbrev pub results_of : Outcome → Results
-results_of o = record { calls = o.calls; used = o.used; written = o.written; refusal = o.refusal }
+results_of o =
+    record { done = record { calls = o.calls; used = o.used; written = o.written }; refusal = o.refusal }
 
 -- the numbers of the record at an index: timer enable 1; lengths of the list 2 and of the buffer 2; calls done 2, list
 -- bytes used 2, answer bytes 2, refusal 1
@@ -24,16 +25,18 @@ header_at s at =
       list = be_at s (at + 1) 2;
       buffer = be_at s (at + 3) 2;
       results = record {
-        calls = be_at s (at + 5) 2;
-        used = be_at s (at + 7) 2;
-        written = be_at s (at + 9) 2;
+        done = record {
+          calls = be_at s (at + 5) 2;
+          used = be_at s (at + 7) 2;
+          written = be_at s (at + 9) 2;
+        };
         refusal = slice_index s (at + 11);
       };
     }
 
 -- a record lies within `room` bytes, and its buffer is not too long
 pub record Fits (h : Header) (room : ℕ) : Type 0 where
-  pub bytes : 12 + (h.list + h.results.written) ≤ room
+  pub bytes : 12 + (h.list + h.results.done.written) ≤ room
   pub buffer : h.buffer ≤ 32768
 
 -- the run of a record's list, by the rules, has the recorded results, and leaves in the buffer the recorded answers,

@@ -8,6 +8,7 @@ ghost use Rattle.list.specs.Run.{run_of, over};
 ghost use Rattle.recording.specs.Record.{start_of, results_of, header_at, Fits, Agrees};
 
 use board::{Board, refusal};
+use list::Counts;
 use listing::first_record;
 use wide::fields::get;
 
@@ -22,9 +23,7 @@ pub const BUFFER_LIMIT: usize = 32768;
 // A run's results without the board and the answers.
 #[derive(Clone, Copy, PartialEq, Eq)]
 pub struct Results {
-    pub calls: usize,
-    pub used: usize,
-    pub written: usize,
+    pub done: Counts,
     pub refusal: u8,
 }
 
@@ -65,9 +64,11 @@ pub fn header_at(s: &[u8], at: usize) -> Header
         list: number_at(s, at + 1),
         buffer: number_at(s, at + 3),
         results: Results {
-            calls: number_at(s, at + 5),
-            used: number_at(s, at + 7),
-            written: number_at(s, at + 9),
+            done: Counts {
+                calls: number_at(s, at + 5),
+                used: number_at(s, at + 7),
+                written: number_at(s, at + 9),
+            },
             refusal: s[at + 11],
         },
     }
@@ -79,7 +80,7 @@ pub fn fits(h: Header, room: usize) -> bool
     ensures { Decides result (Fits h room) }
 {
     let rest = room - RECORD_HEADER_LENGTH;
-    h.list <= rest && h.results.written <= rest - h.list && h.buffer <= BUFFER_LIMIT
+    h.list <= rest && h.results.done.written <= rest - h.list && h.buffer <= BUFFER_LIMIT
 }
 
 // The fresh board with a timer enable.
@@ -103,9 +104,7 @@ fn replayed(enable: u8, list: &[u8], answers: &mut [u8]) -> Results
 {
     let r = list::run(start(enable), list, answers);
     Results {
-        calls: r.calls,
-        used: r.used,
-        written: r.written,
+        done: r.done,
         refusal: refusal::code(r.end),
     }
 }
@@ -129,8 +128,8 @@ impl<'a> Record<'a> {
             × Fits (header_at s.now 0) (length s.now)
             × (r.0.header ≡ header_at s.now 0)
             × (r.0.list.now ≡ take r.0.header.list (drop 12 s.now))
-            × (r.0.answers.now ≡ take r.0.header.results.written (drop (12 + r.0.header.list) s.now))
-            × (r.1.now ≡ drop (12 + (r.0.header.list + r.0.header.results.written)) s.now)) }
+            × (r.0.answers.now ≡ take r.0.header.results.done.written (drop (12 + r.0.header.list) s.now))
+            × (r.1.now ≡ drop (12 + (r.0.header.list + r.0.header.results.done.written)) s.now)) }
     {
         if s.len() < RECORD_HEADER_LENGTH {
             return None;
@@ -140,7 +139,7 @@ impl<'a> Record<'a> {
             return None;
         }
         let (list, rest) = s[RECORD_HEADER_LENGTH..].split_at(header.list);
-        let (answers, rest) = rest.split_at(header.results.written);
+        let (answers, rest) = rest.split_at(header.results.done.written);
         let made = Record {
             header,
             list,

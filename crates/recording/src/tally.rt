@@ -58,7 +58,7 @@ impl Record<'_> {
     fn compared(self, buffer: &mut [u8], old: &[u8]) -> Tally
         requires { length old.now ≡ length buffer.old }
     {
-        let calls = self.header.results.calls;
+        let calls = self.header.results.done.calls;
         if self.agrees(buffer, old) {
             return Tally {
                 lists: 1,

@@ -16,7 +16,13 @@ pub record Resumed : Type 0 where
 
 -- what the code's result says
 abbrev pub resumed_said : Said → Resumed
-resumed_said r = record { refusal = refusal_code r.end; calls = r.calls; used = r.used; written = r.written }
+resumed_said r =
+    record {
+      refusal = refusal_code r.end;
+      calls = r.done.calls;
+      used = r.done.used;
+      written = r.done.written;
+    }
 
 -- document 01's run of a list over the board of an image, with this room for the answers
 abbrev pub run_parked : List ℕ → List ℕ → ℕ → Run

@@ -6,15 +6,13 @@ ghost use Rattle.std.specs.Prelude.{◌≡◌, length};
 ghost use Rattle.resume.specs.Resumed.{resumed_said, resumed_of, image_after, answers_after};
 
 use board::refusal::Refusal;
+use list::Counts;
 
-// How the run ended, or why the image is refused; and the run's counts: the calls done, the list bytes that they used,
-// and the answer bytes.
+// How far the run came, and how it ended, or why the image is refused.
 #[derive(Clone, Copy)]
 pub struct Resumed {
+    pub done: Counts,
     pub end: Result<(), Refusal>,
-    pub calls: usize,
-    pub used: usize,
-    pub written: usize,
 }
 
 pub fn run(image: &mut [u8], list: &[u8], answers: &mut [u8]) -> Resumed
@@ -28,10 +26,8 @@ pub fn run(image: &mut [u8], list: &[u8], answers: &mut [u8]) -> Resumed
         Ok(parked) => parked,
         Err(refusal) => {
             return Resumed {
+                done: Counts::default(),
                 end: Err(refusal),
-                calls: 0,
-                used: 0,
-                written: 0,
             };
         }
     };
@@ -42,9 +38,7 @@ pub fn run(image: &mut [u8], list: &[u8], answers: &mut [u8]) -> Resumed
     // this is accepted: a run leaves a sound board at its rate, and the image is as long as its form
     let _ = parking::park(form, left, image);
     Resumed {
+        done: r.done,
         end: r.end,
-        calls: r.calls,
-        used: r.used,
-        written: r.written,
     }
 }

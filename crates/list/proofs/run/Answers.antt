@@ -13,15 +13,16 @@ use Rattle.registers.specs.declared.writes.WritePart.{WritePart}
 use Rattle.registers.specs.declared.writes.WritePart.TheVariants as W
 use Rattle.registers.proofs.CodeWrites.{channel-range}
 use Rattle.format.specs.Format.{header_length, value_length, answer_length}
-use Rattle.format.specs.Codec.{call_at, refusal_at}
+use Rattle.format.specs.Codec.{call_at, call_length, refusal_at}
 use Rattle.format.proofs.Frames.{part_rest}
+use Rattle.list.specs.declared.Counts.{Counts}
 use Rattle.list.specs.Run.{run_of, over}
 use Rattle.steps.proofs.Advances.{begins, next-phase, advances, passed_over, still-timed, counts_begin}
 use Rattle.steps.proofs.Advances.{next-zero, counts-next, counts-passed, counts_same, all-advanced, counts_end}
 use Rattle.steps.proofs.Calls.{read_length, write_length, pass_length, pass_room, begun_room, Served, set_after}
 use Rattle.steps.proofs.Calls.{other_of, plain_carried, read_carried, channel-written, write_carried, pass_carried}
 use Rattle.steps.proofs.Calls.{other_carried}
-use Rattle.list.proofs.Runs.{Ran, ended, ends, rest_bytes, goes_on}
+use Rattle.list.proofs.Runs.{more_used, Ran, ended, ends, rest_bytes, goes_on}
 use Rattle.list.proofs.Arms.{rest, at_step, rest_is, board_sound, timed, accepts, answer-inside}
 use Rattle.list.proofs.Arms.{other_at, other_is}
 use Rattle.list.proofs.run.Goals as goal
@@ -36,48 +37,49 @@ pub returns-then-not-sound : goal.returns-then-not-sound
 unfolding run_of over
 returns-then-not-sound c =
     let e : sound c.args.board ≡ false = sym c.sound.ensures.0 ∙ c.if-not-sound.true in
-    record { value = rw e c.stopped.ensures; answers_after = rw e }
+    let n = c.default.ensures in
+    record { value = rw (e, n.0, n.1.0, n.1.1) refl; answers_after = rw e }
 
 pub returns-in-Err : goal.returns-in-Err
 unfolding run_of Ran
 returns-in-Err c =
     let s : sound c.args.board ≡ true = sym c.sound.ensures.0 ∙ c.if-not-sound.false in
-    let ran = ends _ _ _ _ _ _ _ _ c.loop-used.invariant c.loop-used-test.true _ (part_rest c.args.list.now
-    c.loop-used.used) _ c.in-Err.ensures
+    let ran = ends _ _ _ _ _ _ c.loop-done.invariant c.loop-done-test.true _ (part_rest c.args.list.now
+    c.loop-done.done.used) _ c.in-Err.ensures
     (some_refusal c.in-Err.refusal) in
-    record { value = rw s (c.stopped-in-Err.ensures ∙ ran.0); answers_after = rw s ran.1 }
+    record { value = rw s ran.0; answers_after = rw s ran.1 }
 
 pub returns : goal.returns
 unfolding run_of Ran
 returns c =
     let s : sound c.args.board ≡ true = sym c.sound.ensures.0 ∙ c.if-not-sound.false in
-    let ran = ended _ _ _ _ _ c.loop-used.invariant c.loop-used-test.false in
-    record { value = rw s (c.stopped-2.ensures ∙ ran.0); answers_after = rw s ran.1 }
+    let ran = ended _ _ _ _ _ c.loop-done.invariant c.loop-done-test.false in
+    record { value = rw s ran.0; answers_after = rw s ran.1 }
 
 -- ---- a read
 
 pub plain_at-r-requires : goal.plain_at-r-requires
 plain_at-r-requires c =
-    let u = at_step c.loop-used.invariant c.loop-used-test.true c.in-Ok.step c.in-Ok.ensures in (
+    let u = at_step c.loop-done.invariant c.loop-done-test.true c.in-Ok.step c.in-Ok.ensures in (
       sym c.plain.ensures ∙ c.if-plain.true,
       timed u,
-      ap (λ (j : ℕ). channel_at j c.loop-used.b) c.channel_index-i.ensures.0,
+      ap (λ (j : ℕ). channel_at j c.loop-done.b) c.channel_index-i.ensures.0,
     )
 
 pub put_byte-requires : goal.put_byte-requires
 put_byte-requires c =
-    let u = at_step c.loop-used.invariant c.loop-used-test.true c.in-Ok.step c.in-Ok.ensures in
+    let u = at_step c.loop-done.invariant c.loop-done-test.true c.in-Ok.step c.in-Ok.ensures in
     let a = accepts u _ c.in-Read.is in
     omega (arith, answer-inside u a.0, (read_length _ _ a.1).1)
 
 pub reading_at-r-requires : goal.reading_at-r-requires
 reading_at-r-requires c =
-    let u = at_step c.loop-used.invariant c.loop-used-test.true c.in-Ok.step c.in-Ok.ensures in
-    (timed u, ap (λ (j : ℕ). channel_at j c.loop-used.b) c.channel_index-i.ensures.0)
+    let u = at_step c.loop-done.invariant c.loop-done-test.true c.in-Ok.step c.in-Ok.ensures in
+    (timed u, ap (λ (j : ℕ). channel_at j c.loop-done.b) c.channel_index-i.ensures.0)
 
 pub put_byte-requires-else-plain : goal.put_byte-requires-else-plain
 put_byte-requires-else-plain c =
-    let u = at_step c.loop-used.invariant c.loop-used-test.true c.in-Ok.step c.in-Ok.ensures in
+    let u = at_step c.loop-done.invariant c.loop-done-test.true c.in-Ok.step c.in-Ok.ensures in
     let a = accepts u _ c.in-Read.is in
     omega (arith, answer-inside u a.0, (read_length _ _ a.1).1)
 
@@ -85,7 +87,7 @@ put_byte-requires-else-plain c =
 
 pub clock_after-after-requires : goal.clock_after-after-requires
 clock_after-after-requires c =
-    let u = at_step c.loop-used.invariant c.loop-used-test.true c.in-Ok.step c.in-Ok.ensures in
+    let u = at_step c.loop-done.invariant c.loop-done-test.true c.in-Ok.step c.in-Ok.ensures in
     timed u
 
 pub timer_after-after-requires : goal.timer_after-after-requires
@@ -96,7 +98,7 @@ at_control-moved-requires c = channel-range _ (sym c.part_at.ensures ∙ c.in-Ch
 
 pub put_header-requires : goal.put_header-requires
 put_header-requires c =
-    let u = at_step c.loop-used.invariant c.loop-used-test.true c.in-Ok.step c.in-Ok.ensures in
+    let u = at_step c.loop-done.invariant c.loop-done-test.true c.in-Ok.step c.in-Ok.ensures in
     let a = accepts u _ c.in-Write.is in
     omega (arith, answer-inside u a.0, (write_length _ _ _ a.1).1)
 
@@ -104,16 +106,16 @@ put_header-requires c =
 
 pub put_begun-requires : goal.put_begun-requires
 put_begun-requires c =
-    let u = at_step c.loop-used.invariant c.loop-used-test.true c.in-Ok.step c.in-Ok.ensures in
+    let u = at_step c.loop-done.invariant c.loop-done-test.true c.in-Ok.step c.in-Ok.ensures in
     let a = accepts u _ c.in-Pass.is in
     pass_room _ _ _ _ a.1 _ _ (answer-inside u a.0)
 
 pub loop-i-init : goal.loop-i-init
 loop-i-init c =
-    let u = at_step c.loop-used.invariant c.loop-used-test.true c.in-Ok.step c.in-Ok.ensures in
-    let g = c.loop-used.invariant.good in (
+    let u = at_step c.loop-done.invariant c.loop-done-test.true c.in-Ok.step c.in-Ok.ensures in
+    let g = c.loop-done.invariant.good in (
       begins _ _ _ g.fits.four (sound_facts _ (board_sound u)).timers,
-      counts_begin _ _ _ _ c.loop-used.b g.fits.four _ _ c.put_begun.ensures,
+      counts_begin _ _ _ _ c.loop-done.b g.fits.four _ _ c.put_begun.ensures,
     )
 
 pub advance_cycles-after-requires : goal.advance_cycles-after-requires
@@ -123,7 +125,7 @@ pub put_points-requires : goal.put_points-requires
 put_points-requires c =
     let l = c.loop-i.invariant in
     let h = c.loop-i-test.true in
-    let u = at_step c.loop-used.invariant c.loop-used-test.true c.in-Ok.step c.in-Ok.ensures in
+    let u = at_step c.loop-done.invariant c.loop-done-test.true c.in-Ok.step c.in-Ok.ensures in
     let a = accepts u _ c.in-Pass.is in
     let room = begun_room _ _ _ _ a.1 _ _ _ c.put_begun.ensures (answer-inside u a.0) in
     let m = counts_same _ _ _ _ _ _ _ l.0 _ _ l.1 in
@@ -150,13 +152,13 @@ loop-i-preserved c =
 
 pub advance-later-requires : goal.advance-later-requires
 advance-later-requires c =
-    let u = at_step c.loop-used.invariant c.loop-used-test.true c.in-Ok.step c.in-Ok.ensures in
+    let u = at_step c.loop-done.invariant c.loop-done-test.true c.in-Ok.step c.in-Ok.ensures in
     still-timed _ _ _ _ _ c.loop-i.invariant.0 (timed u)
 
 pub put_passed-requires : goal.put_passed-requires
 put_passed-requires c =
     let l = c.loop-i.invariant in
-    let u = at_step c.loop-used.invariant c.loop-used-test.true c.in-Ok.step c.in-Ok.ensures in
+    let u = at_step c.loop-done.invariant c.loop-done-test.true c.in-Ok.step c.in-Ok.ensures in
     let a = accepts u _ c.in-Pass.is in
     let room = begun_room _ _ _ _ a.1 _ _ _ c.put_begun.ensures (answer-inside u a.0) in
     let m = counts_same _ _ _ _ _ _ _ l.0 _ _ l.1 in
@@ -166,7 +168,7 @@ put_passed-requires c =
 
 pub put_other-requires : goal.put_other-requires
 put_other-requires c =
-    let u = at_step c.loop-used.invariant c.loop-used-test.true c.in-Ok.step c.in-Ok.ensures in
+    let u = at_step c.loop-done.invariant c.loop-done-test.true c.in-Ok.step c.in-Ok.ensures in
     let k = other_of c.in_default.not-Read c.in_default.not-Write
     c.in_default.not-Pass in
     let d = other_is u k c.changes_of-c.result c.changes_of-c.ensures in
@@ -175,11 +177,11 @@ put_other-requires c =
 -- ---- where the arms meet
 
 -- the call is accepted
-accepted : (c : goal.After-row_known-1) →
-    refusal_at c.loop-used.b (rest c.args.list.now c.loop-used.used) (length c.loop-used.answers - c.loop-used.written)
+accepted : (c : goal.After-struct_known-in-loop-done-3-1) →
+    refusal_at c.loop-done.b (rest c.args.list.now c.loop-done.done.used) (length c.loop-done.answers - c.loop-done.done.written)
     ≡ 0
 accepted c =
-    let u = at_step c.loop-used.invariant c.loop-used-test.true c.in-Ok.step c.in-Ok.ensures in
+    let u = at_step c.loop-done.invariant c.loop-done-test.true c.in-Ok.step c.in-Ok.ensures in
     elim c.match-step.branch [
       | in-Read w ↦ (accepts u _ w.in-Read.is).0
       | in-Write w ↦ (accepts u _ w.in-Write.is).0
@@ -196,20 +198,40 @@ call-bytes tag = header_length + value_length tag
 abbrev record-bytes : ℕ → ℕ
 record-bytes tag = header_length + answer_length tag
 
-used-by : (used₁ used₀ n m : ℕ) → used₁ ≡ used₀ + n → n ≡ m → used₁ ≡ used₀ + m
-used-by used₁ used₀ n m e f = e ∙ ap (λ (k : ℕ). used₀ + k) f
+-- the bytes of the call are added to those used, and the other counts stay
+counted : (c : goal.After-struct_known-in-loop-done-3-1) →
+    c.match-step.done ≡ more_used c.loop-done.done (call_length (call_at (rest c.args.list.now c.loop-done.done.used)))
+counted c =
+    let u = at_step c.loop-done.invariant c.loop-done-test.true c.in-Ok.step c.in-Ok.ensures in
+    let more = more_used c.loop-done.done in
+    elim c.match-step.branch [
+      | in-Read w ↦
+          let n = read_length _ _ (accepts u _ w.in-Read.is).1 in
+          w.done-is ∙ ap more (w.call_length.ensures ∙ sym n.0)
+      | in-Write w ↦
+          let n = write_length _ _ _ (accepts u _ w.in-Write.is).1 in
+          w.done-is ∙ ap more (w.call_length-in-Write.ensures ∙ sym n.0)
+      | in-Pass+else-loop-i-test w ↦
+          let n = pass_length _ _ _ _ (accepts u _ w.in-Pass.is).1 in
+          w.done-is ∙ ap more (w.call_length-in-Pass.ensures ∙ ap call-bytes w.tag-tag.ensures ∙ sym n.0)
+      | in_default w ↦
+          let k = other_of w.in_default.not-Read w.in_default.not-Write w.in_default.not-Pass in
+          let d = other_is u k w.changes_of-c.result w.changes_of-c.ensures in
+          w.done-is ∙ ap more (w.call_length-in_default.ensures ∙ ap call-bytes w.tag_of-tag.ensures ∙ sym d.0)
+    ]
 
 -- the board, the buffer and the numbers are those of the call
-served : (c : goal.After-row_known-1) →
-    Served (call_at (rest c.args.list.now c.loop-used.used)) c.loop-used.b c.loop-used.used c.loop-used.written
-    c.loop-used.answers c.match-step.b c.match-step.moved c.match-step.used c.match-step.size c.match-step.answers
+served : (c : goal.After-struct_known-in-loop-done-3-1) →
+    Served (call_at (rest c.args.list.now c.loop-done.done.used)) c.loop-done.b c.loop-done.done.used c.loop-done.done.written
+    c.loop-done.answers c.match-step.b c.match-step.moved c.match-step.done.used c.match-step.size c.match-step.answers
 served c =
-    let u = at_step c.loop-used.invariant c.loop-used-test.true c.in-Ok.step c.in-Ok.ensures in
-    let b = c.loop-used.b in
+    let u = at_step c.loop-done.invariant c.loop-done-test.true c.in-Ok.step c.in-Ok.ensures in
+    let b = c.loop-done.b in
     let s = board_sound u in
-    let at = c.loop-used.written in
-    let buf = c.loop-used.answers in
-    let call = call_at (rest c.args.list.now c.loop-used.used) in
+    let at = c.loop-done.done.written in
+    let buf = c.loop-done.answers in
+    let call = call_at (rest c.args.list.now c.loop-done.done.used) in
+    let used = ap (λ (d : Counts). d.used) (counted c) in
     elim c.match-step.branch [
       | in-Read w ↦
           let a = (accepts u _ w.in-Read.is).1 in
@@ -222,7 +244,7 @@ served c =
               | else-plain v ↦ read_carried b s at buf call _ a _ _ _ _ v.reading_at-r.ensures (w.b-is ∙ v.b-is)
                   (w.moved-is ∙ v.moved-is) (w.answers-is ∙ v.answers-is ∙ v.put_byte-else-plain.ensures)
             ];
-            used = used-by _ _ _ _ w.used-is (w.call_length-used.ensures ∙ sym n.0);
+            used = used;
             size = w.size-is ∙ w.record_length-size.ensures ∙ sym n.1;
           }
       | in-Write w ↦
@@ -250,7 +272,7 @@ served c =
                   v.channel_index-i-in-Channel.ensures.0) _
                   (w.moved-is ∙ v.moved-is ∙ v.at_control-moved.ensures) _ put
             ];
-            used = used-by _ _ _ _ w.used-is (w.call_length-used-in-Write.ensures ∙ sym n.0);
+            used = used;
             size = w.size-is ∙ w.record_length-size-in-Write.ensures ∙ sym n.1;
           }
       | in-Pass+else-loop-i-test w ↦
@@ -262,11 +284,9 @@ served c =
                 pass_carried b s at buf _ _
                 (all-advanced _ _ _ _ _ i.0 w.loop-i-test.false refl w.advance-later.result w.advance-later.ensures) _
                 w.line-line.ensures _ w.controller_wired-set.ensures _ w.b-is call _ a
-                c.loop-used.invariant.good.fits.four _ w.moved-is _ _ _ w.put_begun.ensures
+                c.loop-done.invariant.good.fits.four _ w.moved-is _ _ _ w.put_begun.ensures
                 (counts_end _ _ _ _ _ _ _ i.0 _ _ i.1 w.loop-i-test.false) (w.answers-is ∙ w.put_passed.ensures);
-            used =
-                used-by _ _ _ _ w.used-is
-                (w.call_length-used-in-Pass.ensures ∙ ap call-bytes w.tag-tag.ensures ∙ sym n.0);
+            used = used;
             size = w.size-is ∙ w.record_length-size-in-Pass.ensures ∙ ap record-bytes w.tag-tag.ensures ∙ sym n.1;
           }
       | in_default w ↦
@@ -275,13 +295,11 @@ served c =
           let d = other_is u k w.changes_of-c.result w.changes_of-c.ensures in
           record {
             carried =
-                other_carried b s at buf (rest c.args.list.now c.loop-used.used)
-                (length c.loop-used.answers - c.loop-used.written) c.in-Ok.step (other_at u k)
+                other_carried b s at buf (rest c.args.list.now c.loop-done.done.used)
+                (length c.loop-done.answers - c.loop-done.done.written) c.in-Ok.step (other_at u k)
                 w.changes_of-c.result w.changes_of-c.ensures _ w.b-is _ w.moved-is _
                 (w.answers-is ∙ w.put_other.ensures);
-            used =
-                used-by _ _ _ _ w.used-is
-                (w.call_length-used-in_default.ensures ∙ ap call-bytes w.tag_of-tag.ensures ∙ sym d.0);
+            used = used;
             size =
                 w.size-is ∙ w.record_length-size-in_default.ensures ∙ ap record-bytes w.tag_of-tag.ensures
                 ∙ sym d.1.0;
@@ -289,8 +307,8 @@ served c =
     ]
 
 -- source 3 is set, or stays: the board is that of the accepted call
-board_set : (c : goal.After-row_known-1) →
-    c.if-moved.b ≡ board_after (call_at (rest c.args.list.now c.loop-used.used)) c.loop-used.b
+board_set : (c : goal.After-struct_known-in-loop-done-3-1) →
+    c.if-moved.b ≡ board_after (call_at (rest c.args.list.now c.loop-done.done.used)) c.loop-done.b
 board_set c =
     let k = (served c).carried in
     elim c.if-moved.branch [
@@ -299,11 +317,11 @@ board_set c =
       | else-moved w ↦ w.b-is ∙ k.still w.if-moved.false
     ]
 
-pub loop-used-preserved : goal.loop-used-preserved
-loop-used-preserved c =
+pub loop-done-preserved : goal.loop-done-preserved
+loop-done-preserved c =
     let k = served c in
-    let u = at_step c.loop-used.invariant c.loop-used-test.true c.in-Ok.step c.in-Ok.ensures in
-    let bytes = rest_bytes c.args.list.now (rest c.args.list.now c.loop-used.used) c.loop-used.used (rest_is u)
+    let u = at_step c.loop-done.invariant c.loop-done-test.true c.in-Ok.step c.in-Ok.ensures in
+    let bytes = rest_bytes c.args.list.now (rest c.args.list.now c.loop-done.done.used) c.loop-done.done.used (rest_is u)
     (λ i. omega (arith, c.type_inv.list i)) in
-    goes_on _ _ _ _ _ _ _ _ c.loop-used.invariant c.loop-used-test.true (rest c.args.list.now c.loop-used.used)
-    (rest_is u) (accepted c) bytes _ (board_set c) _ k.carried.put _ _ k.used k.size
+    goes_on _ _ _ _ _ _ c.loop-done.invariant c.loop-done-test.true (rest c.args.list.now c.loop-done.done.used)
+    (rest_is u) (accepted c) bytes _ (board_set c) _ k.carried.put _ _ (counted c) k.size

@@ -9,7 +9,7 @@ returns c =
     let given = c.give.ensures in
     let whole =
     let a = c.args in
-    let r = c.run.ensures in
+    let r = c.run-run.ensures in
     results _ _ _
     (halves _ _ _
     (ran_of _ (started a.answers.now) _ _ _ c.fresh.ensures r.value r.answers_after)) in

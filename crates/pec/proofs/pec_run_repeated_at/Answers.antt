@@ -7,7 +7,7 @@ pub returns : goal.returns
 returns c =
     let given = c.give.ensures in
     let whole =
-    results _ _ _ (c.repeated_at.ensures.value, c.repeated_at.ensures.answers_after) in
+    results _ _ _ (c.repeated_at-run.ensures.value, c.repeated_at-run.ensures.answers_after) in
     record {
       value = given.value ∙ whole.0;
       answers_after = whole.1.0;

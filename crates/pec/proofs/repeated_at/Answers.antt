@@ -8,7 +8,8 @@ returns-in-Err c =
     let a = c.args in
     let made = c.fresh_at-fresh in
     at-refused a.rate a.first.now a.list.now a.times a.answers.now made.result made.ensures _ c.in-Err.is in
-    record { value = whole.0; answers_after = whole.1 }
+    let n = c.default.ensures in
+    record { value = rw (n.0, n.1.0, n.1.1) whole.0; answers_after = whole.1 }
 
 pub returns-in-Ok : goal.returns-in-Ok
 returns-in-Ok c =

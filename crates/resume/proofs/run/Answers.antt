@@ -11,7 +11,8 @@ use Rattle.resume.proofs.run.Goals as goal
 pub returns-in-Err : goal.returns-in-Err
 returns-in-Err c =
     let r = resumed-refused _ _ _ _ c.in-Err.ensures (some_refusal c.in-Err.refusal) in
-    record { value = r.0; image_after = r.1.0; answers_after = r.1.1 }
+    let n = c.default.ensures in
+    record { value = rw (n.0, n.1.0, n.1.1) r.0; image_after = r.1.0; answers_after = r.1.1 }
 
 pub returns : goal.returns
 returns c =

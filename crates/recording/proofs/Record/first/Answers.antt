@@ -15,6 +15,6 @@ returns c =
       c.header_at-header.ensures,
       simp take_rest at c.split_at.ensures.front,
       rw back at c.split_at-2.ensures.front,
-      c.split_at-2.ensures.back ∙ ap (drop h.results.written) back
-          ∙ rw add_assoc at (drop-drop h.results.written (12 + h.list) s),
+      c.split_at-2.ensures.back ∙ ap (drop h.results.done.written) back
+          ∙ rw add_assoc at (drop-drop h.results.done.written (12 + h.list) s),
     )
