@@ -14,7 +14,7 @@ ghost use Rattle.controller.specs.Controller.{output_of, controller_read, contro
 mod lent;
 
 // The number of a source. It is a type of its own, so that no channel number is passed for it.
-#[derive(Clone, Copy, PartialEq, Eq)]
+#[derive(Clone, Copy, PartialEq, Eq, PartialOrd, Ord)]
 pub struct SourceNumber(pub u8);
 
 // Whether a source is presented to the CPU, and which.
