@@ -9,7 +9,7 @@ ghost use Rattle.format.specs.Format.{value_bytes};
 ghost use Rattle.format.specs.Tags.{tag_number};
 ghost use Rattle.format.specs.CodeDecode.{decoded, decoded_of};
 ghost use Rattle.format.specs.CodeAnswers.{header_of, wides};
-ghost use Rattle.format.specs.declared.Answer.TheVariants.{Byte, Deadline, Skip, Pair};
+ghost use Rattle.format.specs.declared.Answer.TheVariants.{Byte, Deadline};
 ghost use Rattle.format.specs.declared.Undecoded.TheVariants.{Refused};
 
 mod calls;
@@ -17,9 +17,10 @@ pub mod tag;
 
 use crate::calls::Front;
 use crate::tag::Tag;
-use board::calls::{Call, DeadlineGiven};
+use board::calls::{Call, DeadlineGiven, Skip};
 use board::refusal::Refusal;
 use channel::Cycles;
+use controller::IrqOutput;
 use wide::fields;
 use wide::number::Wide;
 
@@ -35,8 +36,8 @@ pub enum Answer {
     Empty,
     Byte(u8),
     Deadline(Option<DeadlineGiven>),
-    Skip(u64, u8),
-    Pair(u8, u8),
+    Skip(Skip),
+    Output(IrqOutput),
 }
 
 // Why the first call of a list is not carried out, as far as only the list's bytes and the room for the answer decide
@@ -107,20 +108,20 @@ fn put_deadline(buf: &mut [u8], at: usize, given: Option<DeadlineGiven>)
     fields::put(buf, at + 17, word.0, 8);
 }
 
-fn put_skip(buf: &mut [u8], at: usize, passed: u64, line: u8)
+fn put_skip(buf: &mut [u8], at: usize, skip: Skip)
     requires { at + 9 ≤ length buf.old }
-    ensures { buf.new ≡ sets buf.old at (value_bytes (Skip passed line)) }
+    ensures { buf.new ≡ sets buf.old at (value_bytes (Answer.Skip skip)) }
 {
-    fields::put(buf, at, passed, 8);
-    fields::put(buf, at + 8, u64::from(line), 1);
+    fields::put(buf, at, skip.passed.0, 8);
+    fields::put(buf, at + 8, u64::from(skip.line), 1);
 }
 
-fn put_pair(buf: &mut [u8], at: usize, a: u8, b: u8)
+fn put_output(buf: &mut [u8], at: usize, output: IrqOutput)
     requires { at + 2 ≤ length buf.old }
-    ensures { buf.new ≡ sets buf.old at (value_bytes (Pair a b)) }
+    ensures { buf.new ≡ sets buf.old at (value_bytes (Answer.Output output)) }
 {
-    fields::put(buf, at, u64::from(a), 1);
-    fields::put(buf, at + 1, u64::from(b), 1);
+    fields::put(buf, at, u64::from(output.valid), 1);
+    fields::put(buf, at + 1, u64::from(output.number.0), 1);
 }
 
 // Writes four counts of 0 from index at on.
@@ -156,8 +157,8 @@ pub fn put_value(buf: &mut [u8], at: usize, answer: Answer)
         Answer::Empty => {}
         Answer::Byte(value) => put_byte(buf, at, value),
         Answer::Deadline(given) => put_deadline(buf, at, given),
-        Answer::Skip(passed, line) => put_skip(buf, at, passed, line),
-        Answer::Pair(a, b) => put_pair(buf, at, a, b),
+        Answer::Skip(skip) => put_skip(buf, at, skip),
+        Answer::Output(output) => put_output(buf, at, output),
     }
 }
 

@@ -21,7 +21,7 @@ use Rattle.board.specs.Board.{line, sound}
 use Rattle.board.specs.Calls.{effect_of, skip_length}
 use Rattle.board.proofs.Answers.{some_refusal}
 use Rattle.board.proofs.Soundness.{sound_facts}
-use Rattle.format.specs.declared.Answer.TheVariants.{Skip as SkipBytes}
+use Rattle.format.specs.declared.Answer.TheVariants.{Skip as SkipAnswer}
 use Rattle.format.specs.declared.Undecoded.{Undecoded}
 use Rattle.format.specs.declared.Undecoded.TheVariants.{Refused, NoRoom}
 use Rattle.format.specs.declared.tag.Tag.{Tag}
@@ -32,15 +32,11 @@ use Rattle.format.specs.CodeAnswers.{header_bytes, header_of}
 use Rattle.format.specs.CodeDecode.{Decoded, value_refusal, decoded, decoded_of, first_refusal}
 use Rattle.format.proofs.Frames.{sets_then}
 use Rattle.format.proofs.Decoding.{decoded-accepted, first-refusal, accepted-refusal}
+use Rattle.format.proofs.Stores.{byte_flag}
 use Rattle.steps.specs.declared.Step.{Step}
 use Rattle.steps.specs.declared.Step.TheVariants as T
 use Rattle.steps.specs.declared.Changes.{Changes}
 use Rattle.steps.specs.CodeSteps.{Makes, SkipIs, StepIs, ChangesAre, Changed, passed_put, other_put}
-
--- a flag as a byte
-byte_flag : (v : Bool) → bool_byte v ≡ flag_of v
-byte_flag true = refl
-byte_flag false = refl
 
 -- ---- arms of several cases, by the variants that other arms name
 
@@ -104,11 +100,15 @@ rest_is T.Output o b c h = absurd (o.output refl)
 
 -- a skip that stays: the level of source 3 is the line
 pub rest_changes : (b : Board) → sound b ≡ true → (step : Step) → Rest step → (level : Bool) →
-    level ≡ bit 3 b.controller.levels → (v : ℕ) → v ≡ bool_byte level →
-    Changed step b (record { host = b.clock.host; controller = b.controller; answer = SkipBytes 0 v })
+    level ≡ bit 3 b.controller.levels →
+    Changed step b (record {
+      host = b.clock.host;
+      controller = b.controller;
+      answer = SkipAnswer (record { passed = record { 0 = 0 }; line = level });
+    })
 unfolding value_bytes
-rest_changes b s step o level e v f =
-    let q : v ≡ flag_of (line b) = f ∙ byte_flag level ∙ ap flag_of (e ∙ (sound_facts b s).level) in
+rest_changes b s step o level e =
+    let q : level ≡ line b = e ∙ (sound_facts b s).level in
     rest_is step o b _ (λ n. rw (n, q) (refl, refl))
 
 -- ---- stores: m is the buffer with the header, r the buffer with the value behind it

@@ -17,7 +17,7 @@ ghost use Rattle.steps.specs.CodeSteps.{StepIs, SkipIs, Changed, other_call, cou
 ghost use Rattle.steps.specs.CodeSteps.{begun_put, count_put, passed_put, other_put};
 
 use board::Board;
-use board::calls::Call;
+use board::calls::{Call, Skip};
 use board::refusal::Refusal;
 use channel::Cycles;
 use clock::HostTime;
@@ -155,14 +155,11 @@ pub fn changes_of(board: Board, step: Step) -> Changes
             controller: controller::written(controller, address, byte),
             answer: Answer::Empty,
         },
-        Step::Output => {
-            let o = controller::output_of(controller);
-            Changes {
-                host,
-                controller,
-                answer: Answer::Pair(u8::from(o.valid), o.number.0),
-            }
-        }
+        Step::Output => Changes {
+            host,
+            controller,
+            answer: Answer::Output(controller::output_of(controller)),
+        },
         Step::Deadline => Changes {
             host,
             controller,
@@ -171,10 +168,10 @@ pub fn changes_of(board: Board, step: Step) -> Changes
         _ => Changes {
             host,
             controller,
-            answer: Answer::Skip(
-                0,
-                u8::from(controller::level_of(controller, Board::LINE_SOURCE)),
-            ),
+            answer: Answer::Skip(Skip {
+                passed: Cycles(0),
+                line: controller::level_of(controller, Board::LINE_SOURCE),
+            }),
         },
     }
 }

@@ -23,6 +23,6 @@ pub put_skip-requires : goal.put_skip-requires
 unfolding members_bytes value_bytes be
 put_skip-requires c = room _ _ c.in-Skip.is c.requires
 
-pub put_pair-requires : goal.put_pair-requires
+pub put_output-requires : goal.put_output-requires
 unfolding members_bytes value_bytes be
-put_pair-requires c = room _ _ c.in-Pair.is c.requires
+put_output-requires c = room _ _ c.in-Output.is c.requires

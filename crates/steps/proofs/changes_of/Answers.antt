@@ -19,4 +19,4 @@ returns-in_default c = rest_changes _ c.requires c.args.step
       read = c.in_default.not-ControllerRead;
       write = c.in_default.not-ControllerWrite;
       output = c.in_default.not-Output;
-    }) _ c.level_of.ensures _ c.from-in_default.ensures
+    }) _ c.level_of.ensures
