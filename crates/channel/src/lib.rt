@@ -144,7 +144,7 @@ impl HardwareTimer {
     pub fn asserted(self) -> bool
         ensures { result ≡ line_of self }
     {
-        self.pending & self.irq_enabled()
+        self.pending && self.irq_enabled()
     }
 
     // Whether the channel is sound. The contract also says that every field is within its width, which the deadline's
