@@ -19,13 +19,12 @@ pub fn all_sound(timers: &[HardwareTimer; 4]) -> bool
     all
 }
 
-// By index and of an array by value, which is faster in a run than over borrowed channels.
-pub fn any_asserted(timers: [HardwareTimer; 4]) -> bool
-    ensures { result ≡ any_line timers }
+pub fn any_asserted(timers: &[HardwareTimer; 4]) -> bool
+    ensures { result ≡ any_line timers.now }
 {
     let mut any = false;
-    for i in 0..Board::CHANNELS {
-        any |= timers[i].asserted();
+    for t in timers {
+        any |= t.asserted();
     }
     any
 }

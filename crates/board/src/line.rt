@@ -13,7 +13,7 @@ impl Board {
     pub fn line(self) -> bool
         ensures { result ≡ line self }
     {
-        any_asserted(self.timers) | self.clock.line()
+        any_asserted(&self.timers) | self.clock.line()
     }
 
     // The controller with source 3 set to `line`.

@@ -57,7 +57,7 @@ impl HardwareTimer {
     pub fn runs(self, selected: bool) -> bool
         ensures { result ≡ runs selected self }
     {
-        self.enabled() & selected
+        self.enabled() && selected
     }
 
     // The channel after the cycles, before `advance_cycles` rebuilds it field by field.

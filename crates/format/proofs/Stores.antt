@@ -1,25 +1,17 @@
 -- Laws of stores into a list in parts: a run of stores over another, and one in front of another; numbers of sixteen
--- bytes, one of them replaced; a flag as a byte. Assumes nothing.
+-- bytes, one of them replaced. Assumes nothing.
 use mathlib.Core.Path.{◌≡◌, refl, sym, ap, ◌∙◌}
-use mathlib.Core.Bool.{Bool, true, false}
 use mathlib.Core.List.{List, [], ◌∷◌, ◌++◌, append-nil}
 use Prim.Native.Nat.{ℕ, zero, suc, ◌+◌, ◌*◌, ◌^◌, ◌<◌}
 use native.Mathlib.Nat.{add-zero, add-suc, suc-add}
 use native.Mathlib.Omega.{arith}
 use lib.ListN.{length, get_or, set, length-append}
 use lib.Seq.{sets, set-set, set_comm, set-get_or}
-use mir.Val.{bool_byte}
 use Rattle.wide.specs.declared.number.Wide.{Wide}
-use Rattle.wide.specs.Bits.{flag_of}
 use Rattle.wide.specs.Number.{value_of}
 use Rattle.wide.specs.Fields.{be}
 use Rattle.wide.proofs.BigEndian.{length-be, be_two_words, sets-append, sets_two_words}
 use Rattle.format.specs.CodeAnswers.{wides}
-
--- a flag as a byte
-pub byte_flag : (v : Bool) → bool_byte v ≡ flag_of v
-byte_flag true = refl
-byte_flag false = refl
 
 module _ {A : Type 0} where
   -- a store, and a run of stores behind it, in either order

@@ -9,7 +9,6 @@ ghost use Rattle.format.specs.Format.{value_bytes};
 ghost use Rattle.format.specs.Tags.{tag_number};
 ghost use Rattle.format.specs.CodeDecode.{decoded, decoded_of};
 ghost use Rattle.format.specs.CodeAnswers.{header_of, wides};
-ghost use Rattle.format.specs.declared.Answer.TheVariants.{Byte, Deadline};
 ghost use Rattle.format.specs.declared.Undecoded.TheVariants.{Refused};
 
 mod calls;
@@ -87,14 +86,14 @@ pub fn decode(rest: &[u8], room: usize) -> Result<Call, Undecoded>
 #[tactic(auto, unfolding(crate::specs::Format::value_bytes, crate::specs::Format::members_bytes))]
 fn put_byte(buf: &mut [u8], at: usize, value: u8)
     requires { at + 1 ≤ length buf.old }
-    ensures { buf.new ≡ sets buf.old at (value_bytes (Byte value)) }
+    ensures { buf.new ≡ sets buf.old at (value_bytes (Answer.Byte value)) }
 {
     fields::put(buf, at, u64::from(value), 1);
 }
 
 fn put_deadline(buf: &mut [u8], at: usize, given: Option<DeadlineGiven>)
     requires { at + 25 ≤ length buf.old }
-    ensures { buf.new ≡ sets buf.old at (value_bytes (Deadline given)) }
+    ensures { buf.new ≡ sets buf.old at (value_bytes (Answer.Deadline given)) }
 {
     let zero = Wide::from(0);
     let deadline = given.unwrap_or(DeadlineGiven {

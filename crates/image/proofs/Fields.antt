@@ -4,7 +4,6 @@ use native.Mathlib.Numerals.{add-one}
 use Rattle.std.proofs.lemmas.List.{length-take-le, take_all}
 use native.Mathlib.Nat.{zero-add}
 use native.Mathlib.Omega.{arith}
-use mathlib.Core.Bool.{Bool, true, false}
 use mathlib.Core.Path.{◌≡◌, refl, sym, ap, ap₂, ◌∙◌}
 use mathlib.Core.List.{List, [], ◌∷◌, ◌++◌, map, append_assoc, append-nil}
 use lib.ListN.{length, get_or, take, drop, length-append, length-map, length-drop, drop_of_length-le}
@@ -21,7 +20,7 @@ use Rattle.board.specs.declared.CountLatch.{CountLatch}
 use Rattle.board.specs.declared.Board.{Board}
 use Rattle.board.specs.Board.{held_value}
 use Rattle.board.proofs.Loops.{by_four}
-use Rattle.wide.specs.Bits.{flag_of}
+use Rattle.wide.proofs.Bits.{byte_flag}
 use Rattle.image.specs.Image.{
   Field,
   widths_of,
@@ -225,11 +224,6 @@ none = record { high = None }
 -- a latch's held flag and value, as the code finds them
 abbrev found : Latch → List ℕ
 found l = bool_byte (is_some l) ∷ unwrap_or l 0 ∷ []
-
--- a flag as the byte that the code makes of it
-pub byte_flag : (v : Bool) → bool_byte v ≡ flag_of v
-byte_flag true = refl
-byte_flag false = refl
 
 value-is : (l : Latch) → unwrap_or l 0 ≡ held_value l
 value-is None = refl

@@ -45,7 +45,8 @@ module _ (list : List ℕ) (board : Board) (before after : List ℕ) (e : Ended)
 
     -- they are listed
     pub listed_is :
-        listing_of (take e.done.written after) e.done.calls (refusal_code e.end) e.done.used ≡ listed (run_of fresh_board list room)
+        listing_of (take e.done.written after) e.done.calls (refusal_code e.end) e.done.used
+        ≡ listed (run_of fresh_board list room)
     unfolding listed over
     listed_is =
         let a = (run_of board list room).answers in

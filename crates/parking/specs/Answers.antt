@@ -1,5 +1,5 @@
--- What a writing, a reading and a move answer, as the code gives it: by these the answer is that of the rules. Its numbers
--- are those of S-1 and S-8, 0 for no refusal and for no byte written.
+-- What a writing, a reading and a move answer, as the code gives it: by these the answer is that of the rules, 0 for no
+-- refusal and for no byte written.
 use Rattle.std.specs.Prelude.{ℕ, Result, Ok, Err}
 use Rattle.board.specs.declared.Board.{Board}
 use Rattle.board.specs.declared.refusal.Refusal.{Refusal}

@@ -1,17 +1,11 @@
 -- The bits of pending channels, those below i in a word and those behind it still to come. Assumes nothing.
 use Prim.Native.Nat.{ℕ, ◌+◌, ◌*◌, ◌%◌, ◌^◌, ◌≤◌, ◌<◌}
-use mathlib.Core.Path.{◌≡◌, refl, ◌∙◌}
+use mathlib.Core.Path.{◌≡◌, ◌∙◌}
 use mathlib.Core.Bool.{Bool, true, false}
 use native.Mathlib.Nat.{pow-suc, pow-le-pow_right}
 use native.Mathlib.Numerals.{add-one}
 use native.Mathlib.Omega.{arith}
-use mir.Val.{bool_byte}
 use Rattle.wide.specs.Bits.{flag_of}
-
--- a flag as the code makes it a number
-pub byte_flag : (v : Bool) → bool_byte v ≡ flag_of v
-byte_flag true = refl
-byte_flag false = refl
 
 -- p is the value of the bit i, one of 1, 2, 4 and 8
 module _ (v : Bool) (word p : ℕ) (small : p ≤ 8) where

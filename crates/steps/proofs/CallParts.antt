@@ -32,7 +32,7 @@ use Rattle.format.specs.CodeAnswers.{header_bytes, header_of}
 use Rattle.format.specs.CodeDecode.{Decoded, value_refusal, decoded, decoded_of, first_refusal}
 use Rattle.format.proofs.Frames.{sets_then}
 use Rattle.format.proofs.Decoding.{decoded-accepted, first-refusal, accepted-refusal}
-use Rattle.format.proofs.Stores.{byte_flag}
+use Rattle.wide.proofs.Bits.{byte_flag}
 use Rattle.steps.specs.declared.Step.{Step}
 use Rattle.steps.specs.declared.Step.TheVariants as T
 use Rattle.steps.specs.declared.Changes.{Changes}

@@ -4,7 +4,7 @@ use Rattle.wide.specs.Bits.{flag_of}
 use Rattle.wide.specs.Fields.{be}
 use Rattle.format.specs.Format.{members_bytes, value_bytes}
 use Rattle.format.proofs.Frames.{sets_be}
-use Rattle.format.proofs.Stores.{byte_flag}
+use Rattle.wide.proofs.Bits.{byte_flag}
 use Rattle.format.proofs.put_output.Goals as goal
 
 pub returns : goal.returns

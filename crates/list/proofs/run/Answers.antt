@@ -178,7 +178,8 @@ put_other-requires c =
 
 -- the call is accepted
 accepted : (c : goal.After-struct_known-in-loop-done-3-1) →
-    refusal_at c.loop-done.b (rest c.args.list.now c.loop-done.done.used) (length c.loop-done.answers - c.loop-done.done.written)
+    refusal_at c.loop-done.b (rest c.args.list.now c.loop-done.done.used)
+    (length c.loop-done.answers - c.loop-done.done.written)
     ≡ 0
 accepted c =
     let u = at_step c.loop-done.invariant c.loop-done-test.true c.in-Ok.step c.in-Ok.ensures in
@@ -222,8 +223,8 @@ counted c =
 
 -- the board, the buffer and the numbers are those of the call
 served : (c : goal.After-struct_known-in-loop-done-3-1) →
-    Served (call_at (rest c.args.list.now c.loop-done.done.used)) c.loop-done.b c.loop-done.done.used c.loop-done.done.written
-    c.loop-done.answers c.match-step.b c.match-step.moved c.match-step.done.used c.match-step.size c.match-step.answers
+    Served (call_at (rest c.args.list.now c.loop-done.done.used)) c.loop-done.b c.loop-done.done.used
+    c.loop-done.done.written c.loop-done.answers c.match-step.b c.match-step.moved c.match-step.done.used c.match-step.size c.match-step.answers
 served c =
     let u = at_step c.loop-done.invariant c.loop-done-test.true c.in-Ok.step c.in-Ok.ensures in
     let b = c.loop-done.b in
@@ -321,7 +322,8 @@ pub loop-done-preserved : goal.loop-done-preserved
 loop-done-preserved c =
     let k = served c in
     let u = at_step c.loop-done.invariant c.loop-done-test.true c.in-Ok.step c.in-Ok.ensures in
-    let bytes = rest_bytes c.args.list.now (rest c.args.list.now c.loop-done.done.used) c.loop-done.done.used (rest_is u)
+    let bytes =
+    rest_bytes c.args.list.now (rest c.args.list.now c.loop-done.done.used) c.loop-done.done.used (rest_is u)
     (λ i. omega (arith, c.type_inv.list i)) in
     goes_on _ _ _ _ _ _ c.loop-done.invariant c.loop-done-test.true (rest c.args.list.now c.loop-done.done.used)
     (rest_is u) (accepted c) bytes _ (board_set c) _ k.carried.put _ _ (counted c) k.size

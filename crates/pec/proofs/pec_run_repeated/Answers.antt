@@ -8,7 +8,8 @@ returns c =
     let given = c.give.ensures in
     let whole =
     results _ _ _
-    (started_same _ _ _ _ _ _ _ _ c.fresh.ensures (c.repeated-run.ensures.value, c.repeated-run.ensures.answers_after)) in
+    (started_same _ _ _ _ _ _ _ _ c.fresh.ensures
+    (c.repeated-run.ensures.value, c.repeated-run.ensures.answers_after)) in
     record {
       value = given.value ∙ whole.0;
       answers_after = whole.1.0;

@@ -2,7 +2,7 @@
 use mathlib.Core.Path.{ap, ◌∙◌}
 use mathlib.Core.Bool.{Bool}
 use Rattle.wide.specs.Bits.{flag_of}
-use Rattle.image.proofs.Fields.{byte_flag}
+use Rattle.wide.proofs.Bits.{byte_flag}
 use Rattle.preview.proofs.Bytes.{byte_more}
 use Rattle.preview.proofs.put_reached.Goals as goal
 

@@ -7,8 +7,8 @@ use Rattle.board.proofs.channels.all_sound.Goals as goal
 
 pub loop-t-preserved : goal.loop-t-preserved
 loop-t-preserved c =
-    fold-goes (λ _ h. sound_timer h) ◌&&◌ true and_assoc c.args.timers.now fresh_timer c.loop-t.t-index _ _ (search rules)
-    c.sound-all.ensures.0 c.loop-t.invariant
+    fold-goes (λ _ h. sound_timer h) ◌&&◌ true and_assoc c.args.timers.now fresh_timer c.loop-t.t-index _ _
+    (search rules) c.sound-all.ensures.0 c.loop-t.invariant
 
 pub returns : goal.returns
 returns c =

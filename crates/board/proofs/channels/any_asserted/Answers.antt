@@ -5,11 +5,11 @@ use Rattle.channel.specs.Channel.{fresh_timer, line_of}
 use Rattle.board.proofs.Loops.{fold-goes, fold-ends}
 use Rattle.board.proofs.channels.any_asserted.Goals as goal
 
-pub loop-i-preserved : goal.loop-i-preserved
-loop-i-preserved c =
-    fold-goes (λ _ h. line_of h) ◌||◌ false or_assoc c.args.timers fresh_timer c.loop-i.i _ _ (search rules)
-    c.asserted-any.ensures c.loop-i.invariant
+pub loop-t-preserved : goal.loop-t-preserved
+loop-t-preserved c =
+    fold-goes (λ _ h. line_of h) ◌||◌ false or_assoc c.args.timers.now fresh_timer c.loop-t.t-index _ _ (search rules)
+    c.asserted-any.ensures c.loop-t.invariant
 
 pub returns : goal.returns
 returns c =
-    fold-ends (λ _ h. line_of h) ◌||◌ false or-false c.args.timers c.loop-i.i _ (search rules) c.loop-i.invariant
+    fold-ends (λ _ h. line_of h) ◌||◌ false or-false c.args.timers.now c.loop-t.t-index _ (search rules) c.loop-t.invariant

@@ -4,5 +4,5 @@ use Rattle.channel.specs.Channel.{line_of}
 use Rattle.board.proofs.Loops.{Joined}
 use Rattle.board.proofs.channels.any_asserted.Given as goal
 
-abbrev pub invariant-loop-i : goal.invariant-loop-i
-invariant-loop-i l = Joined (λ _ h. line_of h) ◌||◌ false l.timers l.i l.any
+abbrev pub invariant-loop-t : goal.invariant-loop-t
+invariant-loop-t l = Joined (λ _ h. line_of h) ◌||◌ false l.timers l.t-index l.any

@@ -6,7 +6,8 @@ use borrow.Author.Rules.{rules}
 use Rattle.wide.specs.Bits.{flag_of}
 use Rattle.channel.specs.Channel.{fresh_timer}
 use Rattle.board.proofs.Loops.{fold-next, fold-past}
-use Rattle.regmap.proofs.Pending.{byte_flag, pending-goes, pending-stays}
+use Rattle.wide.proofs.Bits.{byte_flag}
+use Rattle.regmap.proofs.Pending.{pending-goes, pending-stays}
 use Rattle.regmap.proofs.words.timer_pending.Goals as goal
 
 pub loop-i-preserved : goal.loop-i-preserved
