@@ -133,14 +133,14 @@ pub fn run(board: Board, list: &[u8], answers: &mut [u8]) -> Outcome
                 done.used += tag.call_length();
                 size = tag.record_length();
             }
-            _ => {
-                let c = steps::changes_of(b, step);
+            Step::Other(other) => {
+                let c = steps::changes_of(b, other);
                 b.clock.host.seconds = c.host.seconds;
                 b.clock.host.nanoseconds = c.host.nanoseconds;
                 let after = c.controller;
                 b.controller = after;
-                steps::put_other(answers, done.written, step, c);
-                let tag = steps::tag_of(step);
+                steps::put_other(answers, done.written, other, c);
+                let tag = other.tag();
                 done.used += tag.call_length();
                 size = tag.record_length();
             }
