@@ -219,7 +219,8 @@ counted c =
 -- the board, the buffer and the numbers are those of the call
 served : (c : goal.After-struct_known-in-loop-done-3-1) →
     Served (call_at (rest c.args.list.now c.loop-done.done.used)) c.loop-done.b c.loop-done.done.used
-    c.loop-done.done.written c.loop-done.answers c.match-step.b c.match-step.moved c.match-step.done.used c.match-step.size c.match-step.answers
+    c.loop-done.done.written c.loop-done.answers c.match-step.b c.match-step.moved c.match-step.done.used
+    c.match-step.size c.match-step.answers
 served c =
     let u = at_step c.loop-done.invariant c.loop-done-test.true c.in-Ok.step c.in-Ok.ensures in
     let b = c.loop-done.b in

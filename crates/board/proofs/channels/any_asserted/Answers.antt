@@ -12,4 +12,5 @@ loop-t-preserved c =
 
 pub returns : goal.returns
 returns c =
-    fold-ends (λ _ h. line_of h) ◌||◌ false or-false c.args.timers.now c.loop-t.t-index _ (search rules) c.loop-t.invariant
+    fold-ends (λ _ h. line_of h) ◌||◌ false or-false c.args.timers.now c.loop-t.t-index _ (search rules)
+    c.loop-t.invariant
