@@ -15,15 +15,13 @@ use Rattle.board.specs.declared.calls.Call.{Call}
 use Rattle.format.specs.Format.{value_bytes}
 use Rattle.format.specs.Codec.{call_at, call_length, record_length, refusal_at}
 use Rattle.format.proofs.Frames.{part_rest}
-use Rattle.steps.specs.declared.Other.{Other}
 use Rattle.steps.specs.declared.Step.{Step}
-use Rattle.steps.specs.declared.Step.TheVariants as T
 use Rattle.steps.specs.declared.Changes.{Changes}
 use Rattle.steps.specs.CodeSteps.{StepIs, Changed, other_call}
 use Rattle.list.specs.declared.Counts.{Counts}
 use Rattle.list.specs.Run.{Outcome}
 use Rattle.list.proofs.Runs.{Running, state_of, written-inside}
-use Rattle.steps.proofs.Calls.{OtherDoes, other_does, other_size}
+use Rattle.steps.proofs.Calls.{Other, OtherDoes, other_does, other_size}
 
 -- what is left of the list, as the code takes it
 abbrev pub rest : List ℕ → ℕ → List ℕ
@@ -61,19 +59,17 @@ module _ {list answers₀ : List ℕ} {s₀ : Outcome} {answers : List ℕ} {b :
     pub answer-inside : d.written + record_length (call_at (rest list d.used)) ≤ length answers
     answer-inside = written-inside _ _ _ _ _ _ u.running u.more _ rest_is z
 
-  -- one of the calls that change at most host time or the controller
-  module _ (other : Other) (e : step ≡ T.Other other) where
-    pub other_at : OtherDoes b board_sound d.written answers (rest list d.used) (length answers - d.written) other
-    other_at =
-        other_does b board_sound d.written answers (rest list d.used) (length answers - d.written) other
-        (accepts (T.Other other) e)
+  -- one of the calls without an arm of their own
+  pub other_at : Other step →
+      OtherDoes b board_sound d.written answers (rest list d.used) (length answers - d.written) step
+  other_at k = other_does b board_sound d.written answers (rest list d.used) (length answers - d.written) step k u.is
 
-    -- its numbers: of the call, of its record, and of the bytes behind the header
-    pub other_is : (c : Changes) → Changed other b c →
-        (call_length (call_at (rest list d.used)) ≡ call_length (other_call other))
-        × ((record_length (call_at (rest list d.used)) ≡ record_length (other_call other))
-        × (3 + length (value_bytes c.answer) ≡ record_length (other_call other)))
-    other_is c h =
-        let o = other_at.1 in
-        let n = other_size b board_sound d.written answers (other_call other) _ _ (o.1.1 c h).1 in
-        (ap (λ (x : Call). call_length x) o.0, (ap (λ (x : Call). record_length x) o.0, n))
+  -- its numbers: of the call, of its record, and of the bytes behind the header
+  pub other_is : Other step → (c : Changes) → Changed step b c →
+      (call_length (call_at (rest list d.used)) ≡ call_length (other_call step))
+      × ((record_length (call_at (rest list d.used)) ≡ record_length (other_call step))
+      × (3 + length (value_bytes c.answer) ≡ record_length (other_call step)))
+  other_is k c h =
+      let o = (other_at k).1 in
+      let n = other_size b board_sound d.written answers (other_call step) _ _ (o.1.1 c h).1 in
+      (ap (λ (x : Call). call_length x) o.0, (ap (λ (x : Call). record_length x) o.0, n))

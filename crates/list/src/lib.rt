@@ -133,14 +133,14 @@ pub fn run(board: Board, list: &[u8], answers: &mut [u8]) -> Outcome
                 done.used += tag.call_length();
                 size = tag.record_length();
             }
-            Step::Other(other) => {
-                let c = steps::changes_of(b, other);
+            _ => {
+                let c = steps::changes_of(b, step);
                 b.clock.host.seconds = c.host.seconds;
                 b.clock.host.nanoseconds = c.host.nanoseconds;
                 let after = c.controller;
                 b.controller = after;
-                steps::put_other(answers, done.written, other, c);
-                let tag = other.tag();
+                steps::put_other(answers, done.written, step, c);
+                let tag = steps::tag_of(step);
                 done.used += tag.call_length();
                 size = tag.record_length();
             }

@@ -3,6 +3,7 @@
 use Prim.Native.Nat.{ℕ, ◌+◌}
 use mathlib.Core.Path.{◌≡◌, refl, sym, ap, ◌∙◌}
 use mathlib.Core.Bool.{Bool, true, false}
+use mathlib.Core.Option.{none}
 use Rattle.std.specs.Prelude.{Result, Ok, Err}
 use mathlib.Core.List.{List, [], ◌∷◌, ◌++◌}
 use lib.ListN.{length-append}
@@ -17,7 +18,7 @@ use Rattle.board.specs.declared.calls.Call.{Call}
 use Rattle.board.specs.declared.calls.Call.TheVariants.{Skip}
 use Rattle.board.specs.declared.refusal.Refusal.{Refusal}
 use Rattle.board.specs.Board.{line, sound}
-use Rattle.board.specs.Calls.{effect_of}
+use Rattle.board.specs.Calls.{effect_of, skip_length}
 use Rattle.board.proofs.Answers.{some_refusal}
 use Rattle.board.proofs.Soundness.{sound_facts}
 use Rattle.format.specs.declared.Answer.TheVariants.{Skip as SkipAnswer}
@@ -32,9 +33,21 @@ use Rattle.format.specs.CodeDecode.{Decoded, value_refusal, decoded, decoded_of,
 use Rattle.format.proofs.Frames.{sets_then}
 use Rattle.format.proofs.Decoding.{decoded-accepted, first-refusal, accepted-refusal}
 use Rattle.wide.proofs.Bits.{byte_flag}
-use Rattle.steps.specs.declared.Other.TheVariants as O
 use Rattle.steps.specs.declared.Step.{Step}
-use Rattle.steps.specs.CodeSteps.{Makes, SkipIs, StepIs, Changed, passed_put, other_put}
+use Rattle.steps.specs.declared.Step.TheVariants as T
+use Rattle.steps.specs.declared.Changes.{Changes}
+use Rattle.steps.specs.CodeSteps.{Makes, SkipIs, StepIs, ChangesAre, Changed, passed_put, other_put}
+
+-- ---- arms of several cases, by the variants that other arms name
+
+-- the steps that no arm names: a skip that stays, and those that are not of such a call
+pub record Rest (step : Step) : Type 0 where
+  pub host : (nanoseconds seconds : ℕ) → step ≡ T.HostTime nanoseconds seconds → ⊥
+  pub deadline : step ≡ T.Deadline → ⊥
+  pub source : (number level : ℕ) → step ≡ T.Source number level → ⊥
+  pub read : (address : ℕ) → step ≡ T.ControllerRead address → ⊥
+  pub write : (byte address : ℕ) → step ≡ T.ControllerWrite byte address → ⊥
+  pub output : step ≡ T.Output → ⊥
 
 -- ---- the step
 
@@ -71,17 +84,32 @@ module _ (b : Board) (l : List ℕ) (room : ℕ) where
 
 -- ---- the calls that change host time or the controller at most
 
+-- the rest has the changes of a skip that stays
+rest_is : (step : Step) → Rest step → (b : Board) (c : Changes) → (skip_length b ≡ none → ChangesAre Skip b c) →
+    Changed step b c
+rest_is (T.Read offset) o b c h = h
+rest_is (T.Write byte offset) o b c h = h
+rest_is (T.Pass passing n) o b c h = h
+rest_is (T.HostTime nanoseconds seconds) o b c h = absurd (o.host nanoseconds seconds refl)
+rest_is T.Stay o b c h = h
+rest_is T.Deadline o b c h = absurd (o.deadline refl)
+rest_is (T.Source number level) o b c h = absurd (o.source number level refl)
+rest_is (T.ControllerRead address) o b c h = absurd (o.read address refl)
+rest_is (T.ControllerWrite byte address) o b c h = absurd (o.write byte address refl)
+rest_is T.Output o b c h = absurd (o.output refl)
+
 -- a skip that stays: the level of source 3 is the line
-pub stay_changes : (b : Board) → sound b ≡ true → (level : Bool) → level ≡ bit 3 b.controller.levels →
-    Changed O.Stay b (record {
+pub rest_changes : (b : Board) → sound b ≡ true → (step : Step) → Rest step → (level : Bool) →
+    level ≡ bit 3 b.controller.levels →
+    Changed step b (record {
       host = b.clock.host;
       controller = b.controller;
       answer = SkipAnswer (record { passed = record { 0 = 0 }; line = level });
     })
 unfolding value_bytes
-stay_changes b s level e n =
+rest_changes b s step o level e =
     let q : level ≡ line b = e ∙ (sound_facts b s).level in
-    rw (n, q) (refl, refl)
+    rest_is step o b _ (λ n. rw (n, q) (refl, refl))
 
 -- ---- stores: m is the buffer with the header, r the buffer with the value behind it
 

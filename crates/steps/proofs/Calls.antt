@@ -13,6 +13,7 @@ use lib.Seq.{sets}
 use lib.Dec.{eqb}
 use Rattle.wide.specs.Bits.{bit, flag_of}
 use Rattle.wide.proofs.Choices.{choose}
+use Rattle.channel.specs.declared.Cycles.{Cycles}
 use Rattle.channel.specs.Registers.{byte_written}
 use Rattle.channel.specs.Matches.{matches_of}
 use Rattle.controller.specs.declared.IrqController.{IrqController}
@@ -44,14 +45,25 @@ use Rattle.format.specs.CodeAnswers.{header_bytes}
 use Rattle.format.specs.Codec.{tag_of, call_length, answer_record, record_length, call_at, refusal_at}
 use Rattle.format.proofs.Frames.{answer-length}
 use Rattle.format.proofs.Decoding.{clear}
-use Rattle.steps.specs.declared.Other.{Other}
-use Rattle.steps.specs.declared.Other.TheVariants as O
+use Rattle.steps.specs.declared.Passing.{Passing}
+use Rattle.steps.specs.declared.Step.{Step}
 use Rattle.steps.specs.declared.Step.TheVariants as T
 use Rattle.steps.specs.declared.Changes.{Changes}
 use Rattle.steps.specs.CodeSteps.{Reads, Writes, Passes, StepIs, other_call, with_changes, ChangesAre, Changed}
 use Rattle.steps.specs.CodeSteps.{pass_call, begun_put, passed_put, other_put}
 use Rattle.steps.proofs.Advances.{begun_length, no_counts}
 use Rattle.steps.proofs.Records.{counts_put, counts_over, other_record, advance-record, skip_record}
+
+-- the steps without an arm of their own
+pub record Other (step : Step) : Type 0 where
+  pub read : (offset : ℕ) → step ≡ T.Read offset → ⊥
+  pub write : (byte offset : ℕ) → step ≡ T.Write byte offset → ⊥
+  pub pass : (passing : Passing) (cycles : Cycles) → step ≡ T.Pass passing cycles → ⊥
+
+pub other_of : {step : Step} → ((offset : ℕ) → step ≡ T.Read offset → ⊥) →
+    ((byte offset : ℕ) → step ≡ T.Write byte offset → ⊥) →
+    ((passing : Passing) (cycles : Cycles) → step ≡ T.Pass passing cycles → ⊥) → Other step
+other_of r w p = record { read = r; write = w; pass = p }
 
 -- what a way of the code leaves of a call: the board y, on which source 3 is to be set where `moved` says so, and the
 -- buffer buf', with the call's record from index at on
@@ -203,22 +215,25 @@ module _ (b : Board) (s : sound b ≡ true) (at : ℕ) (buf : List ℕ) where
       P : IrqController → Type 0
       P d = d.levels ≡ q.levels
 
-  -- such a call is accepted, leaves source 3 where it is, and has its changes
-  abbrev pub OtherDoes : List ℕ → ℕ → Other → Type 0
-  OtherDoes l room other =
+  -- such a step: its call is accepted, leaves source 3 where it is, and has the step's changes
+  abbrev pub OtherDoes : List ℕ → ℕ → Step → Type 0
+  OtherDoes l room step =
       (refusal_at b l room ≡ 0)
-      × ((call_at l ≡ other_call other)
-      × ((wired (effect_of (other_call other) b).board ≡ (effect_of (other_call other) b).board)
-      × ((c : Changes) → Changed other b c → ChangesAre (other_call other) b c)))
+      × ((call_at l ≡ other_call step)
+      × ((wired (effect_of (other_call step) b).board ≡ (effect_of (other_call step) b).board)
+      × ((c : Changes) → Changed step b c → ChangesAre (other_call step) b c)))
 
-  pub other_does : (l : List ℕ) (room : ℕ) (other : Other) → StepIs b l room (Ok (T.Other other)) →
-      OtherDoes l room other
+  pub other_does : (l : List ℕ) (room : ℕ) (step : Step) → Other step → StepIs b l room (Ok step) →
+      OtherDoes l room step
   unfolding line
-  other_does l room (O.HostTime nanoseconds seconds) h =
+  other_does l room (T.Read offset) k h = absurd (k.read offset refl)
+  other_does l room (T.Write byte offset) k h = absurd (k.write byte offset refl)
+  other_does l room (T.Pass passing c) k h = absurd (k.pass passing c refl)
+  other_does l room (T.HostTime nanoseconds seconds) k h =
       (h.0, (h.1, (level_still _ refl refl, λ c x. x)))
-  other_does l room O.Stay h = (h.0, (h.1.0, (rw h.1.1 (wired_sound b s), λ c x. x h.1.1)))
-  other_does l room O.Deadline h = (h.0, (h.1, (wired_sound b s, λ c x. x)))
-  other_does l room (O.Source number level) h =
+  other_does l room T.Stay k h = (h.0, (h.1.0, (rw h.1.1 (wired_sound b s), λ c x. x h.1.1)))
+  other_does l room T.Deadline k h = (h.0, (h.1, (wired_sound b s, λ c x. x)))
+  other_does l room (T.Source number level) k h =
       let z = rw h.1 at (clear b l room h.0).own in (
         h.0,
         (
@@ -230,28 +245,28 @@ module _ (b : Board) (s : sound b ≡ true) (at : ℕ) (buf : List ℕ) where
           ),
         ),
       )
-  other_does l room (O.ControllerRead address) h = (h.0, (h.1, (wired_sound b s, λ c x. x)))
-  other_does l room (O.ControllerWrite byte address) h =
+  other_does l room (T.ControllerRead address) k h = (h.0, (h.1, (wired_sound b s, λ c x. x)))
+  other_does l room (T.ControllerWrite byte address) k h =
       (h.0, (h.1, (level_still _ refl (ap (bit 3) (written_levels b.controller address byte)), λ c x. x)))
-  other_does l room O.Output h = (h.0, (h.1, (wired_sound b s, λ c x. x)))
+  other_does l room T.Output k h = (h.0, (h.1, (wired_sound b s, λ c x. x)))
 
   -- the bytes of the answer are as many as the record has
   pub other_size : (call : Call) (value ms : List ℕ) → value ≡ answer_bytes (tag_of call) ms →
       3 + length value ≡ record_length call
   other_size call value ms e = ap (λ (n : ℕ). 3 + n) (ap length e ∙ answer-length (tag_of call) ms)
 
-  pub other_carried : (l : List ℕ) (room : ℕ) (other : Other) → OtherDoes l room other → (c : Changes) →
-      Changed other b c → (y : Board) → y ≡ with_changes c.host c.controller b → (moved : Bool) →
+  pub other_carried : (l : List ℕ) (room : ℕ) (step : Step) → OtherDoes l room step → (c : Changes) →
+      Changed step b c → (y : Board) → y ≡ with_changes c.host c.controller b → (moved : Bool) →
       moved ≡ false → (buf' : List ℕ) →
-      buf' ≡ other_put (tag_of (other_call other)) at (value_bytes c.answer) buf → Carried (call_at l) b at buf y
+      buf' ≡ other_put (tag_of (other_call step)) at (value_bytes c.answer) buf → Carried (call_at l) b at buf y
       moved buf'
-  other_carried l room other d c h y f moved o buf' p =
+  other_carried l room step d c h y f moved o buf' p =
       let a = d.1.1.1 c h in
       let e = f ∙ a.0 in
       subst (λ (x : Call). Carried x b at buf y moved buf') (sym d.1.0)
-      (by_effect (other_call other) y moved buf' e (λ _. ap wired e ∙ d.1.1.0 ∙ sym e)
-      (p ∙ other_record (tag_of (other_call other)) at (value_bytes c.answer) (effect_of (other_call other) b).members
-      buf a.1))
+      (by_effect (other_call step) y moved buf' e (λ _. ap wired e ∙ d.1.1.0 ∙ sym e)
+      (p ∙ other_record (tag_of (other_call step)) at (value_bytes c.answer) (effect_of (other_call step) b).members buf
+      a.1))
 
 -- ---- lengths
 

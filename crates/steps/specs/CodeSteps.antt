@@ -21,8 +21,6 @@ use Rattle.format.specs.Codec.{call_at, refusal_at, tag_of}
 use Rattle.format.specs.CodeAnswers.{header_bytes, wides}
 use Rattle.steps.specs.declared.Passing.{Passing}
 use Rattle.steps.specs.declared.Passing.TheVariants as P
-use Rattle.steps.specs.declared.Other.{Other}
-use Rattle.steps.specs.declared.Other.TheVariants as O
 use Rattle.steps.specs.declared.Step.{Step}
 use Rattle.steps.specs.declared.Step.TheVariants as T
 use Rattle.steps.specs.declared.Changes.{Changes}
@@ -50,22 +48,18 @@ abbrev pub counts : Passing → Bool
 counts P.Advance = true
 counts P.Skip = false
 
--- the call is this one, of those that change at most host time or the controller
-abbrev pub MakesOther : Call → Board → Other → Type 0
-MakesOther call b (O.HostTime nanoseconds seconds) = call ≡ HostTime nanoseconds seconds
-MakesOther call b O.Stay = (call ≡ Skip) × (skip_length b ≡ none)
-MakesOther call b O.Deadline = call ≡ Deadline
-MakesOther call b (O.Source number level) = call ≡ Source number level
-MakesOther call b (O.ControllerRead address) = call ≡ ControllerRead address
-MakesOther call b (O.ControllerWrite byte address) = call ≡ ControllerWrite byte address
-MakesOther call b O.Output = call ≡ Output
-
 -- the step of an accepted call
 abbrev pub Makes : Call → Board → Step → Type 0
 Makes call b (T.Read offset) = Reads call offset
 Makes call b (T.Write byte offset) = Writes call byte offset
 Makes call b (T.Pass passing c) = Passes call b (counts passing) c.0
-Makes call b (T.Other other) = MakesOther call b other
+Makes call b (T.HostTime nanoseconds seconds) = call ≡ HostTime nanoseconds seconds
+Makes call b T.Stay = (call ≡ Skip) × (skip_length b ≡ none)
+Makes call b T.Deadline = call ≡ Deadline
+Makes call b (T.Source number level) = call ≡ Source number level
+Makes call b (T.ControllerRead address) = call ≡ ControllerRead address
+Makes call b (T.ControllerWrite byte address) = call ≡ ControllerWrite byte address
+Makes call b T.Output = call ≡ Output
 
 -- what becomes of a call whose refusal is n
 abbrev pub Becomes : ℕ → Call → Board → Result Step Refusal → Type 0
@@ -82,15 +76,18 @@ StepIs b l room r = Becomes (refusal_at b l room) (call_at l) b r
 
 -- ---- the calls that change at most host time or the controller
 
--- the call itself
-abbrev pub other_call : Other → Call
-other_call (O.HostTime nanoseconds seconds) = HostTime nanoseconds seconds
-other_call O.Stay = Skip
-other_call O.Deadline = Deadline
-other_call (O.Source number level) = Source number level
-other_call (O.ControllerRead address) = ControllerRead address
-other_call (O.ControllerWrite byte address) = ControllerWrite byte address
-other_call O.Output = Output
+-- the call of such a step; `Skip` for every other step
+abbrev pub other_call : Step → Call
+other_call (T.Read offset) = Skip
+other_call (T.Write byte offset) = Skip
+other_call (T.Pass passing c) = Skip
+other_call (T.HostTime nanoseconds seconds) = HostTime nanoseconds seconds
+other_call T.Stay = Skip
+other_call T.Deadline = Deadline
+other_call (T.Source number level) = Source number level
+other_call (T.ControllerRead address) = ControllerRead address
+other_call (T.ControllerWrite byte address) = ControllerWrite byte address
+other_call T.Output = Output
 
 -- a board with this host time and this controller
 abbrev pub with_changes : HostTimeOf → IrqController → Board → Board
@@ -102,15 +99,18 @@ ChangesAre call b c =
     (with_changes c.host c.controller b ≡ (effect_of call b).board)
     × (value_bytes c.answer ≡ answer_bytes (tag_of call) (effect_of call b).members)
 
--- what such a call changes; a skip, where it makes no advance
-abbrev pub Changed : Other → Board → Changes → Type 0
-Changed (O.HostTime nanoseconds seconds) b c = ChangesAre (HostTime nanoseconds seconds) b c
-Changed O.Stay b c = skip_length b ≡ none → ChangesAre Skip b c
-Changed O.Deadline b c = ChangesAre Deadline b c
-Changed (O.Source number level) b c = ChangesAre (Source number level) b c
-Changed (O.ControllerRead address) b c = ChangesAre (ControllerRead address) b c
-Changed (O.ControllerWrite byte address) b c = ChangesAre (ControllerWrite byte address) b c
-Changed O.Output b c = ChangesAre Output b c
+-- what such a step changes
+abbrev pub Changed : Step → Board → Changes → Type 0
+Changed (T.Read offset) b c = skip_length b ≡ none → ChangesAre Skip b c
+Changed (T.Write byte offset) b c = skip_length b ≡ none → ChangesAre Skip b c
+Changed (T.Pass passing n) b c = skip_length b ≡ none → ChangesAre Skip b c
+Changed (T.HostTime nanoseconds seconds) b c = ChangesAre (HostTime nanoseconds seconds) b c
+Changed T.Stay b c = skip_length b ≡ none → ChangesAre Skip b c
+Changed T.Deadline b c = ChangesAre Deadline b c
+Changed (T.Source number level) b c = ChangesAre (Source number level) b c
+Changed (T.ControllerRead address) b c = ChangesAre (ControllerRead address) b c
+Changed (T.ControllerWrite byte address) b c = ChangesAre (ControllerWrite byte address) b c
+Changed T.Output b c = ChangesAre Output b c
 
 -- ---- the record of an advance or a skip, by whether it has counts
 

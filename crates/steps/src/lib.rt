@@ -35,20 +35,6 @@ pub enum Passing {
     Skip,
 }
 
-// The calls that change at most host time or the controller.
-#[derive(Clone, Copy)]
-pub enum Other {
-    // Nanoseconds and seconds.
-    HostTime(u32, u64),
-    // A skip that makes no advance.
-    Stay,
-    Deadline,
-    Source(u8, u8),
-    ControllerRead(u32),
-    ControllerWrite(u8, u32),
-    Output,
-}
-
 // What a run does with the next call of its list, where the call is not refused.
 #[derive(Clone, Copy)]
 pub enum Step {
@@ -58,8 +44,15 @@ pub enum Step {
     Write(u8, u32),
     // Cycles pass.
     Pass(Passing, Cycles),
-    // At most host time or the controller changes.
-    Other(Other),
+    // Nanoseconds and seconds.
+    HostTime(u32, u64),
+    // A skip that makes no advance.
+    Stay,
+    Deadline,
+    Source(u8, u8),
+    ControllerRead(u32),
+    ControllerWrite(u8, u32),
+    Output,
 }
 
 // Host time and controller after a call that changes at most these, and its answer.
@@ -100,7 +93,7 @@ fn skip_step(board: Board) -> Result<Step, Refusal>
 {
     match board.skip_length()? {
         Some(cycles) => Ok(Step::Pass(Passing::Skip, cycles)),
-        None => Ok(Step::Other(Other::Stay)),
+        None => Ok(Step::Stay),
     }
 }
 
@@ -114,37 +107,32 @@ pub fn step_of(board: Board, rest: &[u8], room: usize) -> Result<Step, Refusal>
         Err(front) => return Err(first_refusal(board, front)),
     };
     match call {
-        Call::HostTime(nanoseconds, seconds) => Ok(Step::Other(Other::HostTime(
-            nanoseconds,
-            seconds,
-        ))),
+        Call::HostTime(nanoseconds, seconds) => Ok(Step::HostTime(nanoseconds, seconds)),
         Call::Read(address) => Ok(Step::Read(u32::from(address) + Registers::BASE)),
         Call::Write(byte, address) => Ok(Step::Write(byte, u32::from(address) + Registers::BASE)),
         Call::Advance(cycles) => Ok(Step::Pass(Passing::Advance, cycles)),
-        Call::Deadline => Ok(Step::Other(Other::Deadline)),
+        Call::Deadline => Ok(Step::Deadline),
         Call::Skip => skip_step(board),
-        Call::Source(number, level) => Ok(Step::Other(Other::Source(number, level))),
-        Call::ControllerRead(address) => Ok(Step::Other(Other::ControllerRead(address))),
-        Call::ControllerWrite(byte, address) => Ok(Step::Other(Other::ControllerWrite(
-            byte, address,
-        ))),
-        Call::Output => Ok(Step::Other(Other::Output)),
+        Call::Source(number, level) => Ok(Step::Source(number, level)),
+        Call::ControllerRead(address) => Ok(Step::ControllerRead(address)),
+        Call::ControllerWrite(byte, address) => Ok(Step::ControllerWrite(byte, address)),
+        Call::Output => Ok(Step::Output),
     }
 }
 
 // ---- the calls that change at most host time or the controller
 
-// Host time, controller and answer after such a call.
+// Host time, controller and answer after such a step.
 #[tactic(auto, unfolding(format::specs::Format::value_bytes, format::specs::Format::members_bytes))]
-pub fn changes_of(board: Board, other: Other) -> Changes
+pub fn changes_of(board: Board, step: Step) -> Changes
     requires { sound board ≡ true }
-    ensures { Changed other board result }
+    ensures { Changed step board result }
 {
     let clock = board.clock;
     let host = clock.host;
     let controller = board.controller;
-    match other {
-        Other::HostTime(nanoseconds, seconds) => Changes {
+    match step {
+        Step::HostTime(nanoseconds, seconds) => Changes {
             host: HostTime {
                 seconds,
                 nanoseconds,
@@ -152,32 +140,32 @@ pub fn changes_of(board: Board, other: Other) -> Changes
             controller,
             answer: Answer::Empty,
         },
-        Other::Source(number, level) => Changes {
+        Step::Source(number, level) => Changes {
             host,
             controller: controller::with_source(controller, SourceNumber(number), level == 1),
             answer: Answer::Empty,
         },
-        Other::ControllerRead(address) => Changes {
+        Step::ControllerRead(address) => Changes {
             host,
             controller,
             answer: Answer::Byte(controller::read_of(controller, address)),
         },
-        Other::ControllerWrite(byte, address) => Changes {
+        Step::ControllerWrite(byte, address) => Changes {
             host,
             controller: controller::written(controller, address, byte),
             answer: Answer::Empty,
         },
-        Other::Output => Changes {
+        Step::Output => Changes {
             host,
             controller,
             answer: Answer::Output(controller::output_of(controller)),
         },
-        Other::Deadline => Changes {
+        Step::Deadline => Changes {
             host,
             controller,
             answer: Answer::Deadline(board.deadline_members()),
         },
-        Other::Stay => Changes {
+        _ => Changes {
             host,
             controller,
             answer: Answer::Skip(Skip {
@@ -188,20 +176,18 @@ pub fn changes_of(board: Board, other: Other) -> Changes
     }
 }
 
-impl Other {
-    // The tag of its call.
-    pub fn tag(self) -> Tag
-        ensures { tag_number result ≡ tag_of (other_call self) }
-    {
-        match self {
-            Other::HostTime(nanoseconds, seconds) => Tag::HostTime,
-            Other::Stay => Tag::Skip,
-            Other::Deadline => Tag::Deadline,
-            Other::Source(number, level) => Tag::Source,
-            Other::ControllerRead(address) => Tag::ControllerRead,
-            Other::ControllerWrite(byte, address) => Tag::ControllerWrite,
-            Other::Output => Tag::Output,
-        }
+// The tag of such a step's call.
+pub fn tag_of(step: Step) -> Tag
+    ensures { tag_number result ≡ tag_of (other_call step) }
+{
+    match step {
+        Step::HostTime(nanoseconds, seconds) => Tag::HostTime,
+        Step::Deadline => Tag::Deadline,
+        Step::Source(number, level) => Tag::Source,
+        Step::ControllerRead(address) => Tag::ControllerRead,
+        Step::ControllerWrite(byte, address) => Tag::ControllerWrite,
+        Step::Output => Tag::Output,
+        _ => Tag::Skip,
     }
 }
 
@@ -272,12 +258,12 @@ pub fn put_passed(buf: &mut [u8], at: usize, passing: Passing, line: bool)
 }
 
 // Writes the record of another call, by its changes.
-pub fn put_other(buf: &mut [u8], at: usize, other: Other, changes: Changes)
+pub fn put_other(buf: &mut [u8], at: usize, step: Step, changes: Changes)
     requires { at + 3 + length (value_bytes changes.answer) ≤ length buf.old }
     ensures { buf.new
-        ≡ other_put (tag_of (other_call other)) at (value_bytes changes.answer) buf.old }
+        ≡ other_put (tag_of (other_call step)) at (value_bytes changes.answer) buf.old }
 {
     let answer = changes.answer;
-    format::put_header(buf, at, other.tag());
+    format::put_header(buf, at, tag_of(step));
     format::put_value(buf, at + format::HEADER_LENGTH, answer);
 }

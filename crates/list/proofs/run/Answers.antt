@@ -20,7 +20,7 @@ use Rattle.list.specs.Run.{run_of, over}
 use Rattle.steps.proofs.Advances.{begins, next-phase, advances, passed_over, still-timed, counts_begin}
 use Rattle.steps.proofs.Advances.{next-zero, counts-next, counts-passed, counts_same, all-advanced, counts_end}
 use Rattle.steps.proofs.Calls.{read_length, write_length, pass_length, pass_room, begun_room, Served, set_after}
-use Rattle.steps.proofs.Calls.{plain_carried, read_carried, channel-written, write_carried, pass_carried}
+use Rattle.steps.proofs.Calls.{other_of, plain_carried, read_carried, channel-written, write_carried, pass_carried}
 use Rattle.steps.proofs.Calls.{other_carried}
 use Rattle.list.proofs.Runs.{more_used, Ran, ended, ends, rest_bytes, goes_on}
 use Rattle.list.proofs.Arms.{rest, at_step, rest_is, board_sound, timed, accepts, answer-inside}
@@ -28,7 +28,7 @@ use Rattle.list.proofs.Arms.{other_at, other_is}
 use Rattle.list.proofs.run.Goals as goal
 use Rattle.list.proofs.run.Goals.{then-runs, else-runs, in-Read, then-plain, else-plain, in-Write, in-Nothing}
 use Rattle.list.proofs.run.Goals.{in-Enable}
-use Rattle.list.proofs.run.Goals.{in-Acknowledge, in-Clock, in-Channel, in-Pass+else-loop-i-test, in-Other}
+use Rattle.list.proofs.run.Goals.{in-Acknowledge, in-Clock, in-Channel, in-Pass+else-loop-i-test, in_default}
 use Rattle.list.proofs.run.Goals.{then-moved, else-moved}
 
 -- ---- the returns
@@ -169,8 +169,10 @@ put_passed-requires c =
 pub put_other-requires : goal.put_other-requires
 put_other-requires c =
     let u = at_step c.loop-done.invariant c.loop-done-test.true c.in-Ok.step c.in-Ok.ensures in
-    let d = other_is u _ c.in-Other.is c.changes_of-c.result c.changes_of-c.ensures in
-    omega (arith, answer-inside u (other_at u _ c.in-Other.is).0, d.1.0, d.1.1)
+    let k = other_of c.in_default.not-Read c.in_default.not-Write
+    c.in_default.not-Pass in
+    let d = other_is u k c.changes_of-c.result c.changes_of-c.ensures in
+    omega (arith, answer-inside u (other_at u k).0, d.1.0, d.1.1)
 
 -- ---- where the arms meet
 
@@ -185,7 +187,9 @@ accepted c =
       | in-Read w ↦ (accepts u _ w.in-Read.is).0
       | in-Write w ↦ (accepts u _ w.in-Write.is).0
       | in-Pass+else-loop-i-test w ↦ (accepts u _ w.in-Pass.is).0
-      | in-Other w ↦ (other_at u _ w.in-Other.is).0
+      | in_default w ↦ (other_at u
+          (other_of w.in_default.not-Read
+          w.in_default.not-Write w.in_default.not-Pass)).0
     ]
 
 -- the bytes of a call, and of its record, by its tag
@@ -211,9 +215,10 @@ counted c =
       | in-Pass+else-loop-i-test w ↦
           let n = pass_length _ _ _ _ (accepts u _ w.in-Pass.is).1 in
           w.done-is ∙ ap more (w.call_length-in-Pass.ensures ∙ ap call-bytes w.tag-tag.ensures ∙ sym n.0)
-      | in-Other w ↦
-          let d = other_is u _ w.in-Other.is w.changes_of-c.result w.changes_of-c.ensures in
-          w.done-is ∙ ap more (w.call_length-in-Other.ensures ∙ ap call-bytes w.tag-tag-in-Other.ensures ∙ sym d.0)
+      | in_default w ↦
+          let k = other_of w.in_default.not-Read w.in_default.not-Write w.in_default.not-Pass in
+          let d = other_is u k w.changes_of-c.result w.changes_of-c.ensures in
+          w.done-is ∙ ap more (w.call_length-in_default.ensures ∙ ap call-bytes w.tag_of-tag.ensures ∙ sym d.0)
     ]
 
 -- the board, the buffer and the numbers are those of the call
@@ -286,17 +291,19 @@ served c =
             used = used;
             size = w.size-is ∙ w.record_length-size-in-Pass.ensures ∙ ap record-bytes w.tag-tag.ensures ∙ sym n.1;
           }
-      | in-Other w ↦
-          let d = other_is u _ w.in-Other.is w.changes_of-c.result w.changes_of-c.ensures in
+      | in_default w ↦
+          let k = other_of w.in_default.not-Read w.in_default.not-Write
+          w.in_default.not-Pass in
+          let d = other_is u k w.changes_of-c.result w.changes_of-c.ensures in
           record {
             carried =
                 other_carried b s at buf (rest c.args.list.now c.loop-done.done.used)
-                (length c.loop-done.answers - c.loop-done.done.written) w.in-Other.other (other_at u _ w.in-Other.is)
+                (length c.loop-done.answers - c.loop-done.done.written) c.in-Ok.step (other_at u k)
                 w.changes_of-c.result w.changes_of-c.ensures _ w.b-is _ w.moved-is _
                 (w.answers-is ∙ w.put_other.ensures);
             used = used;
             size =
-                w.size-is ∙ w.record_length-size-in-Other.ensures ∙ ap record-bytes w.tag-tag-in-Other.ensures
+                w.size-is ∙ w.record_length-size-in_default.ensures ∙ ap record-bytes w.tag_of-tag.ensures
                 ∙ sym d.1.0;
           }
     ]

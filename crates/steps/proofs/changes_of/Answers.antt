@@ -3,12 +3,20 @@
 use mathlib.Core.Path.{refl}
 use Rattle.format.specs.Format.{members_bytes, value_bytes}
 use Rattle.board.proofs.Answers.{deadline_listed}
-use Rattle.steps.proofs.CallParts.{stay_changes}
+use Rattle.steps.proofs.CallParts.{rest_changes}
 use Rattle.steps.proofs.changes_of.Goals as goal
 
 pub returns-in-Deadline : goal.returns-in-Deadline
 unfolding members_bytes value_bytes
 returns-in-Deadline c = rw (c.in-Deadline.is, c.deadline_members.ensures, deadline_listed) (refl, refl)
 
-pub returns-in-Stay : goal.returns-in-Stay
-returns-in-Stay c = rw c.in-Stay.is (stay_changes _ c.requires _ c.level_of.ensures)
+pub returns-in_default : goal.returns-in_default
+returns-in_default c = rest_changes _ c.requires c.args.step
+    (record {
+      host = c.in_default.not-HostTime;
+      deadline = c.in_default.not-Deadline;
+      source = c.in_default.not-Source;
+      read = c.in_default.not-ControllerRead;
+      write = c.in_default.not-ControllerWrite;
+      output = c.in_default.not-Output;
+    }) _ c.level_of.ensures

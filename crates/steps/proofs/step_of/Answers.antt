@@ -3,7 +3,6 @@ use Prim.Native.Nat.{ℕ, ◌+◌}
 use mathlib.Core.Path.{refl, ap, ◌∙◌}
 use mathlib.Core.Bool.{true≢false}
 use Rattle.board.specs.Registers.{base}
-use Rattle.steps.specs.declared.Other.TheVariants as O
 use Rattle.steps.specs.declared.Passing.TheVariants as P
 use Rattle.steps.specs.declared.Step.TheVariants as S
 use Rattle.steps.proofs.CallParts.{step-refused, step-accepted, step-skips}
@@ -13,7 +12,7 @@ pub returns-in-Err : goal.returns-in-Err
 returns-in-Err c = c.first_refusal.ensures ∙ step-refused _ _ _ _ c.in-Err.ensures
 
 pub returns-in-HostTime : goal.returns-in-HostTime
-returns-in-HostTime c = step-accepted _ _ _ _ c.in-Ok.ensures _ c.in-HostTime.is refl (S.Other (O.HostTime _ _)) refl
+returns-in-HostTime c = step-accepted _ _ _ _ c.in-Ok.ensures _ c.in-HostTime.is refl (S.HostTime _ _) refl
 
 pub returns-in-Read : goal.returns-in-Read
 returns-in-Read c = step-accepted _ _ _ _ c.in-Ok.ensures _ c.in-Read.is refl (S.Read _)
@@ -28,21 +27,21 @@ returns-in-Advance c = step-accepted _ _ _ _ c.in-Ok.ensures _ c.in-Advance.is r
     (record { advance = λ _. refl; skip = λ e. absurd (true≢false e) })
 
 pub returns-in-Deadline : goal.returns-in-Deadline
-returns-in-Deadline c = step-accepted _ _ _ _ c.in-Ok.ensures _ c.in-Deadline.is refl (S.Other O.Deadline) refl
+returns-in-Deadline c = step-accepted _ _ _ _ c.in-Ok.ensures _ c.in-Deadline.is refl S.Deadline refl
 
 pub returns-in-Skip : goal.returns-in-Skip
 returns-in-Skip c = step-skips _ _ _ _ c.in-Ok.ensures c.in-Skip.is c.skip_step.result c.skip_step.ensures
 
 pub returns-in-Source : goal.returns-in-Source
-returns-in-Source c = step-accepted _ _ _ _ c.in-Ok.ensures _ c.in-Source.is refl (S.Other (O.Source _ _)) refl
+returns-in-Source c = step-accepted _ _ _ _ c.in-Ok.ensures _ c.in-Source.is refl (S.Source _ _) refl
 
 pub returns-in-ControllerRead : goal.returns-in-ControllerRead
-returns-in-ControllerRead c = step-accepted _ _ _ _ c.in-Ok.ensures _ c.in-ControllerRead.is refl
-    (S.Other (O.ControllerRead _)) refl
+returns-in-ControllerRead c = step-accepted _ _ _ _ c.in-Ok.ensures _ c.in-ControllerRead.is refl (S.ControllerRead _)
+    refl
 
 pub returns-in-ControllerWrite : goal.returns-in-ControllerWrite
 returns-in-ControllerWrite c = step-accepted _ _ _ _ c.in-Ok.ensures _ c.in-ControllerWrite.is refl
-    (S.Other (O.ControllerWrite _ _)) refl
+    (S.ControllerWrite _ _) refl
 
 pub returns-in-Output : goal.returns-in-Output
-returns-in-Output c = step-accepted _ _ _ _ c.in-Ok.ensures _ c.in-Output.is refl (S.Other O.Output) refl
+returns-in-Output c = step-accepted _ _ _ _ c.in-Ok.ensures _ c.in-Output.is refl S.Output refl
