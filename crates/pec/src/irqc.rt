@@ -25,8 +25,8 @@ fn unpack(word: u64) -> IrqController
 fn pack(controller: IrqController) -> u64
     ensures { result ≡ packed controller }
 {
-    (controller.pending as u64 * 0x1_0000 + controller.enable as u64) * 0x1_0000
-        + controller.levels as u64
+    (u64::from(controller.pending) * 0x1_0000 + u64::from(controller.enable)) * 0x1_0000
+        + u64::from(controller.levels)
 }
 
 // The number of an output: valid in bit 8, the source's number below.
@@ -34,9 +34,9 @@ fn pack_output(output: IrqOutput) -> u16
     ensures { result ≡ packed_output output }
 {
     if output.valid {
-        return 0x100 + output.number.0 as u16;
+        return 0x100 + u16::from(output.number.0);
     }
-    output.number.0 as u16
+    u16::from(output.number.0)
 }
 
 // `new`

@@ -5,4 +5,4 @@ use Rattle.pec.proofs.irqc.pack.Goals as goal
 
 pub returns : goal.returns
 unfolding packed
-returns c = refl
+returns c = rw (c.from.ensures, c.from-2.ensures, c.from-3.ensures) refl
