@@ -36,13 +36,13 @@ refusal_number SourceTooLarge = source_too_large
 refusal_number SourceOfLine = source_of_line
 refusal_number LevelTooLarge = level_too_large
 refusal_number BufferShort = 11
--- S-1: '12, malformed'
+-- S-1: '12, a field missing, cut, out of order, of wrong length, a flag above 1, or bytes over'
 refusal_number ImageMalformed = 12
 refusal_number DeadlineTooLarge = deadline_too_large
--- S-6: '14'
+-- S-6: '14, the clock is enabled in realtime'
 refusal_number ClockInRealtime = 14
 refusal_number AnotherRate = another_rate
--- S-8: '16'
+-- S-8: '16, another rate moved back or parked in the old form'
 refusal_number RateNeedsNewForm = 16
 
 -- 'refusal (0 none)'

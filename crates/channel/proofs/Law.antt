@@ -1,7 +1,8 @@
 -- The channel's law for the deadline: what is due after c cycles at t is what was due at c + t, for every mode,
 -- prescaler and phase; what an advance leaves of pending and interrupt enable; the bounds of a deadline; and where a
 -- channel, or its part of the line, stays as it was. Assumes nothing.
-use Rattle.std.proofs.Common.{◌≡◌, ℕ, zero, suc, ◌+◌, ◌-◌, ◌*◌, ◌/◌, ◌%◌, ◌^◌, ◌<◌, ◌≤◌, min, Bool, true, false, ◌&&◌}
+use Rattle.std.proofs.Common.{◌≡◌, ℕ, zero, suc, ◌+◌, ◌-◌, ◌*◌, ◌/◌, ◌%◌, ◌^◌, ◌<◌, ◌≤◌}
+use Rattle.std.proofs.Common.{min, Bool, true, false, ◌&&◌}
 use Rattle.std.proofs.Common.{◌||◌, eqb, ltb, leb, ◌≢◌, sym, refl, ap, ◌∙◌, subst, add-zero, mul-le-mul, zero-add}
 use Rattle.std.proofs.Common.{arith, ltb-true, le-ltb, lt-ltb, eqb-true, le-leb, leb-false, leb-true}
 use native.Mathlib.Nat.{div-eq_of_lt}

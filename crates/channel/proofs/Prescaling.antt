@@ -1,5 +1,6 @@
 -- Laws of the prescaler: the code's quotients are the rule's, and ticks as cycles. Assumes nothing.
-use Rattle.std.proofs.Common.{◌≡◌, ℕ, zero, suc, ◌+◌, ◌-◌, ◌*◌, ◌/◌, ◌%◌, ◌^◌, ◌<◌, ◌≤◌, ltb, leb, ◌↔◌, sym, refl, ap}
+use Rattle.std.proofs.Common.{◌≡◌, ℕ, zero, suc, ◌+◌, ◌-◌, ◌*◌, ◌/◌, ◌%◌, ◌^◌, ◌<◌, ◌≤◌}
+use Rattle.std.proofs.Common.{ltb, leb, ◌↔◌, sym, refl, ap}
 use Rattle.std.proofs.Common.{◌∙◌, lt_of_lt_of_le, le_of_lt, mod-eq_of_lt, mul-le-mul, le-div_iff_mul-le}
 use Rattle.std.proofs.Common.{div-le_self, sub-one, arith, lit≤, le-ltb, lt-ltb, leb-false}
 use Rattle.std.proofs.Common.{leb-true, zero-add, div-one}

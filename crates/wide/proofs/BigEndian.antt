@@ -1,5 +1,6 @@
 -- Laws of big-endian fields and of runs of stores. Assumes nothing.
-use Rattle.std.proofs.Common.{◌≡◌, ℕ, zero, suc, ◌+◌, ◌-◌, ◌*◌, ◌/◌, ◌%◌, ◌^◌, ◌<◌, ◌≤◌, List, [], ◌∷◌, ◌++◌, length}
+use Rattle.std.proofs.Common.{◌≡◌, ℕ, zero, suc, ◌+◌, ◌-◌, ◌*◌, ◌/◌, ◌%◌, ◌^◌, ◌<◌, ◌≤◌}
+use Rattle.std.proofs.Common.{List, [], ◌∷◌, ◌++◌, length}
 use Rattle.std.proofs.Common.{get_or, take, drop, set, sym, refl, ap, ◌∙◌, ap₂, append_assoc, add-zero, add_assoc}
 use Rattle.std.proofs.Common.{add-suc, mod-lt, mod-eq_of_lt, mul_comm, div-lt_iff_lt-mul, suc-add, one-mul, pow-suc}
 use Rattle.std.proofs.Common.{div-add-mod', zero-add, mul-suc, div-one, add-one, arith, length-drop, get_or-drop}
