@@ -188,6 +188,19 @@ module _ (selected : Bool) (c : ℕ) (h : HardwareTimer) (f : TimerFits h) where
   abbrev kept : Kept (start selected c h f) ran
   kept = advance-kept selected c h f
 
+  -- an advance never clears pending
+  pub advanced-pending : h.pending ≡ true → (advanced selected c h).pending ≡ true
+  unfolding advanced
+  advanced-pending e =
+      choose (λ (r : HardwareTimer). r.pending ≡ true) (runs selected h) (λ _. kept.pending e) (λ _. e)
+
+  -- nor does it change interrupt enable
+  pub advanced-irq : irq_enabled_of (advanced selected c h).control ≡ irq_enabled_of h.control
+  unfolding advanced
+  advanced-irq =
+      choose (λ (r : HardwareTimer). irq_enabled_of r.control ≡ irq_enabled_of h.control) (runs selected h)
+      (λ _. kept.irq) (λ _. refl)
+
   -- what is due after c cycles at t is what was due at c + t
   pub advance_due : h.phase < divisor h → (t : ℕ) →
       channel_due selected (advanced selected c h) t ≡ channel_due selected h (c + t)
