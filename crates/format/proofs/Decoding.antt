@@ -2,7 +2,7 @@
 use Prim.Native.Nat.{ℕ, ◌+◌, ◌-◌, ◌≤◌, ◌<◌}
 use native.Mathlib.Omega.{arith}
 use mathlib.Core.Path.{◌≡◌, refl, sym, ◌∙◌}
-use mathlib.Core.Bool.{true, false, cond, not, false≢true}
+use mathlib.Core.Bool.{true, false, cond, not, and-false, false≢true}
 use mathlib.Core.List.{List}
 use lib.ListN.{length}
 use lib.Dec.{ltb, eqb}
@@ -20,7 +20,7 @@ use Rattle.format.specs.Codec.{tag_at, frame_refusal, call_of, call_at, record_l
 use Rattle.format.specs.declared.tag.Tag.{Tag}
 use Rattle.format.specs.declared.tag.Tag.TheVariants as T
 use Rattle.format.specs.Tags.{tag_number}
-use Rattle.format.specs.CodeDecode.{value_refusal, refused_by, told, roomed, valued}
+use Rattle.format.specs.CodeDecode.{Decoded, value_refusal, refused_by, told, roomed, valued, named_at}
 use Rattle.format.specs.CodeDecode.{value_frame, framed_as, decoded_of, board_refusal, first_refusal}
 
 -- ---- the frame
@@ -35,6 +35,14 @@ whole value l h z =
     (λ e. either (ltb (length l - header_length) value)
     (λ f. let q : ◌≡◌ {A = ℕ} 0 5 = rw (e, f) at z in absurd (omega arith))
     (λ f. let m = ltb-false (length l - header_length) value f in omega arith))
+
+-- a value is not refused for the room
+pub frame-names : (value : ℕ) (l : List ℕ) (n : ℕ) → n ≡ value_frame value l → eqb n answer_too_long ≡ false
+unfolding value_frame
+frame-names value l n e =
+    either (not (eqb (be_at l 1 2) value))
+    (λ f. rw (e, f))
+    (λ f. either (ltb (length l - header_length) value) (λ g. rw (e, f, g)) (λ g. rw (e, f, g)))
 
 -- ---- the call at the front
 
@@ -66,6 +74,23 @@ module _ (l : List ℕ) (room : ℕ) where
       ≡ decoded_of l room
   unfolding frame_refusal value_frame framed_as decoded_of
   as-tag h tag e = rw (le-ltb (length l) header_length h, e, tag-known tag)
+
+-- ---- whether a call that is refused is named
+
+module _ (l : List ℕ) (d : Decoded) where
+  -- not where it is refused ahead of the room
+  pub named-early : (n : ℕ) → refused_by n ≡ d → eqb n answer_too_long ≡ false → false ≡ named_at l d
+  named-early n e f = rw (← e, f, and-false)
+
+  -- not where it has members
+  pub named-not : (tag : Tag) → tag_at l ≡ tag_number tag → eqb (value_length (tag_number tag)) 0 ≡ false →
+      false ≡ named_at l d
+  named-not tag e v = rw (e, v)
+
+  -- where it has none, it is where the room refuses it
+  pub named-bare : (tag : Tag) → tag_at l ≡ tag_number tag → eqb (value_length (tag_number tag)) 0 ≡ true →
+      eqb d.refusal answer_too_long ≡ named_at l d
+  named-bare tag e v = rw (e, v)
 
 -- ---- what a caller learns of it
 

@@ -1,6 +1,6 @@
 -- Not document 01's sentences: how the code decodes the first call of a list, with this room for its answer. The rules
 -- are `frame_refusal`, `call_at` and `refusal_at` of Codec; proofs/Decoding.antt shows that the two agree.
-use Rattle.std.specs.Prelude.{ℕ, ◌-◌, ◌≡◌, List, cond, not, length, ltb, eqb, Result, Ok, Err}
+use Rattle.std.specs.Prelude.{ℕ, ◌-◌, ◌≡◌, List, Bool, true, false, cond, ◌&&◌, not, length, ltb, eqb, Result, Ok, Err}
 use Rattle.wide.specs.Fields.{be_at}
 use Rattle.board.specs.declared.Board.{Board}
 use Rattle.board.specs.declared.calls.Call.{Call}
@@ -11,8 +11,14 @@ use Rattle.board.specs.Refusals.{refusal_number}
 use Rattle.format.specs.declared.calls.Front.{Front}
 use Rattle.format.specs.declared.Undecoded.{Undecoded}
 use Rattle.format.specs.declared.Undecoded.TheVariants.{Refused, NoRoom}
-use Rattle.format.specs.Format.{length_wrong, value_cut, answer_too_long, header_length, value_length}
-use Rattle.format.specs.Codec.{tag_of, frame_refusal, call_at, record_length, first_of}
+use Rattle.format.specs.declared.Lengths.{Lengths}
+use Rattle.format.specs.Format.{length_wrong, value_cut, answer_too_long, header_length}
+use Rattle.format.specs.Format.{known, value_length, answer_length}
+use Rattle.format.specs.Codec.{tag_of, tag_at, frame_refusal, call_at, record_length, first_of}
+
+-- what the code finds of a tag: whether it is known, and the lengths of its value and answer
+abbrev pub lengths_of : ℕ → Lengths
+lengths_of tag = record { known = known tag; value = value_length tag; answer = answer_length tag }
 
 -- the first call of a list, decoded: its refusal, 0 for none, and the call where there is none. Only the list's bytes
 -- and the room for the answer refuse it here
@@ -98,6 +104,16 @@ abbrev pub decoded : Result Call Undecoded → Decoded
 decoded (Ok call) = record { refusal = 0; call = call }
 decoded (Err (Refused refusal)) = refused_by (refusal_number refusal)
 decoded (Err (NoRoom call)) = record { refusal = answer_too_long; call = call }
+
+-- whether it names the call that it refuses
+abbrev pub names_call : Result Call Undecoded → Bool
+names_call (Ok call) = false
+names_call (Err (Refused refusal)) = false
+names_call (Err (NoRoom call)) = true
+
+-- a call is named where it has no members and its answer no room, and nowhere else
+abbrev pub named_at : List ℕ → Decoded → Bool
+named_at l d = eqb (value_length (tag_at l)) 0 && eqb d.refusal answer_too_long
 
 -- a call's own refusal where the board decides it: a skip's; 0 for every other call
 abbrev pub board_refusal : Call → Board → ℕ

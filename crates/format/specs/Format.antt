@@ -2,12 +2,14 @@
 -- how long their values and answers are, follows from one table. The codec of calls is in Codec.
 use Rattle.std.specs.Prelude.{ℕ, ◌+◌, Bool, ◌&&◌, length, get_or, drop, ltb}
 use mathlib.Core.List.{List, [], ◌∷◌, ◌++◌, foldr}
+use Rattle.wide.specs.Number.{value_of}
 use Rattle.wide.specs.Fields.{be_at, be}
 use Rattle.board.specs.declared.refusal.Refusal.TheVariants.{HeaderCut, TagUnknown, LengthWrong, ValueCut, BufferShort}
 use Rattle.board.specs.Refusals.{refusal_number}
 use Rattle.board.specs.Answers.{deadline_members, skip_members, output_members}
 use Rattle.format.specs.declared.Answer.{Answer}
 use Rattle.format.specs.declared.Answer.TheVariants.{Empty, Byte, Deadline, Skip, Output}
+use Rattle.format.specs.declared.Answer.TheVariants.{DeadlineMembers, SkipMembers, Pair}
 
 -- ---- refusals
 
@@ -109,6 +111,10 @@ value_bytes (Byte v) = members_bytes (1 ∷ []) (v ∷ [])
 value_bytes (Deadline given) = members_bytes (1 ∷ 16 ∷ 8 ∷ []) (deadline_members given)
 value_bytes (Skip skip) = members_bytes (8 ∷ 1 ∷ []) (skip_members skip)
 value_bytes (Output output) = members_bytes (1 ∷ 1 ∷ []) (output_members output)
+value_bytes (DeadlineMembers present exact word) =
+    members_bytes (1 ∷ 16 ∷ 8 ∷ []) (present ∷ value_of exact ∷ word ∷ [])
+value_bytes (SkipMembers passed line) = members_bytes (8 ∷ 1 ∷ []) (passed ∷ line ∷ [])
+value_bytes (Pair a b) = members_bytes (1 ∷ 1 ∷ []) (a ∷ b ∷ [])
 
 -- 'An answer has its call's tag and the same form.' 'an answer of none is still a record, of length 0'
 unfoldable pub record_of : ℕ → List ℕ → List ℕ

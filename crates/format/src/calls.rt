@@ -1,11 +1,11 @@
 // A call of a known tag, decoded from the bytes at the front of a list: the members of its value, and what refuses it.
 #![tactic(auto, using(crate::proofs::Decoding::whole), unfolding(crate::specs::CodeDecode::framed_as, crate::specs::CodeDecode::valued, crate::specs::CodeDecode::roomed),)]
 
-ghost use Rattle.std.specs.Prelude.{◌≡◌, ◌+◌, ◌≤◌, length};
+ghost use Rattle.std.specs.Prelude.{◌≡◌, false, ◌+◌, ◌≤◌, length, eqb};
 ghost use Rattle.wide.specs.Fields.{be_at};
 ghost use Rattle.board.specs.Calls.{advance_by};
 ghost use Rattle.board.specs.Refusals.{refusal_code};
-ghost use Rattle.format.specs.Format.{value_length, answer_length, header_length};
+ghost use Rattle.format.specs.Format.{value_length, answer_length, header_length, answer_too_long};
 ghost use Rattle.format.specs.Tags.{tag_number};
 
 use crate::tag::Tag;
@@ -66,7 +66,7 @@ pub struct Front<'a> {
 }
 
 impl Front<'_> {
-    ghost use Rattle.format.specs.CodeDecode.{value_frame, room_refusal, framed_at, Bare, decoded};
+    ghost use Rattle.format.specs.CodeDecode.{value_frame, room_refusal, framed_at, Bare, decoded, names_call};
 
     // ---- what refuses a call of this tag
 
@@ -99,7 +99,8 @@ impl Front<'_> {
     // ---- each call
 
     pub fn host_time(self) -> Result<Call, Undecoded>
-        ensures { decoded result ≡ framed_at 12 (λ l. Call.HostTime (be_at l 11 4) (be_at l 3 8)) self.entry }
+        ensures value { decoded result ≡ framed_at 12 (λ l. Call.HostTime (be_at l 11 4) (be_at l 3 8)) self.entry }
+        ensures named { names_call result ≡ false }
     {
         self.check_value(Tag::HostTime)?;
         let host = host_at(self.rest);
@@ -109,7 +110,8 @@ impl Front<'_> {
     }
 
     pub fn read(self) -> Result<Call, Undecoded>
-        ensures { decoded result ≡ framed_at 2 (λ l. Call.Read (be_at l 3 2)) self.entry }
+        ensures value { decoded result ≡ framed_at 2 (λ l. Call.Read (be_at l 3 2)) self.entry }
+        ensures named { names_call result ≡ false }
     {
         self.check_value(Tag::Read)?;
         let address = address_at(self.rest);
@@ -119,7 +121,8 @@ impl Front<'_> {
     }
 
     pub fn write(self) -> Result<Call, Undecoded>
-        ensures { decoded result ≡ framed_at 3 (λ l. Call.Write (be_at l 5 1) (be_at l 3 2)) self.entry }
+        ensures value { decoded result ≡ framed_at 3 (λ l. Call.Write (be_at l 5 1) (be_at l 3 2)) self.entry }
+        ensures named { names_call result ≡ false }
     {
         self.check_value(Tag::Write)?;
         let address = address_at(self.rest);
@@ -129,7 +132,8 @@ impl Front<'_> {
     }
 
     pub fn advance(self) -> Result<Call, Undecoded>
-        ensures { decoded result ≡ framed_at 8 (λ l. advance_by (be_at l 3 8)) self.entry }
+        ensures value { decoded result ≡ framed_at 8 (λ l. advance_by (be_at l 3 8)) self.entry }
+        ensures named { names_call result ≡ false }
     {
         self.check_value(Tag::Advance)?;
         self.check_room(Tag::Advance)?;
@@ -137,7 +141,8 @@ impl Front<'_> {
     }
 
     pub fn source(self) -> Result<Call, Undecoded>
-        ensures { decoded result ≡ framed_at 2 (λ l. Call.Source (be_at l 3 1) (be_at l 4 1)) self.entry }
+        ensures value { decoded result ≡ framed_at 2 (λ l. Call.Source (be_at l 3 1) (be_at l 4 1)) self.entry }
+        ensures named { names_call result ≡ false }
     {
         self.check_value(Tag::Source)?;
         let number = byte_at(self.rest, 3);
@@ -148,7 +153,8 @@ impl Front<'_> {
     }
 
     pub fn controller_read(self) -> Result<Call, Undecoded>
-        ensures { decoded result ≡ framed_at 4 (λ l. Call.ControllerRead (be_at l 3 4)) self.entry }
+        ensures value { decoded result ≡ framed_at 4 (λ l. Call.ControllerRead (be_at l 3 4)) self.entry }
+        ensures named { names_call result ≡ false }
     {
         self.check_value(Tag::ControllerRead)?;
         self.check_room(Tag::ControllerRead)?;
@@ -156,7 +162,9 @@ impl Front<'_> {
     }
 
     pub fn controller_write(self) -> Result<Call, Undecoded>
-        ensures { decoded result ≡ framed_at 5 (λ l. Call.ControllerWrite (be_at l 7 1) (be_at l 3 4)) self.entry }
+        ensures value { decoded result
+            ≡ framed_at 5 (λ l. Call.ControllerWrite (be_at l 7 1) (be_at l 3 4)) self.entry }
+        ensures named { names_call result ≡ false }
     {
         self.check_value(Tag::ControllerWrite)?;
         self.check_room(Tag::ControllerWrite)?;
@@ -166,7 +174,8 @@ impl Front<'_> {
     // A call without members.
     pub fn bare(self, tag: Tag, call: Call) -> Result<Call, Undecoded>
         requires { Bare call (tag_number tag) }
-        ensures { decoded result ≡ framed_at 0 (λ _. call) self.entry }
+        ensures value { decoded result ≡ framed_at 0 (λ _. call) self.entry }
+        ensures named { names_call result ≡ eqb (decoded result).refusal answer_too_long }
     {
         self.check_value(tag)?;
         if self.room < tag.record_length() {

@@ -105,7 +105,7 @@ pub fn run(board: Board, list: &[u8], answers: &mut [u8]) -> Outcome
                         moved = writes::at_control(offset);
                     }
                 }
-                format::put_header(answers, done.written, Tag::Write);
+                format::put_header_of(answers, done.written, Tag::Write);
                 done.used += Tag::Write.call_length();
                 size = Tag::Write.record_length();
             }

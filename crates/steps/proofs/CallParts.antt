@@ -97,6 +97,7 @@ rest_is (T.Source number level) o b c h = absurd (o.source number level refl)
 rest_is (T.ControllerRead address) o b c h = absurd (o.read address refl)
 rest_is (T.ControllerWrite byte address) o b c h = absurd (o.write byte address refl)
 rest_is T.Output o b c h = absurd (o.output refl)
+rest_is (T.Refused refusal) o b c h = h
 
 -- a skip that stays: the level of source 3 is the line
 pub rest_changes : (b : Board) → sound b ≡ true → (step : Step) → Rest step → (level : Bool) →

@@ -249,6 +249,7 @@ module _ (b : Board) (s : sound b ≡ true) (at : ℕ) (buf : List ℕ) where
   other_does l room (T.ControllerWrite byte address) k h =
       (h.0, (h.1, (level_still _ refl (ap (bit 3) (written_levels b.controller address byte)), λ c x. x)))
   other_does l room T.Output k h = (h.0, (h.1, (wired_sound b s, λ c x. x)))
+  other_does l room (T.Refused refusal) k h = absurd h.1
 
   -- the bytes of the answer are as many as the record has
   pub other_size : (call : Call) (value ms : List ℕ) → value ≡ answer_bytes (tag_of call) ms →

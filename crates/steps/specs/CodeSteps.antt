@@ -60,6 +60,7 @@ Makes call b (T.Source number level) = call ≡ Source number level
 Makes call b (T.ControllerRead address) = call ≡ ControllerRead address
 Makes call b (T.ControllerWrite byte address) = call ≡ ControllerWrite byte address
 Makes call b T.Output = call ≡ Output
+Makes call b (T.Refused refusal) = ⊥
 
 -- what becomes of a call whose refusal is n
 abbrev pub Becomes : ℕ → Call → Board → Result Step Refusal → Type 0
@@ -88,6 +89,7 @@ other_call (T.Source number level) = Source number level
 other_call (T.ControllerRead address) = ControllerRead address
 other_call (T.ControllerWrite byte address) = ControllerWrite byte address
 other_call T.Output = Output
+other_call (T.Refused refusal) = Skip
 
 -- a board with this host time and this controller
 abbrev pub with_changes : HostTimeOf → IrqController → Board → Board
@@ -111,6 +113,7 @@ Changed (T.Source number level) b c = ChangesAre (Source number level) b c
 Changed (T.ControllerRead address) b c = ChangesAre (ControllerRead address) b c
 Changed (T.ControllerWrite byte address) b c = ChangesAre (ControllerWrite byte address) b c
 Changed T.Output b c = ChangesAre Output b c
+Changed (T.Refused refusal) b c = skip_length b ≡ none → ChangesAre Skip b c
 
 -- ---- the record of an advance or a skip, by whether it has counts
 

@@ -2,7 +2,7 @@
 // most host time or the controller changes and answers; and the records of the other calls' answers.
 #![tactic(auto)]
 
-ghost use Rattle.std.specs.Prelude.{◌≡◌, true, [], ◌∷◌, ◌+◌, ◌*◌, ◌≤◌, ◌<◌, length};
+ghost use Rattle.std.specs.Prelude.{◌≡◌, true, false, [], ◌∷◌, ◌+◌, ◌*◌, ◌≤◌, ◌<◌, length};
 ghost use Rattle.std.proofs.lemmas.List.Edits.{sets};
 ghost use Rattle.wide.specs.Bits.{flag_of};
 ghost use Rattle.wide.specs.Number.{value_of};
@@ -12,6 +12,7 @@ ghost use Rattle.format.specs.Format.{answer_bytes, value_bytes, record_of};
 ghost use Rattle.board.specs.Refusals.{refusal_number};
 ghost use Rattle.format.specs.Codec.{tag_of};
 ghost use Rattle.format.specs.Tags.{tag_number};
+ghost use Rattle.format.specs.CodeAnswers.{as_numbers};
 ghost use Rattle.format.specs.CodeDecode.{decoded, first_refusal};
 ghost use Rattle.steps.specs.CodeSteps.{StepIs, SkipIs, Changed, other_call, counts, pass_call};
 ghost use Rattle.steps.specs.CodeSteps.{begun_put, count_put, passed_put, other_put};
@@ -53,6 +54,9 @@ pub enum Step {
     ControllerRead(u32),
     ControllerWrite(u8, u32),
     Output,
+    // A refusal by its number. `step_of` answers one as an `Err` and never gives this; to the functions below it is as
+    // `Stay`.
+    Refused(u8),
 }
 
 // Host time and controller after a call that changes at most these, and its answer.
@@ -126,7 +130,8 @@ pub fn step_of(board: Board, rest: &[u8], room: usize) -> Result<Step, Refusal>
 #[tactic(auto, unfolding(format::specs::Format::value_bytes, format::specs::Format::members_bytes))]
 pub fn changes_of(board: Board, step: Step) -> Changes
     requires { sound board ≡ true }
-    ensures { Changed step board result }
+    ensures changed { Changed step board result }
+    ensures typed { as_numbers result.answer ≡ false }
 {
     let clock = board.clock;
     let host = clock.host;
@@ -210,7 +215,7 @@ pub fn put_byte(buf: &mut [u8], at: usize, byte: u8)
     requires { at + 4 ≤ length buf.old }
     ensures { buf.new ≡ sets buf.old at (record_of 2 (answer_bytes 2 (byte ∷ []))) }
 {
-    format::put_header(buf, at, Tag::Read);
+    format::put_header_of(buf, at, Tag::Read);
     fields::put(buf, at + format::HEADER_LENGTH, u64::from(byte), 1);
 }
 
@@ -247,11 +252,11 @@ pub fn put_passed(buf: &mut [u8], at: usize, passing: Passing, line: bool)
 {
     match passing {
         Passing::Advance => {
-            format::put_header(buf, at, Tag::Advance);
+            format::put_header_of(buf, at, Tag::Advance);
             fields::put(buf, at + format::HEADER_LENGTH, u64::from(line), 1);
         }
         Passing::Skip => {
-            format::put_header(buf, at, Tag::Skip);
+            format::put_header_of(buf, at, Tag::Skip);
             fields::put(buf, at + SKIP_LINE, u64::from(line), 1);
         }
     }
@@ -264,6 +269,6 @@ pub fn put_other(buf: &mut [u8], at: usize, step: Step, changes: Changes)
         ≡ other_put (tag_of (other_call step)) at (value_bytes changes.answer) buf.old }
 {
     let answer = changes.answer;
-    format::put_header(buf, at, tag_of(step));
+    format::put_header_of(buf, at, tag_of(step));
     format::put_value(buf, at + format::HEADER_LENGTH, answer);
 }

@@ -1,14 +1,8 @@
 -- `put_output` meets its contract. Assumes nothing.
-use mathlib.Core.List.{append-nil}
-use Rattle.wide.specs.Bits.{flag_of}
-use Rattle.wide.specs.Fields.{be}
 use Rattle.format.specs.Format.{members_bytes, value_bytes}
-use Rattle.format.proofs.Frames.{sets_be}
 use Rattle.wide.proofs.Bits.{byte_flag}
 use Rattle.format.proofs.put_output.Goals as goal
 
 pub returns : goal.returns
 unfolding members_bytes value_bytes
-returns c = let a = c.args in
-    rw (c.put-2.ensures, c.put.ensures, c.from.ensures, c.from-2.ensures, byte_flag, append-nil)
-    (sets_be a.buf.now a.at 1 (flag_of a.output.valid) (be 1 a.output.number.0))
+returns c = rw (c.put_pair.ensures, c.from.ensures, byte_flag)

@@ -26,3 +26,15 @@ put_skip-requires c = room _ _ c.in-Skip.is c.requires
 pub put_output-requires : goal.put_output-requires
 unfolding members_bytes value_bytes be
 put_output-requires c = room _ _ c.in-Output.is c.requires
+
+pub put_deadline_members-requires : goal.put_deadline_members-requires
+unfolding members_bytes value_bytes be
+put_deadline_members-requires c = room _ _ c.in-DeadlineMembers.is c.requires
+
+pub put_skip_members-requires : goal.put_skip_members-requires
+unfolding members_bytes value_bytes be
+put_skip_members-requires c = room _ _ c.in-SkipMembers.is c.requires
+
+pub put_pair-requires : goal.put_pair-requires
+unfolding members_bytes value_bytes be
+put_pair-requires c = room _ _ c.in-Pair.is c.requires

@@ -96,8 +96,8 @@ timer_after-after-requires c = channel-range _ (sym c.part_at.ensures ∙ c.in-C
 pub at_control-moved-requires : goal.at_control-moved-requires
 at_control-moved-requires c = channel-range _ (sym c.part_at.ensures ∙ c.in-Channel.is)
 
-pub put_header-requires : goal.put_header-requires
-put_header-requires c =
+pub put_header_of-requires : goal.put_header_of-requires
+put_header_of-requires c =
     let u = at_step c.loop-done.invariant c.loop-done-test.true c.in-Ok.step c.in-Ok.ensures in
     let a = accepts u _ c.in-Write.is in
     omega (arith, answer-inside u a.0, (write_length _ _ _ a.1).1)
@@ -171,7 +171,7 @@ put_other-requires c =
     let u = at_step c.loop-done.invariant c.loop-done-test.true c.in-Ok.step c.in-Ok.ensures in
     let k = other_of c.in_default.not-Read c.in_default.not-Write
     c.in_default.not-Pass in
-    let d = other_is u k c.changes_of-c.result c.changes_of-c.ensures in
+    let d = other_is u k c.changes_of-c.result c.changes_of-c.ensures.changed in
     omega (arith, answer-inside u (other_at u k).0, d.1.0, d.1.1)
 
 -- ---- where the arms meet
@@ -217,7 +217,7 @@ counted c =
           w.done-is ∙ ap more (w.call_length-in-Pass.ensures ∙ ap call-bytes w.tag-tag.ensures ∙ sym n.0)
       | in_default w ↦
           let k = other_of w.in_default.not-Read w.in_default.not-Write w.in_default.not-Pass in
-          let d = other_is u k w.changes_of-c.result w.changes_of-c.ensures in
+          let d = other_is u k w.changes_of-c.result w.changes_of-c.ensures.changed in
           w.done-is ∙ ap more (w.call_length-in_default.ensures ∙ ap call-bytes w.tag_of-tag.ensures ∙ sym d.0)
     ]
 
@@ -253,7 +253,7 @@ served c =
           let a = (accepts u _ w.in-Write.is).1 in
           let n = write_length _ _ _ a in
           let part : (x : WritePart) → w.part_at.result ≡ x → x ≡ _ = λ x e. sym e ∙ w.part_at.ensures in
-          let put = w.answers-is ∙ w.put_header.ensures in
+          let put = w.answers-is ∙ w.put_header_of.ensures in
           record {
             carried = elim w.match-part_at.branch [
               | in-Nothing v ↦ write_carried b s at buf call _ _ a W.Nothing (part _ v.in-Nothing.is) _
@@ -294,12 +294,12 @@ served c =
       | in_default w ↦
           let k = other_of w.in_default.not-Read w.in_default.not-Write
           w.in_default.not-Pass in
-          let d = other_is u k w.changes_of-c.result w.changes_of-c.ensures in
+          let d = other_is u k w.changes_of-c.result w.changes_of-c.ensures.changed in
           record {
             carried =
                 other_carried b s at buf (rest c.args.list.now c.loop-done.done.used)
                 (length c.loop-done.answers - c.loop-done.done.written) c.in-Ok.step (other_at u k)
-                w.changes_of-c.result w.changes_of-c.ensures _ w.b-is _ w.moved-is _
+                w.changes_of-c.result w.changes_of-c.ensures.changed _ w.b-is _ w.moved-is _
                 (w.answers-is ∙ w.put_other.ensures);
             used = used;
             size =

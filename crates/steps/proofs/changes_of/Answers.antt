@@ -8,15 +8,20 @@ use Rattle.steps.proofs.changes_of.Goals as goal
 
 pub returns-in-Deadline : goal.returns-in-Deadline
 unfolding members_bytes value_bytes
-returns-in-Deadline c = rw (c.in-Deadline.is, c.deadline_members.ensures, deadline_listed) (refl, refl)
+returns-in-Deadline c =
+    record { changed = rw (c.in-Deadline.is, c.deadline_members.ensures, deadline_listed) (refl, refl); typed = refl }
 
 pub returns-in_default : goal.returns-in_default
-returns-in_default c = rest_changes _ c.requires c.args.step
-    (record {
-      host = c.in_default.not-HostTime;
-      deadline = c.in_default.not-Deadline;
-      source = c.in_default.not-Source;
-      read = c.in_default.not-ControllerRead;
-      write = c.in_default.not-ControllerWrite;
-      output = c.in_default.not-Output;
-    }) _ c.level_of.ensures
+returns-in_default c =
+    record {
+      changed = rest_changes _ c.requires c.args.step
+          (record {
+            host = c.in_default.not-HostTime;
+            deadline = c.in_default.not-Deadline;
+            source = c.in_default.not-Source;
+            read = c.in_default.not-ControllerRead;
+            write = c.in_default.not-ControllerWrite;
+            output = c.in_default.not-Output;
+          }) _ c.level_of.ensures;
+      typed = refl;
+    }

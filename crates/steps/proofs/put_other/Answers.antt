@@ -4,4 +4,4 @@ use Rattle.steps.proofs.CallParts.{other-then}
 use Rattle.steps.proofs.put_other.Goals as goal
 
 pub returns : goal.returns
-returns c = other-then (other_call c.args.step) _ c.tag_of.ensures _ _ _ _ _ c.put_header.ensures c.put_value.ensures
+returns c = other-then (other_call c.args.step) _ c.tag_of.ensures _ _ _ _ _ c.put_header_of.ensures c.put_value.ensures

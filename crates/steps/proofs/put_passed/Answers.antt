@@ -4,8 +4,8 @@ use Rattle.steps.proofs.put_passed.Goals as goal
 
 pub returns-in-Advance : goal.returns-in-Advance
 returns-in-Advance c = rw c.in-Advance.is
-    (advance-passed _ _ _ _ _ c.args.line c.from.ensures c.put_header.ensures c.put.ensures)
+    (advance-passed _ _ _ _ _ c.args.line c.from.ensures c.put_header_of.ensures c.put.ensures)
 
 pub returns-in-Skip : goal.returns-in-Skip
 returns-in-Skip c = rw c.in-Skip.is
-    (skip-passed _ _ _ _ _ c.args.line c.from-in-Skip.ensures c.put_header-in-Skip.ensures c.put-in-Skip.ensures)
+    (skip-passed _ _ _ _ _ c.args.line c.from-in-Skip.ensures c.put_header_of-in-Skip.ensures c.put-in-Skip.ensures)
