@@ -5,7 +5,7 @@
 ghost use Rattle.std.specs.Prelude.{◌≡◌, OnOk, length};
 ghost use Rattle.board.specs.Refusals.{refusal_code};
 ghost use Rattle.image.specs.declared.Form.TheVariants.{Old};
-ghost use Rattle.image.specs.Image.{image_of, formed};
+ghost use Rattle.image.specs.Image.{image_length, image_of, formed};
 ghost use Rattle.parking.specs.Parking.{default_form, form_takes, parking_refusal};
 ghost use Rattle.parking.specs.Parking.{writing_of, buffer_after, said, reading_in, reading_of};
 ghost use Rattle.parking.specs.Answers.{was_read, reading_said, writing_said, written};
@@ -95,12 +95,10 @@ pub fn write(board: Board, buffer: &mut [u8]) -> Answered<usize>
 
 // Reads S-1's fields of an image in a form, with its board at a rate.
 fn read_fields(form: Form, rate: u32, fields: &[u8]) -> Result<Parked, Refusal>
+    requires { length fields.now ≡ image_length Old }
     ensures { reading_said result ≡ members_read form rate (formed Old fields.now)
         (said Old fields.now) }
 {
-    if fields.len() != OLD_LENGTH {
-        return Err(Refusal::ImageMalformed);
-    }
     let Some(said) = get::board_in(rate, fields) else {
         return Err(Refusal::ImageMalformed);
     };
@@ -108,7 +106,10 @@ fn read_fields(form: Form, rate: u32, fields: &[u8]) -> Result<Parked, Refusal>
         return Err(Refusal::NotSound);
     }
     let board = said.board;
-    board.check_sound()?;
+    // the test itself, because `check_sound` would take a copy of the board
+    if !board.sound() {
+        return Err(Refusal::NotSound);
+    }
     Ok(Parked { board, form })
 }
 
@@ -119,8 +120,10 @@ pub fn unpark(image: &[u8]) -> Result<Parked, Refusal>
     if image.len() == NEW_LENGTH {
         let rate = get::rate_in(image).ok_or(Refusal::ImageMalformed)?;
         read_fields(Form::New, rate, &image[RATE_SIZE..])
-    } else {
+    } else if image.len() == OLD_LENGTH {
         read_fields(Form::Old, Board::RATE, image)
+    } else {
+        Err(Refusal::ImageMalformed)
     }
 }
 

@@ -51,10 +51,10 @@ fn high_from(board: Board) -> Option<Cycles>
 }
 
 // Whether a total is at least `from`.
-fn reaches(from: Option<Cycles>, total: u64) -> bool
-    ensures { result ≡ reaches from total }
+fn reaches(from: Option<Cycles>, total: Cycles) -> bool
+    ensures { result ≡ reaches from total.0 }
 {
-    from.is_some_and(|from| from.0 <= total)
+    from.is_some_and(|from| from.0 <= total.0)
 }
 
 // Writes one byte for each total: 1 where the total is at least `from`, else 0.
@@ -64,7 +64,7 @@ fn put_reached(from: Option<Cycles>, totals: &[u64], high: &mut [u8])
         ++ drop (length totals.now) high.old }
 {
     for (i, total) in totals.iter().enumerate() {
-        high[i] = u8::from(reaches(from, *total));
+        high[i] = u8::from(reaches(from, Cycles(*total)));
     }
 }
 
@@ -104,6 +104,9 @@ pub fn preview_parked(image: &[u8], totals: &[u64], high: &mut [u8]) -> Result<(
     ensures high_after { high.new
         ≡ parked_preview_buffer image.now totals.now high.old }
 {
-    let parked = parking::unpark(image)?;
-    put_preview(parked.board, totals, high)
+    // no `?`, which would copy the board
+    match parking::unpark(image) {
+        Ok(parked) => put_preview(parked.board, totals, high),
+        Err(refusal) => Err(refusal),
+    }
 }

@@ -2,26 +2,24 @@
 use Prim.Native.Nat.{ℕ, ◌<◌}
 use native.Mathlib.Omega.{arith}
 use lib.ListN.{get_or}
-use Rattle.std.proofs.lemmas.Result.{err_from_is_err_and}
 use Rattle.preview.proofs.Answers.{parked-refused, parked_sound, parked-accepted}
 use Rattle.preview.proofs.preview_parked.Goals as goal
 
-pub returns-in_err-parked : goal.returns-in_err-parked
-returns-in_err-parked c =
+pub returns-in-Err : goal.returns-in-Err
+returns-in-Err c =
     let a = c.args in
-    let p = err_from_is_err_and c.from_residual.result c.from_residual.ensures.1 in
-    let shown = parked-refused a.image.now a.totals.now a.high.now _ c.in_err-parked.ensures in
-    record { value = rw (p.1, p.2) shown.0; high_after = shown.1 }
+    let shown = parked-refused a.image.now a.totals.now a.high.now _ c.in-Err.ensures in
+    record { value = shown.0; high_after = shown.1 }
 
 pub put_preview-requires : goal.put_preview-requires
 put_preview-requires c =
     let bytes : (i : ℕ) → get_or c.args.image.now i 0 < 256 = λ i. omega (arith, c.type_inv.image i) in
-    parked_sound c.args.image.now bytes _ c.in_ok-parked.ensures
+    parked_sound c.args.image.now bytes _ c.in-Ok.ensures
 
-pub returns : goal.returns
-returns c =
+pub returns-in-Ok : goal.returns-in-Ok
+returns-in-Ok c =
     let a = c.args in
     let shown =
-    parked-accepted a.image.now a.totals.now a.high.now _ c.in_ok-parked.ensures _ _
+    parked-accepted a.image.now a.totals.now a.high.now _ c.in-Ok.ensures _ _
     c.put_preview.ensures.value c.put_preview.ensures.high_after in
     record { value = shown.0; high_after = shown.1 }
