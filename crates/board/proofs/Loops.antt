@@ -1,5 +1,5 @@
 -- Laws of the two kinds of a loop over a list: one that changes each element or gives something for it, from the first
--- on, and one that joins what the elements give, from the last back. Assumes nothing.
+-- on, and one that joins what the elements give to what is joined so far. Assumes nothing.
 use Prim.Native.Nat.{ℕ, zero, suc, ◌+◌, ◌≤◌, ◌<◌}
 use mathlib.Core.Path.{◌≡◌, refl, sym, ap, ◌∙◌}
 use mathlib.Core.Bool.{Bool, true, ◌&&◌}

@@ -23,7 +23,8 @@ fn presented(raised: u16, mask: u16, address: u32) -> IrqOutput
 
 fn print_output(rt: &impl Print, output: IrqOutput) -> io::Result<()> {
     let mut out = io::writer(rt);
-    writeln!(out, "{} {}", u8::from(output.valid), output.number.0)
+    out.write_all(if output.valid { b"1 " } else { b"0 " })?;
+    writeln!(out, "{}", output.number.0)
 }
 
 // Sources 9 and 5 have risen.

@@ -9,6 +9,8 @@
 // Call 0 stands for a record or a file that cannot be read; crates/recording says when a list and a call agree.
 #![tactic(auto)]
 
+ghost use Rattle.std.specs.Prelude.{◌≤◌, length, IfSome};
+
 use recording::Record;
 use recording::tally::{Disagreement, Tally};
 use std::env::{Env, FillError};
@@ -68,7 +70,9 @@ fn replay_file(rt: &impl Files, name: &[u8]) -> Option<Tally> {
 
 // An argument, put into a buffer; none where there is no such argument. Of one that is longer than the buffer it gives
 // the empty name, which no file has.
-fn argument<'a>(rt: &impl Env, i: usize, buf: &'a mut [u8]) -> Option<&'a [u8]> {
+fn argument<'a>(rt: &impl Env, i: usize, buf: &'a mut [u8]) -> Option<&'a [u8]>
+    ensures { IfSome result (λ name. length name.now ≤ length buf.old) }
+{
     match rt.arg(i, buf) {
         Ok(n) => Some(&buf[..n]),
         Err(FillError::TooLong) => Some(&[]),
