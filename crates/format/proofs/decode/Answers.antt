@@ -97,22 +97,18 @@ returns-in-7 c =
 pub returns-in-8 : goal.returns-in-8
 unfolding call_of members_at
 returns-in-8 c =
-    let found = c.controller_read.ensures.value ∙ as-tag _ _ c.if-rest-lt-HEADER_LENGTH.false T.ControllerRead c.in-8.is in
     let l = c.args.rest.now in
-    record {
-      value = found;
-      named = c.controller_read.ensures.named ∙ named-not l (decoded_of l c.args.room) T.ControllerRead c.in-8.is refl;
-    }
+    let found = as-tag _ _ c.if-rest-lt-HEADER_LENGTH.false T.ControllerRead c.in-8.is in
+    let named = named-not l (decoded_of l c.args.room) T.ControllerRead c.in-8.is refl in
+    record { value = c.controller_read.ensures.value ∙ found; named = c.controller_read.ensures.named ∙ named }
 
 pub returns-in-9 : goal.returns-in-9
 unfolding call_of members_at
 returns-in-9 c =
-    let found = c.controller_write.ensures.value ∙ as-tag _ _ c.if-rest-lt-HEADER_LENGTH.false T.ControllerWrite c.in-9.is in
     let l = c.args.rest.now in
-    record {
-      value = found;
-      named = c.controller_write.ensures.named ∙ named-not l (decoded_of l c.args.room) T.ControllerWrite c.in-9.is refl;
-    }
+    let found = as-tag _ _ c.if-rest-lt-HEADER_LENGTH.false T.ControllerWrite c.in-9.is in
+    let named = named-not l (decoded_of l c.args.room) T.ControllerWrite c.in-9.is refl in
+    record { value = c.controller_write.ensures.value ∙ found; named = c.controller_write.ensures.named ∙ named }
 
 pub returns-in-10 : goal.returns-in-10
 unfolding call_of members_at
